@@ -1,0 +1,12 @@
+pub mod Numbers
+pub mod Selections
+pub mod Markings
+pub mod Weights
+pub mod Subnet
+pub mod Shadow
+pub mod Closure
+pub mod Worklist
+pub mod Rakow
+pub mod Theorem
+pub mod Verdict
+pub mod Replay

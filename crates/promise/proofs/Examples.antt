@@ -1,0 +1,61 @@
+-- The starred examples, by computation.
+-- Assumes nothing.
+use mathlib.Core.Path.{refl}
+use Rattle.net.specs.Numbers.{among, position, any, selected, first}
+use Rattle.net.specs.Net.{below, weightOn, input, output, effect, changes, raises, takesFrom, fire, after, shortPlace, replayFrom, replay, tokens}
+use Rattle.net.specs.Cut.{growth, safety, branching, drawnBy, grown, rounds, keptPlaces, keptTransitions}
+use Rattle.net.specs.Slice.{strike, own, project, renumber, restrict, arcsOf, sliceRun, planRun, placeOf, transitionOf, keeping, cut}
+use Rattle.net.specs.Guarantee.{planTokens, sliceTokens}
+use Rattle.net.specs.Checker.{breaks, breaker, sameArc, sameArcs, lacksInput, rule1, rule2, rule3, rule4, rule5, rule6, rule7, rule8, rules, verdictFrom, verdict}
+use Rattle.file.specs.Word.{le16, le32, bytes16, bytes32}
+use Rattle.file.specs.Layout.{trailerOf, headerOf, arcsFrom, wordsFrom}
+use Rattle.file.specs.Refusal.{trailerRefusal, arcsRefusal, tableRefusal, originsRefusal, bodyRefusal, fileRefusal}
+use Rattle.file.specs.Criterion.{placesRefusal, criterionRefusal, criterionOf, criterionBytesRefusal}
+use Rattle.file.specs.Writing.{markingsBytes, arcBytes, arcsBytes, originsBytes, sliceBody, trailerBytes, sliceBytes}
+use Rattle.promise.specs.Calls.{cutOf, safetyFile, branchingFile, cutRefusal, writeRefusal, safetyAnswer, checkRefusal, checked, checkedBytes}
+use Rattle.promise.specs.Firing.{effectRefusal, effectAnswer, listRefusal, replayRefusal, replayAnswer, replayMarking, projectRefusal, projectAnswer, projectOutput, before, runIn, arcRun}
+use Rattle.promise.specs.Example.{smallPlan, onePlace, onePlaceCut, Starred, Noted}
+
+pub starred : Starred
+unfolding among position any selected first below weightOn input output effect changes raises takesFrom fire shortPlace replayFrom replay tokens growth safety branching drawnBy grown rounds keptPlaces keptTransitions strike own project renumber restrict arcsOf sliceRun planRun placeOf transitionOf keeping cut breaks breaker sameArc sameArcs lacksInput rule1 rule2 rule3 rule4 rule5 rule6 rule7 rule8 rules verdictFrom verdict le16 le32 bytes16 bytes32 trailerOf headerOf arcsFrom wordsFrom trailerRefusal arcsRefusal tableRefusal originsRefusal bodyRefusal fileRefusal placesRefusal criterionRefusal markingsBytes arcBytes arcsBytes originsBytes sliceBody trailerBytes sliceBytes cutOf safetyFile branchingFile checkRefusal checked smallPlan effectRefusal effectAnswer listRefusal replayRefusal replayAnswer replayMarking projectRefusal projectAnswer projectOutput
+starred = record {
+  file = (refl, refl);
+  fires = record { answer = refl; marking = refl };
+  empty = record { answer = refl; marking = refl };
+  second-sticks = refl;
+  third-sticks = refl;
+  takes-two = refl;
+  no-effect = refl;
+  safety-for-2 = record { read = refl; places = refl; transitions = refl; arc-count = refl; byte-count = refl };
+  branching-for-2 = record { read = refl; places = refl; transitions = refl; arc-count = refl; byte-count = refl };
+  safety-for-3 = record { read = refl; places = refl; transitions = refl; arc-count = refl; byte-count = refl };
+  projection = refl;
+  projected = refl;
+}
+
+pub noted : Noted
+unfolding among position any selected first below weightOn input output effect changes raises takesFrom fire shortPlace replayFrom replay tokens growth safety branching drawnBy grown rounds keptPlaces keptTransitions strike own project renumber restrict arcsOf sliceRun planRun placeOf transitionOf keeping cut breaks breaker sameArc sameArcs lacksInput rule1 rule2 rule3 rule4 rule5 rule6 rule7 rule8 rules verdictFrom verdict le16 le32 bytes16 bytes32 trailerOf headerOf arcsFrom wordsFrom trailerRefusal arcsRefusal tableRefusal originsRefusal bodyRefusal fileRefusal placesRefusal criterionRefusal markingsBytes arcBytes arcsBytes originsBytes sliceBody trailerBytes sliceBytes cutOf safetyFile branchingFile checkRefusal checked smallPlan onePlace onePlaceCut effectRefusal effectAnswer listRefusal replayRefusal replayAnswer replayMarking projectRefusal projectAnswer projectOutput after planTokens sliceTokens cutRefusal writeRefusal safetyAnswer criterionOf criterionBytesRefusal checkedBytes before runIn arcRun
+noted = record {
+  one-place = refl;
+  too-short = refl;
+  a-plan = refl;
+  weightless = refl;
+  heaviest = refl;
+  many-places = refl;
+  no-place = refl;
+  no-transition = refl;
+  little-room = refl;
+  cut-counts = refl;
+  cut-no-room = refl;
+  no-criterion = refl;
+  not-rising = refl;
+  own-cut = refl;
+  own-branching-cut = refl;
+  too-small = refl;
+  in-bytes = refl;
+  odd-bytes = refl;
+  run = refl;
+  no-run = refl;
+  tokens-in-plan = refl;
+  tokens-in-slice = refl;
+}

@@ -1,0 +1,91 @@
+-- The starred examples of document 01 ("A small kerb"), over bytes, as one table: the plan's file, its cuts' files, replay, effect, projection, check.
+-- Places 0 to 4 are that section's waiting, bay free, in bay, left and bell.
+-- Assumes nothing.
+use Prim.Native.Nat.{ℕ}
+use mathlib.Core.List.{List, [], _∷_}
+use mathlib.Core.Path.{_≡_}
+use mathlib.Core.Bool.{true, false}
+use lib.ListN.{length, take, set}
+use lib.IntN.{pos, negsuc}
+use Rattle.net.specs.Guarantee.{planTokens, sliceTokens}
+use Rattle.file.specs.Layout.{netOf, sliceOf}
+use Rattle.file.specs.Refusal.{fileRefusal}
+use Rattle.file.specs.declared.Due.the-variants as due
+use Rattle.promise.specs.Calls.{safetyFile, branchingFile, safetyAnswer, checked, checkedBytes}
+use Rattle.promise.specs.Firing.{effectAnswer, replayAnswer, replayMarking, projectAnswer, projectOutput, arcRun}
+
+-- "Places 0 waiting (2 tokens), 1 bay free (1), 2 in bay, 3 left, 4 bell (0 each)", the arcs of transitions 0 to 3, the trailer
+unfoldable pub smallPlan : List ℕ
+smallPlan =
+    2 ∷ 0 ∷ 0 ∷ 0 ∷ 1 ∷ 0 ∷ 0 ∷ 0 ∷ 0 ∷ 0 ∷ 0 ∷ 0 ∷ 0 ∷ 0 ∷ 0 ∷ 0 ∷ 0 ∷ 0 ∷ 0 ∷ 0
+    ∷ 0 ∷ 0 ∷ 0 ∷ 0 ∷ 0 ∷ 0 ∷ 1 ∷ 0
+    ∷ 0 ∷ 0 ∷ 0 ∷ 0 ∷ 1 ∷ 0 ∷ 1 ∷ 0
+    ∷ 0 ∷ 0 ∷ 1 ∷ 0 ∷ 2 ∷ 0 ∷ 1 ∷ 0
+    ∷ 1 ∷ 0 ∷ 0 ∷ 0 ∷ 2 ∷ 0 ∷ 1 ∷ 0
+    ∷ 1 ∷ 0 ∷ 1 ∷ 0 ∷ 1 ∷ 0 ∷ 1 ∷ 0
+    ∷ 1 ∷ 0 ∷ 1 ∷ 0 ∷ 3 ∷ 0 ∷ 1 ∷ 0
+    ∷ 2 ∷ 0 ∷ 0 ∷ 0 ∷ 3 ∷ 0 ∷ 2 ∷ 0
+    ∷ 2 ∷ 0 ∷ 1 ∷ 0 ∷ 4 ∷ 0 ∷ 1 ∷ 0
+    ∷ 3 ∷ 0 ∷ 0 ∷ 0 ∷ 0 ∷ 0 ∷ 1 ∷ 0
+    ∷ 92 ∷ 0 ∷ 0 ∷ 0 ∷ 5 ∷ 0 ∷ 4 ∷ 0 ∷ 9 ∷ 0 ∷ 0 ∷ 1 ∷ 0x42 ∷ 0x45 ∷ 0x4C ∷ 0x4C ∷ []
+
+-- "a plan of one place with 3 tokens", and "its safety cut for place 0"
+unfoldable pub onePlace : List ℕ
+onePlace = 3 ∷ 0 ∷ 0 ∷ 0 ∷ 4 ∷ 0 ∷ 0 ∷ 0 ∷ 1 ∷ 0 ∷ 0 ∷ 0 ∷ 0 ∷ 0 ∷ 0 ∷ 1 ∷ 0x42 ∷ 0x45 ∷ 0x4C ∷ 0x4C ∷ []
+
+unfoldable pub onePlaceCut : List ℕ
+onePlaceCut = 3 ∷ 0 ∷ 0 ∷ 0 ∷ 0 ∷ 0 ∷ 6 ∷ 0 ∷ 0 ∷ 0 ∷ 1 ∷ 0 ∷ 0 ∷ 0 ∷ 0 ∷ 0 ∷ 1 ∷ 1 ∷ 0x42 ∷ 0x45 ∷ 0x4C ∷ 0x4C ∷ []
+
+-- a slice file: it can be read, its places and transitions by the plan's numbers, its arcs, its bytes
+pub record Holds (file ps ts : List ℕ) (arcs bytes : ℕ) : Type 0 where
+  pub read : fileRefusal due.Slice file ≡ 0
+  pub places : sliceOf file .placeOrigins ≡ ps
+  pub transitions : sliceOf file .transitionOrigins ≡ ts
+  pub arc-count : length (sliceOf file .net .arcs) ≡ arcs
+  pub byte-count : length file ≡ bytes
+
+-- a list that fires, and the six entries lent after it, the last of them being 7 before
+pub record Ends (list entries : List ℕ) : Type 0 where
+  pub answer : replayAnswer smallPlan list 6 ≡ record { refusal = 0; stuck = false; index = 0; place = 0 }
+  pub marking : replayMarking smallPlan list (9 ∷ 9 ∷ 9 ∷ 9 ∷ 9 ∷ 7 ∷ []) ≡ entries
+
+-- the starred examples
+pub record Starred : Type 0 where
+  pub file : (length smallPlan ≡ 108) × (fileRefusal due.Plan smallPlan ≡ 0)
+  pub fires : Ends (0 ∷ 1 ∷ 0 ∷ 1 ∷ 2 ∷ []) (0 ∷ 1 ∷ 0 ∷ 0 ∷ 1 ∷ 7 ∷ [])
+  pub empty : Ends [] (2 ∷ 1 ∷ 0 ∷ 0 ∷ 0 ∷ 7 ∷ [])
+  pub second-sticks : replayAnswer smallPlan (0 ∷ 0 ∷ []) 6 ≡ record { refusal = 0; stuck = true; index = 1; place = 1 }
+  pub third-sticks : replayAnswer smallPlan (3 ∷ 3 ∷ 0 ∷ []) 6 ≡ record { refusal = 0; stuck = true; index = 2; place = 0 }
+  pub takes-two : effectAnswer smallPlan 3 2 ≡ record { refusal = 0; effect = negsuc 1 }
+  pub no-effect : effectAnswer smallPlan 0 1 ≡ record { refusal = 0; effect = pos 0 }
+  pub safety-for-2 : Holds (safetyFile smallPlan (2 ∷ [])) (0 ∷ 1 ∷ 2 ∷ []) (0 ∷ 1 ∷ []) 5 78
+  pub branching-for-2 : Holds (branchingFile smallPlan (2 ∷ [])) (0 ∷ 1 ∷ 2 ∷ []) (0 ∷ 1 ∷ 3 ∷ []) 6 88
+  pub safety-for-3 : Holds (safetyFile smallPlan (3 ∷ [])) (0 ∷ 1 ∷ 2 ∷ 3 ∷ []) (0 ∷ 1 ∷ 2 ∷ []) 7 102
+  pub projection : projectOutput smallPlan (safetyFile smallPlan (2 ∷ [])) (3 ∷ 0 ∷ 1 ∷ 2 ∷ []) (9 ∷ 9 ∷ 7 ∷ []) ≡ 0 ∷ 1 ∷ 7 ∷ []
+  pub projected : projectAnswer smallPlan (safetyFile smallPlan (2 ∷ [])) (3 ∷ 0 ∷ 1 ∷ 2 ∷ []) 3 ≡ record { refusal = 0; count = 2 }
+
+-- what document 01 says without a star: the file in hexadecimal, the edges, "Errors to expect", and the calls' other answers
+pub record Noted : Type 0 where
+  pub one-place : safetyFile onePlace (0 ∷ []) ≡ onePlaceCut
+  pub too-short : fileRefusal due.Either (take 15 smallPlan) ≡ 1
+  pub a-plan : fileRefusal due.Slice smallPlan ≡ 3
+  pub weightless : fileRefusal due.Plan (set smallPlan 26 0) ≡ 6
+  pub heaviest : fileRefusal due.Plan (set (set smallPlan 26 255) 27 255) ≡ 0
+  pub many-places : fileRefusal due.Plan (set (set smallPlan 96 1) 97 4) ≡ 4
+  pub no-place : effectAnswer smallPlan 5 9 ≡ record { refusal = 10; effect = pos 0 }
+  pub no-transition : effectAnswer smallPlan 4 4 ≡ record { refusal = 12; effect = pos 0 }
+  pub little-room : replayAnswer smallPlan [] 4 ≡ record { refusal = 13; stuck = false; index = 0; place = 0 }
+  pub cut-counts : safetyAnswer smallPlan (2 ∷ []) 78 ≡ record { refusal = 0; length = 78; places = 3; transitions = 2 }
+  pub cut-no-room : safetyAnswer smallPlan (2 ∷ []) 77 ≡ record { refusal = 13; length = 0; places = 0; transitions = 0 }
+  pub no-criterion : checked smallPlan (safetyFile smallPlan (2 ∷ [])) [] ≡ record { code = 9; number = 0 }
+  pub not-rising : checked smallPlan (safetyFile smallPlan (2 ∷ [])) (2 ∷ 2 ∷ []) ≡ record { code = 10; number = 0 }
+  pub own-cut : checked smallPlan (safetyFile smallPlan (2 ∷ [])) (2 ∷ []) ≡ record { code = 0; number = 0 }
+  pub own-branching-cut : checked smallPlan (branchingFile smallPlan (2 ∷ [])) (2 ∷ []) ≡ record { code = 0; number = 0 }
+  pub too-small : checked smallPlan (safetyFile smallPlan (2 ∷ [])) (2 ∷ 3 ∷ []) ≡ record { code = 105; number = 3 }
+  pub in-bytes : checkedBytes smallPlan (safetyFile smallPlan (2 ∷ [])) (2 ∷ 0 ∷ 3 ∷ 0 ∷ []) ≡ 105
+  pub odd-bytes : checkedBytes smallPlan (safetyFile smallPlan (2 ∷ [])) (2 ∷ 0 ∷ 3 ∷ []) ≡ 9
+  pub run : arcRun smallPlan (safetyFile smallPlan (2 ∷ [])) false 2 ≡ 2 ∷ 0 ∷ 0 ∷ 0 ∷ 3 ∷ 0 ∷ 2 ∷ 0 ∷ 2 ∷ 0 ∷ 1 ∷ 0 ∷ 4 ∷ 0 ∷ 1 ∷ 0 ∷ []
+  pub no-run : arcRun smallPlan (safetyFile smallPlan (2 ∷ [])) true 2 ≡ []
+  -- "after 3,0,1 waiting is 0 in the plan; after its projection 0,1 it is 1 in the safety cut for {2}"
+  pub tokens-in-plan : planTokens (netOf smallPlan) (3 ∷ 0 ∷ 1 ∷ []) 0 ≡ 0
+  pub tokens-in-slice : sliceTokens (sliceOf (safetyFile smallPlan (2 ∷ []))) (0 ∷ 1 ∷ []) 0 ≡ 1

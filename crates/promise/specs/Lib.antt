@@ -1,0 +1,4 @@
+pub mod Calls
+pub mod Firing
+pub mod Promise
+pub mod Example

@@ -1,0 +1,80 @@
+-- From a file that was read to what the table asks, and from its entries to numbers of arcs. Assumes nothing.
+use Prim.Native.Nat.{ℕ, zero, suc, _+_, _-_, _*_, _≤_, _<_}
+use mathlib.Core.Path.{_≡_, refl, sym, ap, _∙_, subst}
+use mathlib.Core.Bool.{Bool, true, false}
+use mathlib.Core.List.{List, map}
+use native.Mathlib.Omega.{arith}
+use lib.Dec.{ltb}
+use lib.ListN.{length}
+use borrow.Author.Tests.{lt-ltb, le-ltb}
+use Rattle.file.specs.Layout.{arcAt, arcsFrom}
+use Rattle.file.specs.Refusal.{key}
+use Rattle.file.specs.Facts.{ArcGood, InRange, RisingFrom, Sound}
+use Rattle.file.specs.declared.Header.{Header}
+use Rattle.starts.specs.Table
+
+-- arc i of a run that starts 8 bytes later
+later : (s : List ℕ) (at i : ℕ) → arcAt s (at + 8 + 8 * i) ≡ arcAt s (at + 8 * suc i)
+later s at i = ap (arcAt s) (let e : at + 8 + 8 * i ≡ at + 8 * suc i = omega arith in e)
+
+first : (s : List ℕ) (at : ℕ) → arcAt s at ≡ arcAt s (at + 8 * 0)
+first s at = ap (arcAt s) (let e : at ≡ at + 8 * 0 = omega arith in e)
+
+pub range-at : (P T : ℕ) (s : List ℕ) (at n i : ℕ) → InRange P T (arcsFrom s at n) → i < n → ArcGood P T (arcAt s (at + 8 * i))
+unfolding arcsFrom
+range-at P T s at zero i r l = absurd (omega arith)
+range-at P T s at (suc n) zero r l = subst (ArcGood P T) (first s at) (r .0)
+range-at P T s at (suc n) (suc i) r l = subst (ArcGood P T) (later s at i) (range-at P T s (at + 8) n i (r .1) (omega arith))
+
+least-at : (s : List ℕ) (at least n i : ℕ) → RisingFrom least (map key (arcsFrom s at n)) → i < n → least ≤ key (arcAt s (at + 8 * i))
+unfolding arcsFrom
+least-at s at least zero i r l = absurd (omega arith)
+least-at s at least (suc n) zero r l = omega (arith, r .0, ap key (first s at))
+least-at s at least (suc n) (suc i) r l = omega (arith, r .0, ap key (later s at i), least-at s (at + 8) _ n i (r .1) (omega arith))
+
+pub order-at : (s : List ℕ) (at least n i j : ℕ) → RisingFrom least (map key (arcsFrom s at n)) → i ≤ j → j < n → key (arcAt s (at + 8 * i)) ≤ key (arcAt s (at + 8 * j))
+unfolding arcsFrom
+order-at s at least zero i j r l h = absurd (omega arith)
+order-at s at least (suc n) zero zero r l h = omega arith
+order-at s at least (suc n) zero (suc j) r l h = omega (arith, ap key (first s at), ap key (later s at j), least-at s (at + 8) _ n j (r .1) (omega arith))
+order-at s at least (suc n) (suc i) zero r l h = absurd (omega arith)
+order-at s at least (suc n) (suc i) (suc j) r l h = omega (arith, ap key (later s at i), ap key (later s at j), order-at s (at + 8) _ n i j (r .1) (omega arith) (omega arith))
+
+-- a file that was read has what the table asks
+pub tabled : (s : List ℕ) (h : Header) (size : ℕ) → Sound s h → 2 * h .transitions < size → Table.Tabled s (h .arcstart) (h .arcs) (h .transitions) size
+unfolding Table.slotAt
+tabled s h size w l =
+    let p = w .placed in
+    let good = range-at (h .places) (h .transitions) s (h .arcstart) (h .arcs) in
+    record {
+      fit = omega (arith, p .arcsFit, p .originsFit);
+      few = p .arcs;
+      number = p .transitions;
+      long = l;
+      slots = λ i a. let g = good i (w .arcs) a in omega (arith, g .direction, g .transition);
+      order = λ i j a b.
+          let g = good i (w .arcs) (omega arith) in
+          let k = good j (w .arcs) b in
+          omega (arith, p .places, g .direction, g .place, k .direction, k .place, order-at s (h .arcstart) 0 (h .arcs) i j (w .order) a b);
+    }
+
+-- where arcs split at k, that many have a slot below k
+pub number-below : (s : List ℕ) (at n k r : ℕ) → Table.Split s at n k r → Table.numberBelow k (arcsFrom s at n) ≡ r
+unfolding arcsFrom Table.numberBelow Table.slotAt
+number-below s at zero k r p = omega (arith, p .within)
+number-below s at (suc n) k zero p =
+    let e : ltb (Table.slotOf (arcAt s at)) k ≡ false = le-ltb (Table.slotOf (arcAt s at)) k (omega (arith, ap Table.slotOf (first s at), p .above 0 (omega arith) (omega arith))) in
+    let rest : Table.numberBelow k (arcsFrom s (at + 8) n) ≡ 0 = number-below s (at + 8) n k zero (record {
+      within = omega arith;
+      below = λ i f. absurd (omega arith);
+      above = λ i f g. omega (arith, ap Table.slotOf (later s at i), p .above (suc i) (omega arith) (omega arith));
+    }) in
+    rw e (omega (arith, rest))
+number-below s at (suc n) k (suc r) p =
+    let e : ltb (Table.slotOf (arcAt s at)) k ≡ true = lt-ltb (Table.slotOf (arcAt s at)) k (omega (arith, ap Table.slotOf (first s at), p .below 0 (omega arith))) in
+    let rest : Table.numberBelow k (arcsFrom s (at + 8) n) ≡ r = number-below s (at + 8) n k r (record {
+      within = omega (arith, p .within);
+      below = λ i f. omega (arith, ap Table.slotOf (later s at i), p .below (suc i) (omega arith));
+      above = λ i f g. omega (arith, ap Table.slotOf (later s at i), p .above (suc i) (omega arith) (omega arith));
+    }) in
+    rw e (omega (arith, rest))
