@@ -78,3 +78,11 @@ number-below s at (suc n) k (suc r) p =
       above = λ i f g. omega (arith, ap Table.slotOf (later s at i), p .above (suc i) (omega arith) (omega arith));
     }) in
     rw e (omega (arith, rest))
+
+-- and its arcs are in order
+pub ordered : (s : List ℕ) (h : Header) → Sound s h → Table.Ordered s (h .arcstart) (h .arcs)
+ordered s h w = let t = tabled s h (2 * h .transitions + 1) w (omega arith) in record { fit = t .fit; few = t .few; order = t .order }
+
+-- each of its arcs is in range
+pub good-at : (s : List ℕ) (h : Header) → Sound s h → (i : ℕ) → i < h .arcs → ArcGood (h .places) (h .transitions) (arcAt s (h .arcstart + 8 * i))
+good-at s h w i l = range-at (h .places) (h .transitions) s (h .arcstart) (h .arcs) i (w .arcs) l

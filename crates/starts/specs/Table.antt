@@ -45,6 +45,12 @@ pub record Split (s : List ℕ) (start n k r : ℕ) : Type 0 where
   pub below : (i : ℕ) → i < r → slotAt s start i < k
   pub above : (i : ℕ) → r ≤ i → i < n → k ≤ slotAt s start i
 
+-- n arcs stand in the file, and their slots do not fall
+pub record Ordered (s : List ℕ) (start n : ℕ) : Type 0 where
+  pub fit : start + 8 * n ≤ length s
+  pub few : n ≤ 4096
+  pub order : (i j : ℕ) → i ≤ j → j < n → slotAt s start i ≤ slotAt s start j
+
 -- n arcs stand in the file, each with a slot that a table of this length has an entry after
 pub record Slots (s : List ℕ) (start n long : ℕ) : Type 0 where
   pub fit : start + 8 * n ≤ length s

@@ -3,7 +3,7 @@ ghost use mathlib.Core.Path.{_≡_};
 ghost use Prim.Native.Nat.{ℕ, _+_, _*_, _<_, _≤_};
 ghost use lib.ListN.{length, getD};
 ghost use Rattle.file.specs.Facts.{ArcSmall};
-ghost use Rattle.starts.specs.Table.{slotOf, larger, runningMost, Latest, Split, Slots, Tabled};
+ghost use Rattle.starts.specs.Table.{slotOf, larger, runningMost, Latest, Split, Slots, Ordered, Tabled};
 use net::Arc;
 
 // Inputs of t have slot 2t, outputs 2t + 1.
@@ -68,4 +68,23 @@ pub fn starts(file: &[u8], start: usize, count: usize, transitions: usize, table
     clear(table);
     ends(file, start, count, table);
     fill(2 * transitions, table);
+}
+
+// How many arcs have a slot below k, by halving: they stand first.
+pub fn first_from(file: &[u8], start: usize, count: usize, k: usize) -> usize
+    requires { ⌜ Ordered (now file) start count ⌝ }
+    ensures { λ r. ⌜ Split (now (file .entry)) start count k r ⌝ }
+{
+    let mut low: usize = 0;
+    let mut high = count;
+    while low < high {
+        let middle = (low + high) / 2;
+        let a = file::arcs::arc(file, start + 8 * middle);
+        if slot(a) < k {
+            low = middle + 1;
+        } else {
+            high = middle;
+        }
+    }
+    low
 }

@@ -1,0 +1,3 @@
+// The public calls of the slicer, each also as a C function. No call asks anything of its caller: bad input is refused with its number.
+pub mod arcs;
+pub mod effect;

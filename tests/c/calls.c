@@ -1,0 +1,137 @@
+/* Uses the library as a C program would, on the small kerb of paper 01. */
+
+#include "nesfoal.h"
+
+#include <stdbool.h>
+#include <stddef.h>
+#include <stdint.h>
+#include <stdio.h>
+#include <string.h>
+
+/* Places 0 waiting (2 tokens), 1 bay free (1), 2 in bay, 3 left, 4 bell (0 each). */
+static const uint8_t kerb[108] = {
+    2, 0, 0, 0,  1, 0, 0, 0,  0, 0, 0, 0,  0, 0, 0, 0,  0, 0, 0, 0,
+    /* transition, direction, zero, place, weight */
+    0, 0,  0, 0,  0, 0,  1, 0,
+    0, 0,  0, 0,  1, 0,  1, 0,
+    0, 0,  1, 0,  2, 0,  1, 0,
+    1, 0,  0, 0,  2, 0,  1, 0,
+    1, 0,  1, 0,  1, 0,  1, 0,
+    1, 0,  1, 0,  3, 0,  1, 0,
+    2, 0,  0, 0,  3, 0,  2, 0,
+    2, 0,  1, 0,  4, 0,  1, 0,
+    3, 0,  0, 0,  0, 0,  1, 0,
+    /* body length, P, T, A, kind, edition, letters */
+    92, 0, 0, 0,  5, 0,  4, 0,  9, 0,  0, 1,  'B', 'E', 'L', 'L',
+};
+
+/* Its safety cut for place 2: places 0, 1, 2 and transitions 0, 1. */
+static const uint8_t cut[78] = {
+    2, 0, 0, 0,  1, 0, 0, 0,  0, 0, 0, 0,
+    0, 0,  0, 0,  0, 0,  1, 0,
+    0, 0,  0, 0,  1, 0,  1, 0,
+    0, 0,  1, 0,  2, 0,  1, 0,
+    1, 0,  0, 0,  2, 0,  1, 0,
+    1, 0,  1, 0,  1, 0,  1, 0,
+    /* place origins, transition origins */
+    0, 0,  1, 0,  2, 0,   0, 0,  1, 0,
+    62, 0, 0, 0,  3, 0,  2, 0,  5, 0,  1, 1,  'B', 'E', 'L', 'L',
+};
+
+static unsigned passed, failed;
+
+static void expect(const char *what, long long got, long long due)
+{
+    if (got == due) {
+        passed++;
+    } else {
+        failed++;
+        printf("%s: %lld, but %lld is due\n", what, got, due);
+    }
+}
+
+static void effect_is(const char *what, const uint8_t *file, size_t n, uint16_t place, uint16_t transition,
+                      uint32_t number, int32_t due)
+{
+    int32_t effect = 99;
+    expect(what, nesfoal_effect(file, n, place, transition, &effect), number);
+    expect(what, effect, due);
+}
+
+static void run_is(const char *what, const uint8_t *plan, size_t plan_n, const uint8_t *slice, size_t slice_n,
+                   bool of_slice, uint16_t transition, uint32_t length, uint32_t due)
+{
+    uint32_t start = 99;
+    expect(what, nesfoal_arcs(plan, plan_n, slice, slice_n, of_slice, transition, &start), length);
+    expect(what, start, due);
+}
+
+static void effects(void)
+{
+    uint8_t spoilt[108];
+    effect_is("effect of 2 on 3", kerb, 108, 3, 2, 0, -2);
+    effect_is("effect of 1 on 0", kerb, 108, 0, 1, 0, 0);
+    effect_is("effect of 1 on 1", kerb, 108, 1, 1, 0, 1);
+    effect_is("effect of 1 on 2 in the slice", cut, 78, 2, 1, 0, -1);
+    effect_is("unknown place", kerb, 108, 5, 0, 10, 0);
+    effect_is("unknown transition", kerb, 108, 0, 4, 12, 0);
+    effect_is("both unknown", kerb, 108, 5, 4, 10, 0);
+    effect_is("no bytes", NULL, 0, 0, 0, 1, 0);
+    effect_is("15 bytes", kerb + 93, 15, 0, 0, 1, 0);
+    effect_is("front byte lost", kerb + 1, 107, 0, 0, 5, 0);
+    /* Offsets in the file: trailer at 92, first arc at 20. */
+    const struct {
+        const char *what;
+        size_t at;
+        uint8_t value;
+        uint32_t number;
+    } faults[] = {
+        {"letter", 104, 'b', 2},
+        {"edition", 103, 2, 2},
+        {"kind", 102, 2, 3},
+        {"P above its limit", 97, 8, 4},
+        {"body length", 92, 93, 5},
+        {"direction", 22, 2, 6},
+        {"zero byte", 23, 1, 6},
+        {"weight 0", 26, 0, 6},
+        {"equal arcs", 32, 0, 7},
+    };
+    for (size_t i = 0; i < sizeof faults / sizeof faults[0]; i++) {
+        memcpy(spoilt, kerb, 108);
+        spoilt[faults[i].at] = faults[i].value;
+        effect_is(faults[i].what, spoilt, 108, 0, 0, faults[i].number, 0);
+    }
+    uint8_t spoilt_cut[78];
+    memcpy(spoilt_cut, cut, 78);
+    spoilt_cut[54] = 0; /* place origins 0, 0, 2 */
+    effect_is("equal origins", spoilt_cut, 78, 0, 0, 8, 0);
+}
+
+static void arcs(void)
+{
+    run_is("plan, transition 0", kerb, 108, cut, 78, false, 0, 24, 20);
+    run_is("plan, transition 2", kerb, 108, cut, 78, false, 2, 16, 68);
+    run_is("plan, transition 3", kerb, 108, cut, 78, false, 3, 8, 84);
+    run_is("slice, transition 0", kerb, 108, cut, 78, true, 0, 24, 12);
+    run_is("slice, transition 1", kerb, 108, cut, 78, true, 1, 16, 36);
+    run_is("plan, unknown", kerb, 108, cut, 78, false, 4, 0, 0);
+    run_is("slice, unknown", kerb, 108, cut, 78, true, 2, 0, 0);
+    run_is("files the wrong way round", cut, 78, kerb, 108, false, 0, 0, 0);
+    run_is("no plan", NULL, 0, cut, 78, true, 0, 0, 0);
+    run_is("no slice", kerb, 108, NULL, 0, false, 0, 0, 0);
+    run_is("no files", NULL, 0, NULL, 0, false, 0, 0, 0);
+
+    /* A user reads the weight of the first arc of the run: bytes 6 and 7 of it. */
+    uint32_t start = 0;
+    uint32_t length = nesfoal_arcs(kerb, 108, cut, 78, false, 2, &start);
+    expect("two arcs", length / 8, 2);
+    expect("weight of the first", kerb[start + 6] + 256 * kerb[start + 7], 2);
+}
+
+int main(void)
+{
+    effects();
+    arcs();
+    printf("%u passed, %u failed\n", passed, failed);
+    return failed != 0;
+}

@@ -1,0 +1,208 @@
+//! The library's calls, as include/nesfoal.h has them, on lent memory.
+//! Each works on copies of what it is to read, so that a change there is seen.
+
+#![allow(unused_imports)]
+
+use nesfoal_tests::cases::*;
+
+/// What values handed back through pointers hold before the call.
+#[allow(dead_code)]
+const UNSET: u32 = 0xDEAD_BEEF;
+
+#[link(name = "nesfoal", kind = "static")]
+extern "C" {
+    #[cfg(feature = "effect")]
+    fn nesfoal_effect(file: *const u8, file_len: usize, place: u16, transition: u16, effect: *mut i32) -> u32;
+    #[cfg(feature = "arcs")]
+    fn nesfoal_arcs(
+        plan: *const u8,
+        plan_len: usize,
+        slice: *const u8,
+        slice_len: usize,
+        of_slice: bool,
+        transition: u16,
+        start: *mut u32,
+    ) -> u32;
+    #[cfg(feature = "replay")]
+    fn nesfoal_replay(
+        file: *const u8,
+        file_len: usize,
+        list: *const u16,
+        list_len: usize,
+        marking: *mut u64,
+        marking_len: usize,
+        index: *mut u32,
+        place: *mut u32,
+    ) -> u32;
+    #[cfg(feature = "safety")]
+    fn nesfoal_safety(
+        plan: *const u8,
+        plan_len: usize,
+        q: *const u16,
+        q_len: usize,
+        slice: *mut u8,
+        slice_len: usize,
+        length: *mut u32,
+        places: *mut u32,
+        transitions: *mut u32,
+    ) -> u32;
+    #[cfg(feature = "branching")]
+    fn nesfoal_branching(
+        plan: *const u8,
+        plan_len: usize,
+        q: *const u16,
+        q_len: usize,
+        slice: *mut u8,
+        slice_len: usize,
+        length: *mut u32,
+        places: *mut u32,
+        transitions: *mut u32,
+    ) -> u32;
+    #[cfg(feature = "project")]
+    fn nesfoal_project(
+        plan: *const u8,
+        plan_len: usize,
+        slice: *const u8,
+        slice_len: usize,
+        list: *const u16,
+        list_len: usize,
+        out: *mut u16,
+        out_len: usize,
+        count: *mut u32,
+    ) -> u32;
+    #[cfg(feature = "check")]
+    fn nesfoal_check(
+        plan: *const u8,
+        plan_len: usize,
+        slice: *const u8,
+        slice_len: usize,
+        q_bytes: *const u8,
+        q_len: usize,
+    ) -> u32;
+    #[cfg(feature = "check")]
+    fn nesfoal_verdict(
+        plan: *const u8,
+        plan_len: usize,
+        slice: *const u8,
+        slice_len: usize,
+        q: *const u16,
+        q_len: usize,
+        number: *mut u32,
+    ) -> u32;
+}
+
+#[cfg(feature = "effect")]
+pub fn effect(case: &EffectCase) -> Answer {
+    let file = case.file.clone();
+    let mut effect = UNSET as i32;
+    let number = unsafe { nesfoal_effect(file.pointer(), file.len, case.place, case.transition, &mut effect) };
+    Answer { number, outs: [i64::from(effect), 0, 0], cells: Cells::None, inputs_kept: file == case.file }
+}
+
+#[cfg(feature = "arcs")]
+pub fn arcs(case: &ArcsCase) -> Answer {
+    let (plan, slice) = (case.plan.clone(), case.slice.clone());
+    let mut start = UNSET;
+    let number = unsafe {
+        nesfoal_arcs(plan.pointer(), plan.len, slice.pointer(), slice.len, case.of_slice, case.transition, &mut start)
+    };
+    let inputs_kept = plan == case.plan && slice == case.slice;
+    Answer { number, outs: [i64::from(start), 0, 0], cells: Cells::None, inputs_kept }
+}
+
+#[cfg(feature = "replay")]
+pub fn replay(case: &ReplayCase) -> Answer {
+    let (file, list, mut marking) = (case.file.clone(), case.list.clone(), case.marking.clone());
+    let (mut index, mut place) = (UNSET, UNSET);
+    let number = unsafe {
+        nesfoal_replay(
+            file.pointer(),
+            file.len,
+            list.pointer(),
+            list.len,
+            marking.pointer_mut(),
+            marking.len,
+            &mut index,
+            &mut place,
+        )
+    };
+    let inputs_kept = file == case.file && list == case.list;
+    Answer { number, outs: [i64::from(index), i64::from(place), 0], cells: Cells::Longs(marking.cells), inputs_kept }
+}
+
+#[cfg(feature = "safety")]
+pub fn safety(case: &CutCase) -> Answer {
+    cut(case, nesfoal_safety)
+}
+
+#[cfg(feature = "branching")]
+pub fn branching(case: &CutCase) -> Answer {
+    cut(case, nesfoal_branching)
+}
+
+#[cfg(any(feature = "safety", feature = "branching"))]
+type CutCall =
+    unsafe extern "C" fn(*const u8, usize, *const u16, usize, *mut u8, usize, *mut u32, *mut u32, *mut u32) -> u32;
+
+#[cfg(any(feature = "safety", feature = "branching"))]
+fn cut(case: &CutCase, call: CutCall) -> Answer {
+    let (plan, q, mut slice) = (case.plan.clone(), case.q.clone(), case.slice.clone());
+    let (mut length, mut places, mut transitions) = (UNSET, UNSET, UNSET);
+    let number = unsafe {
+        call(
+            plan.pointer(),
+            plan.len,
+            q.pointer(),
+            q.len,
+            slice.pointer_mut(),
+            slice.len,
+            &mut length,
+            &mut places,
+            &mut transitions,
+        )
+    };
+    let inputs_kept = plan == case.plan && q == case.q;
+    let outs = [i64::from(length), i64::from(places), i64::from(transitions)];
+    Answer { number, outs, cells: Cells::Bytes(slice.cells), inputs_kept }
+}
+
+#[cfg(feature = "project")]
+pub fn project(case: &ProjectCase) -> Answer {
+    let (plan, slice, list) = (case.plan.clone(), case.slice.clone(), case.list.clone());
+    let mut out = case.out.clone();
+    let mut count = UNSET;
+    let number = unsafe {
+        nesfoal_project(
+            plan.pointer(),
+            plan.len,
+            slice.pointer(),
+            slice.len,
+            list.pointer(),
+            list.len,
+            out.pointer_mut(),
+            out.len,
+            &mut count,
+        )
+    };
+    let inputs_kept = plan == case.plan && slice == case.slice && list == case.list;
+    Answer { number, outs: [i64::from(count), 0, 0], cells: Cells::Halves(out.cells), inputs_kept }
+}
+
+#[cfg(feature = "check")]
+pub fn check(case: &CheckCase) -> Answer {
+    let (plan, slice, q) = (case.plan.clone(), case.slice.clone(), case.q.clone());
+    let number = unsafe { nesfoal_check(plan.pointer(), plan.len, slice.pointer(), slice.len, q.pointer(), q.len) };
+    let inputs_kept = plan == case.plan && slice == case.slice && q == case.q;
+    Answer { number, outs: [0; 3], cells: Cells::None, inputs_kept }
+}
+
+#[cfg(feature = "check")]
+pub fn verdict(case: &VerdictCase) -> Answer {
+    let (plan, slice, q) = (case.plan.clone(), case.slice.clone(), case.q.clone());
+    let mut breaking = UNSET;
+    let number = unsafe {
+        nesfoal_verdict(plan.pointer(), plan.len, slice.pointer(), slice.len, q.pointer(), q.len, &mut breaking)
+    };
+    let inputs_kept = plan == case.plan && slice == case.slice && q == case.q;
+    Answer { number, outs: [i64::from(breaking), 0, 0], cells: Cells::None, inputs_kept }
+}

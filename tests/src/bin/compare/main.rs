@@ -1,0 +1,88 @@
+//! Compares the library with the second implementation: every answer, every value handed back, every
+//! entry of every lent buffer and its guard zone. First the fixed cases, then random ones.
+//!
+//! NESFOAL_SEED sets the seed, NESFOAL_CASES the random cases of each call. `--break` spoils the second
+//! implementation's answers a little, so that each comparison has to fail. `--trace` prints each case
+//! before its call, to find the one where a library stops the program.
+
+#[cfg(not(any(
+    feature = "effect",
+    feature = "arcs",
+    feature = "replay",
+    feature = "safety",
+    feature = "branching",
+    feature = "project",
+    feature = "check"
+)))]
+compile_error!("no call to compare: turn a feature on");
+
+mod frame;
+mod library;
+
+#[cfg(feature = "arcs")]
+mod arcs;
+#[cfg(feature = "branching")]
+mod branching;
+#[cfg(feature = "check")]
+mod check;
+#[cfg(feature = "effect")]
+mod effect;
+#[cfg(feature = "check")]
+mod guarantee;
+#[cfg(feature = "project")]
+mod project;
+#[cfg(feature = "replay")]
+mod replay;
+#[cfg(feature = "safety")]
+mod safety;
+#[cfg(feature = "check")]
+mod verdict;
+
+use frame::Settings;
+use std::process::ExitCode;
+
+fn main() -> ExitCode {
+    let Some(settings) = Settings::read() else {
+        eprintln!("usage: compare [--break] [--trace]");
+        return ExitCode::from(2);
+    };
+    println!("seed {}, {} random cases a call", settings.seed, settings.cases);
+    let (mut passed, mut failed) = (0, 0);
+    for compare in comparisons() {
+        if compare(&settings) {
+            passed += 1;
+        } else {
+            failed += 1;
+        }
+    }
+    println!("{passed} passed, {failed} failed");
+    if failed == 0 && passed > 0 {
+        ExitCode::SUCCESS
+    } else {
+        ExitCode::FAILURE
+    }
+}
+
+/// One entry for each call of the features that are on; each tells whether nothing differed.
+fn comparisons() -> Vec<fn(&Settings) -> bool> {
+    vec![
+        #[cfg(feature = "effect")]
+        |s| frame::compare::<effect::Effect>(s),
+        #[cfg(feature = "arcs")]
+        |s| frame::compare::<arcs::Arcs>(s),
+        #[cfg(feature = "replay")]
+        |s| frame::compare::<replay::Replay>(s),
+        #[cfg(feature = "safety")]
+        |s| frame::compare::<safety::Safety>(s),
+        #[cfg(feature = "branching")]
+        |s| frame::compare::<branching::Branching>(s),
+        #[cfg(feature = "project")]
+        |s| frame::compare::<project::Project>(s),
+        #[cfg(feature = "check")]
+        |s| frame::compare::<check::Check>(s),
+        #[cfg(feature = "check")]
+        |s| frame::compare::<verdict::Verdict>(s),
+        #[cfg(feature = "check")]
+        guarantee::compare,
+    ]
+}

@@ -1,0 +1,34 @@
+//! The comparison of nesfoal_replay.
+
+use crate::frame::Call;
+use crate::library;
+use nesfoal_tests::cases::*;
+use nesfoal_tests::fixed::{self, Fixed};
+use nesfoal_tests::gen;
+use nesfoal_tests::rng::Rng;
+
+pub struct Replay;
+
+impl Call for Replay {
+    type Case = ReplayCase;
+    const NAME: &'static str = "replay";
+
+    fn fixed() -> Vec<Fixed<ReplayCase>> {
+        fixed::replays()
+    }
+
+    fn random(rng: &mut Rng) -> ReplayCase {
+        gen::replay_case(rng)
+    }
+
+    fn library(case: &ReplayCase) -> Answer {
+        library::replay(case)
+    }
+
+    /// Another short place where a later firing sticks.
+    fn spoil(answer: &mut Answer) {
+        if answer.number == 100 && answer.outs[0] > 0 {
+            answer.outs[1] += 1;
+        }
+    }
+}

@@ -1,0 +1,326 @@
+//! A case of each call: what is handed in, and the whole answer of the second implementation.
+
+use crate::cut::{cut, Cut};
+use crate::replay::Replayed;
+use crate::{arcs, check, effect, project, replay};
+use std::fmt::Write;
+
+/// Entries that are lent to a call, standing inside a larger piece of memory.
+/// The entries before and after are a guard zone.
+#[derive(Clone, PartialEq, Eq, Debug)]
+pub struct Lent<T> {
+    pub cells: Vec<T>,
+    pub start: usize,
+    pub len: usize,
+    /// Lend a null pointer; only where the length is 0.
+    pub null: bool,
+}
+
+impl<T: Copy> Lent<T> {
+    pub fn plain(cells: Vec<T>) -> Lent<T> {
+        let len = cells.len();
+        Lent { cells, start: 0, len, null: false }
+    }
+
+    pub fn part(&self) -> &[T] {
+        &self.cells[self.start..self.start + self.len]
+    }
+
+    pub fn part_mut(&mut self) -> &mut [T] {
+        &mut self.cells[self.start..self.start + self.len]
+    }
+
+    pub fn pointer(&self) -> *const T {
+        if self.null && self.len == 0 {
+            return std::ptr::null();
+        }
+        self.cells[self.start..].as_ptr()
+    }
+
+    pub fn pointer_mut(&mut self) -> *mut T {
+        if self.null && self.len == 0 {
+            return std::ptr::null_mut();
+        }
+        self.cells[self.start..].as_mut_ptr()
+    }
+}
+
+/// A lent buffer after the call, guard zone included.
+#[derive(Clone, PartialEq, Eq, Debug)]
+pub enum Cells {
+    None,
+    Bytes(Vec<u8>),
+    Halves(Vec<u16>),
+    Longs(Vec<u64>),
+}
+
+/// Everything that a call can be seen to do.
+#[derive(Clone, PartialEq, Eq, Debug)]
+pub struct Answer {
+    pub number: u32,
+    /// The values handed back through pointers; unused ones are 0.
+    pub outs: [i64; 3],
+    pub cells: Cells,
+    /// Whether everything handed in to be read is as it was.
+    pub inputs_kept: bool,
+}
+
+impl Answer {
+    pub fn new(number: u32, outs: [i64; 3], cells: Cells) -> Answer {
+        Answer { number, outs, cells, inputs_kept: true }
+    }
+
+    pub fn show(&self) -> String {
+        let cells = match &self.cells {
+            Cells::None => String::new(),
+            Cells::Bytes(b) => format!(" buffer {}", hex(b)),
+            Cells::Halves(h) => format!(" buffer {h:x?}"),
+            Cells::Longs(l) => format!(" buffer {l:x?}"),
+        };
+        let kept = if self.inputs_kept { "" } else { " INPUTS CHANGED" };
+        format!("number {} outs {:?}{kept}{cells}", self.number, self.outs)
+    }
+}
+
+pub trait Case {
+    /// The answer of the second implementation.
+    fn second(&self) -> Answer;
+    /// The whole case in words and hexadecimal.
+    fn show(&self) -> String;
+    /// What sort of outcome this is, for the histogram.
+    fn outcome(&self, answer: &Answer) -> String {
+        let _ = self;
+        answer.number.to_string()
+    }
+}
+
+pub fn hex(bytes: &[u8]) -> String {
+    let mut text = String::with_capacity(2 * bytes.len());
+    for b in bytes {
+        write!(text, "{b:02x}").unwrap();
+    }
+    text
+}
+
+fn show_bytes(name: &str, lent: &Lent<u8>) -> String {
+    let null = if lent.null && lent.len == 0 { " null" } else { "" };
+    format!("  {name} ({} bytes, offset {}{null}): {}\n", lent.len, lent.start, hex(lent.part()))
+}
+
+fn show_numbers(name: &str, lent: &Lent<u16>) -> String {
+    format!("  {name} ({} entries): {:?}\n", lent.len, lent.part())
+}
+
+#[derive(Clone, Debug)]
+pub struct EffectCase {
+    pub file: Lent<u8>,
+    pub place: u16,
+    pub transition: u16,
+}
+
+impl Case for EffectCase {
+    fn second(&self) -> Answer {
+        match effect::effect(self.file.part(), self.place, self.transition) {
+            Ok(effect) => Answer::new(0, [i64::from(effect), 0, 0], Cells::None),
+            Err(refusal) => Answer::new(refusal, [0; 3], Cells::None),
+        }
+    }
+
+    fn show(&self) -> String {
+        show_bytes("file", &self.file) + &format!("  place {} transition {}\n", self.place, self.transition)
+    }
+
+    fn outcome(&self, answer: &Answer) -> String {
+        let sign = match answer.outs[0] {
+            e if e < 0 => "-",
+            0 if answer.number == 0 => "=",
+            0 => "",
+            _ => "+",
+        };
+        format!("{}{sign}", answer.number)
+    }
+}
+
+#[derive(Clone, Debug)]
+pub struct ArcsCase {
+    pub plan: Lent<u8>,
+    pub slice: Lent<u8>,
+    pub of_slice: bool,
+    pub transition: u16,
+}
+
+impl Case for ArcsCase {
+    fn second(&self) -> Answer {
+        let (start, run) = arcs::arcs(self.plan.part(), self.slice.part(), self.of_slice, self.transition);
+        Answer::new(run.len() as u32, [start as i64, 0, 0], Cells::None)
+    }
+
+    fn show(&self) -> String {
+        let which = if self.of_slice { "slice" } else { "plan" };
+        show_bytes("plan", &self.plan)
+            + &show_bytes("slice", &self.slice)
+            + &format!("  of the {which}, transition {}\n", self.transition)
+    }
+
+    /// A run of the plan or slice, or why there is none.
+    fn outcome(&self, answer: &Answer) -> String {
+        use crate::net::Kind;
+        use crate::read::read;
+        let which = if self.of_slice { "slice" } else { "plan" };
+        if answer.number > 0 {
+            return format!("run-of-{which}");
+        }
+        let plan = match read(self.plan.part(), Some(Kind::Plan)) {
+            Ok(net) => net,
+            Err(n) => return format!("plan-{n}"),
+        };
+        let slice = match read(self.slice.part(), Some(Kind::Slice)) {
+            Ok(net) => net,
+            Err(n) => return format!("slice-{n}"),
+        };
+        let net = if self.of_slice { slice } else { plan };
+        if usize::from(self.transition) >= net.transitions() {
+            "unknown".into()
+        } else {
+            "no-arcs".into()
+        }
+    }
+}
+
+#[derive(Clone, Debug)]
+pub struct ReplayCase {
+    pub file: Lent<u8>,
+    pub list: Lent<u16>,
+    pub marking: Lent<u64>,
+}
+
+impl Case for ReplayCase {
+    fn second(&self) -> Answer {
+        let mut lent = self.marking.clone();
+        let (number, index, place) = match replay::replay(self.file.part(), self.list.part(), lent.part_mut()) {
+            Ok(Replayed::Fired) => (0, 0, 0),
+            Ok(Replayed::Stuck { index, place }) => (100, index as i64, i64::from(place)),
+            Err(refusal) => (refusal, 0, 0),
+        };
+        Answer::new(number, [index, place, 0], Cells::Longs(lent.cells))
+    }
+
+    fn show(&self) -> String {
+        show_bytes("file", &self.file)
+            + &show_numbers("list", &self.list)
+            + &format!("  marking: {} entries lent\n", self.marking.len)
+    }
+
+    fn outcome(&self, answer: &Answer) -> String {
+        match answer.number {
+            0 if self.list.len == 0 => "fired-none".into(),
+            0 => "fired".into(),
+            100 if answer.outs[0] == 0 => "stuck-first".into(),
+            100 => "stuck-later".into(),
+            n => n.to_string(),
+        }
+    }
+}
+
+#[derive(Clone, Debug)]
+pub struct CutCase {
+    pub which: Cut,
+    pub plan: Lent<u8>,
+    pub q: Lent<u16>,
+    pub slice: Lent<u8>,
+}
+
+impl Case for CutCase {
+    fn second(&self) -> Answer {
+        let mut lent = self.slice.clone();
+        match cut(self.which, self.plan.part(), self.q.part(), lent.part_mut()) {
+            Ok(w) => {
+                let outs = [w.length as i64, w.places as i64, w.transitions as i64];
+                Answer::new(0, outs, Cells::Bytes(lent.cells))
+            }
+            Err(refusal) => Answer::new(refusal, [0; 3], Cells::Bytes(lent.cells)),
+        }
+    }
+
+    fn show(&self) -> String {
+        show_bytes("plan", &self.plan)
+            + &show_numbers("criterion", &self.q)
+            + &format!("  slice: {} bytes lent\n", self.slice.len)
+    }
+}
+
+#[derive(Clone, Debug)]
+pub struct ProjectCase {
+    pub plan: Lent<u8>,
+    pub slice: Lent<u8>,
+    pub list: Lent<u16>,
+    pub out: Lent<u16>,
+}
+
+impl Case for ProjectCase {
+    fn second(&self) -> Answer {
+        let mut lent = self.out.clone();
+        let (number, count) =
+            match project::project(self.plan.part(), self.slice.part(), self.list.part(), lent.part_mut()) {
+                Ok(count) => (0, count as i64),
+                Err(refusal) => (refusal, 0),
+            };
+        Answer::new(number, [count, 0, 0], Cells::Halves(lent.cells))
+    }
+
+    fn show(&self) -> String {
+        show_bytes("plan", &self.plan)
+            + &show_bytes("slice", &self.slice)
+            + &show_numbers("list", &self.list)
+            + &format!("  out: {} entries lent\n", self.out.len)
+    }
+
+    fn outcome(&self, answer: &Answer) -> String {
+        match (answer.number, answer.outs[0]) {
+            (0, 0) => "0-none".into(),
+            (n, _) => n.to_string(),
+        }
+    }
+}
+
+/// The C check, with Q as bytes.
+#[derive(Clone, Debug)]
+pub struct CheckCase {
+    pub plan: Lent<u8>,
+    pub slice: Lent<u8>,
+    pub q: Lent<u8>,
+}
+
+impl Case for CheckCase {
+    fn second(&self) -> Answer {
+        let number = check::check_number(self.plan.part(), self.slice.part(), self.q.part());
+        Answer::new(number, [0; 3], Cells::None)
+    }
+
+    fn show(&self) -> String {
+        show_bytes("plan", &self.plan) + &show_bytes("slice", &self.slice) + &show_bytes("criterion", &self.q)
+    }
+}
+
+/// The verdict with its number, with Q as numbers.
+#[derive(Clone, Debug)]
+pub struct VerdictCase {
+    pub plan: Lent<u8>,
+    pub slice: Lent<u8>,
+    pub q: Lent<u16>,
+}
+
+impl Case for VerdictCase {
+    fn second(&self) -> Answer {
+        let (answer, number) = match check::verdict(self.plan.part(), self.slice.part(), self.q.part()) {
+            Ok(check::Verdict::Accepted) => (0, 0),
+            Ok(check::Verdict::Broken { rule, number }) => (100 + rule, number as i64),
+            Err(refusal) => (refusal, 0),
+        };
+        Answer::new(answer, [number, 0, 0], Cells::None)
+    }
+
+    fn show(&self) -> String {
+        show_bytes("plan", &self.plan) + &show_bytes("slice", &self.slice) + &show_numbers("criterion", &self.q)
+    }
+}

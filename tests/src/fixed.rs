@@ -1,0 +1,735 @@
+//! Paper 01's examples, edges and refusals one by one, and the published nets, as fixed cases with
+//! the answers due. `cargo test` holds the second implementation to them, `compare` the library too.
+
+use crate::cases::*;
+use crate::cut::Cut;
+use crate::gen::{to_bytes, Draft, DraftArc};
+use crate::published;
+
+/// A case and the answer that paper 01 gives; `cells` only where the example states them.
+pub struct Fixed<C> {
+    pub name: String,
+    pub case: C,
+    pub number: u32,
+    pub outs: [i64; 3],
+    pub cells: Option<Cells>,
+}
+
+impl<C: Case> Fixed<C> {
+    /// What the answer has that is not due, if anything.
+    pub fn fault(&self, answer: &Answer) -> Option<String> {
+        let cells_right = self.cells.as_ref().is_none_or(|cells| *cells == answer.cells);
+        if answer.number == self.number && answer.outs == self.outs && cells_right && answer.inputs_kept {
+            return None;
+        }
+        let due = self.cells.as_ref().map_or(String::new(), |cells| format!(" {cells:x?}"));
+        Some(format!("due: number {} outs {:?}{due}", self.number, self.outs))
+    }
+}
+
+fn fixed<C>(name: impl Into<String>, case: C, number: u32, outs: [i64; 3]) -> Fixed<C> {
+    Fixed { name: name.into(), case, number, outs, cells: None }
+}
+
+fn from_hex(text: &str) -> Vec<u8> {
+    let digits: Vec<u8> = text.bytes().filter(|c| !c.is_ascii_whitespace()).collect();
+    digits.chunks(2).map(|d| u8::from_str_radix(std::str::from_utf8(d).unwrap(), 16).unwrap()).collect()
+}
+
+/// The plan of one place with 3 tokens, and its safety cut for place 0, as paper 01 prints them.
+pub fn one_place_plan() -> Vec<u8> {
+    from_hex("03000000 04000000 0100 0000 0000 00 01 42454C4C")
+}
+
+pub fn one_place_slice() -> Vec<u8> {
+    from_hex("03000000 0000 06000000 0100 0000 0000 01 01 42454C4C")
+}
+
+/// The small kerb.
+pub fn kerb() -> Draft {
+    let arc = DraftArc::new;
+    let arcs = vec![
+        arc(0, 0, 0, 1),
+        arc(0, 0, 1, 1),
+        arc(0, 1, 2, 1),
+        arc(1, 0, 2, 1),
+        arc(1, 1, 1, 1),
+        arc(1, 1, 3, 1),
+        arc(2, 0, 3, 2),
+        arc(2, 1, 4, 1),
+        arc(3, 0, 0, 1),
+    ];
+    Draft::plan(vec![2, 1, 0, 0, 0], 4, arcs)
+}
+
+/// The kerb's safety cut for {2}, put down by hand.
+pub fn kerb_safety() -> Draft {
+    let arc = DraftArc::new;
+    let arcs = vec![arc(0, 0, 0, 1), arc(0, 0, 1, 1), arc(0, 1, 2, 1), arc(1, 0, 2, 1), arc(1, 1, 1, 1)];
+    Draft::plan(vec![2, 1, 0], 2, arcs).into_slice(vec![0, 1, 2], vec![0, 1])
+}
+
+/// The kerb's branching cut for {2}, put down by hand.
+pub fn kerb_branching() -> Draft {
+    let mut draft = kerb_safety();
+    draft.arcs.push(DraftArc::new(2, 0, 0, 1));
+    draft.transition_origins.push(3);
+    draft.count();
+    draft
+}
+
+/// The kerb's safety cut for {3}, put down by hand.
+pub fn kerb_safety_left() -> Draft {
+    let mut draft = kerb();
+    draft.arcs.retain(|a| a.transition != 3 && a.place != 4);
+    draft.marking.pop();
+    draft.into_slice(vec![0, 1, 2, 3], vec![0, 1, 2])
+}
+
+fn changed(draft: &Draft, change: impl FnOnce(&mut Draft)) -> Vec<u8> {
+    let mut draft = draft.clone();
+    change(&mut draft);
+    draft.bytes()
+}
+
+/// A file with its tables changed, the trailer right again.
+fn counted(draft: &Draft, change: impl FnOnce(&mut Draft)) -> Vec<u8> {
+    changed(draft, |d| {
+        change(d);
+        d.count();
+    })
+}
+
+/// Damaged files that every call refuses with this number, made of the kerb or of its slice.
+pub fn bad_files(slice: bool) -> Vec<(String, Vec<u8>, u32)> {
+    let good = if slice { kerb_safety() } else { kerb() };
+    let (p, t, a) = (good.places, good.transitions, good.arc_count);
+    let bytes = good.bytes();
+    let n = bytes.len();
+    let mut files: Vec<(&str, Vec<u8>, u32)> = vec![
+        ("no bytes", Vec::new(), 1),
+        ("15 bytes", bytes[n - 15..].to_vec(), 1),
+        ("65,537 bytes", counted(&good, |d| d.note = vec![7; 65_537 - n]), 1),
+        ("edition 0", changed(&good, |d| d.edition = 0), 2),
+        ("edition 2", changed(&good, |d| d.edition = 2), 2),
+        ("first letter", changed(&good, |d| d.letters[0] = b'b'), 2),
+        ("second letter", changed(&good, |d| d.letters[1] = b'F'), 2),
+        ("third letter", changed(&good, |d| d.letters[2] = 0), 2),
+        ("last letter", changed(&good, |d| d.letters[3] = b'M'), 2),
+        ("letters before kind", changed(&good, |d| (d.letters[3], d.kind) = (b'M', 2)), 2),
+        ("kind 2", changed(&good, |d| d.kind = 2), 3),
+        ("kind 255", changed(&good, |d| d.kind = 255), 3),
+        ("kind before counts", changed(&good, |d| (d.kind, d.places) = (2, 1_025)), 3),
+        ("P 1,025", changed(&good, |d| d.places = 1_025), 4),
+        ("T 1,025", changed(&good, |d| d.transitions = 1_025), 4),
+        ("A 4,097", changed(&good, |d| d.arc_count = 4_097), 4),
+        ("P and T 0", changed(&good, |d| (d.places, d.transitions) = (0, 0)), 4),
+        ("P and T 0, all right else", changed(&Draft::plan(vec![], 0, vec![]), |d| d.kind = good.kind), 4),
+        ("counts before length", changed(&good, |d| (d.places, d.body_length) = (1_025, 0)), 4),
+        ("length one more", changed(&good, |d| d.body_length += 1), 5),
+        ("length one less", changed(&good, |d| d.body_length -= 1), 5),
+        ("length 2 to the 32 less 1", changed(&good, |d| d.body_length = u32::MAX), 5),
+        ("length with bit 16", changed(&good, |d| d.body_length += 65_536), 5),
+        ("P one more", changed(&good, |d| d.places = p + 1), 5),
+        ("P one less", changed(&good, |d| d.places = p - 1), 5),
+        ("A one more", changed(&good, |d| d.arc_count = a + 1), 5),
+        ("A one less", changed(&good, |d| d.arc_count = a - 1), 5),
+        ("front byte lost", bytes[1..].to_vec(), 5),
+        ("trailer alone", bytes[n - 16..].to_vec(), 5),
+        ("length before arcs", changed(&good, |d| (d.arcs[0].weight, d.body_length) = (0, 0)), 5),
+        ("zero byte 1", changed(&good, |d| d.arcs[0].zero = 1), 6),
+        ("zero byte 255, last arc", changed(&good, |d| d.arcs.last_mut().unwrap().zero = 255), 6),
+        ("direction 2", changed(&good, |d| d.arcs[1].direction = 2), 6),
+        ("place P", changed(&good, |d| d.arcs[1].place = p), 6),
+        ("place 65,535", changed(&good, |d| d.arcs[1].place = 65_535), 6),
+        ("transition T", changed(&good, |d| d.arcs.last_mut().unwrap().transition = t), 6),
+        ("transition 65,535", changed(&good, |d| d.arcs[0].transition = 65_535), 6),
+        ("weight 0", changed(&good, |d| d.arcs[3].weight = 0), 6),
+        ("6 before 7 in one arc", changed(&good, |d| (d.arcs[1].place, d.arcs[1].weight) = (0, 0)), 6),
+        ("6 in an arc before 7", changed(&good, |d| (d.arcs[0].weight, d.arcs[1].place) = (0, 0)), 6),
+        ("equal arcs", changed(&good, |d| d.arcs[1] = d.arcs[0]), 7),
+        ("arcs equal but for the weight", changed(&good, |d| (d.arcs[1].place, d.arcs[1].weight) = (0, 9)), 7),
+        ("arcs swapped by place", changed(&good, |d| d.arcs.swap(0, 1)), 7),
+        ("arcs swapped by direction", changed(&good, |d| d.arcs.swap(1, 2)), 7),
+        ("arcs swapped by transition", changed(&good, |d| d.arcs.swap(2, 3)), 7),
+        ("7 in an arc before 6", changed(&good, |d| (d.arcs[1].place, d.arcs[2].weight) = (0, 0)), 7),
+    ];
+    if slice {
+        files.extend([
+            ("T one more", changed(&good, |d| d.transitions = t + 1), 5),
+            ("T one less", changed(&good, |d| d.transitions = t - 1), 5),
+            ("a plan's length", changed(&good, |d| d.body_length = 4 * u32::from(p) + 8 * u32::from(a)), 5),
+            ("place origins equal", changed(&good, |d| d.place_origins[2] = 1), 8),
+            ("place origins falling", changed(&good, |d| d.place_origins.swap(0, 1)), 8),
+            ("transition origins equal", changed(&good, |d| d.transition_origins[1] = 0), 8),
+            ("transition origins falling", changed(&good, |d| d.transition_origins.swap(0, 1)), 8),
+            ("arcs before origins", changed(&good, |d| (d.arcs[0].weight, d.place_origins[2]) = (0, 0)), 6),
+        ]);
+    }
+    files.into_iter().map(|(name, bytes, number)| (name.into(), bytes, number)).collect()
+}
+
+/// Files that are refused with 3 where the other kind is due.
+fn other_kind(slice: bool) -> Vec<(String, Vec<u8>, u32)> {
+    let file = if slice { kerb() } else { kerb_safety() };
+    vec![("the other kind".into(), file.bytes(), 3)]
+}
+
+fn bad_plans() -> Vec<(String, Vec<u8>, u32)> {
+    bad_files(false).into_iter().chain(other_kind(false)).collect()
+}
+
+fn bad_slices() -> Vec<(String, Vec<u8>, u32)> {
+    bad_files(true).into_iter().chain(other_kind(true)).collect()
+}
+
+/// Files of either kind that calls for either kind refuse.
+fn bad_of_either() -> Vec<(String, Vec<u8>, u32)> {
+    bad_files(false).into_iter().chain(bad_files(true)).collect()
+}
+
+fn lent<T: Copy>(part: impl Into<Vec<T>>) -> Lent<T> {
+    Lent::plain(part.into())
+}
+
+/// A lent buffer, each entry 0xA5, four more on each side.
+fn buffer<T: Copy + From<u8>>(len: usize) -> Lent<T> {
+    Lent { cells: vec![T::from(0xA5); len + 8], start: 4, len, null: false }
+}
+
+/// What stands in such a buffer after these entries were written.
+fn after<T: Copy + From<u8>>(len: usize, written: &[T]) -> Vec<T> {
+    let mut cells = buffer(len).cells;
+    cells[4..4 + written.len()].copy_from_slice(written);
+    cells
+}
+
+/// One place and one transition with a self loop of these weights.
+fn loop_net(weight_in: u16, weight_out: u16, tokens: u32) -> Vec<u8> {
+    Draft::plan(vec![tokens], 1, vec![DraftArc::new(0, 0, 0, weight_in), DraftArc::new(0, 1, 0, weight_out)]).bytes()
+}
+
+/// All counts at their limits; transition t takes two from places t and t + 1 and gives them back.
+pub fn full_net() -> Draft {
+    let mut arcs = Vec::new();
+    for t in 0..1_024 {
+        for direction in 0..2 {
+            let other = (t + 1) % 1_024;
+            for p in [t.min(other), t.max(other)] {
+                arcs.push(DraftArc::new(t, direction, p, 65_535));
+            }
+        }
+    }
+    Draft::plan(vec![u32::MAX; 1_024], 1_024, arcs)
+}
+
+pub fn effects() -> Vec<Fixed<EffectCase>> {
+    let case = |file: &[u8], place, transition| EffectCase { file: lent(file), place, transition };
+    let mut list = Vec::new();
+    let kerb = kerb().bytes();
+    let due: [[i64; 4]; 5] = [[-1, 0, 0, -1], [-1, 1, 0, 0], [1, -1, 0, 0], [0, 1, -2, 0], [0, 0, 1, 0]];
+    for p in 0..5u16 {
+        for t in 0..4u16 {
+            let effect = due[usize::from(p)][usize::from(t)];
+            list.push(fixed(format!("kerb, effect of {t} on {p}"), case(&kerb, p, t), 0, [effect, 0, 0]));
+        }
+    }
+    let numbers = [(5, 0, 10), (65_535, 0, 10), (0, 4, 12), (4, 65_535, 12), (5, 4, 10)];
+    for (p, t, number) in numbers {
+        list.push(fixed(format!("kerb, effect of {t} on {p}"), case(&kerb, p, t), number, [0; 3]));
+    }
+    let nets = [
+        ("reader", loop_net(3, 3, 0), 0),
+        ("loop, more out", loop_net(1, 3, 0), 2),
+        ("loop, more in", loop_net(3, 1, 0), -2),
+        ("weight 65,535 in, 1 out", loop_net(65_535, 1, 0), -65_534),
+        ("weight 65,535 both", loop_net(65_535, 65_535, 0), 0),
+        ("65,535 in", Draft::plan(vec![0], 1, vec![DraftArc::new(0, 0, 0, 65_535)]).bytes(), -65_535),
+        ("65,535 out", Draft::plan(vec![0], 1, vec![DraftArc::new(0, 1, 0, 65_535)]).bytes(), 65_535),
+        ("slice", kerb_safety().bytes(), -1),
+        ("full net", full_net().bytes(), 0),
+    ];
+    for (name, file, effect) in nets {
+        list.push(fixed(name, case(&file, 0, 0), 0, [effect, 0, 0]));
+    }
+    let edges = [
+        ("one place, no transition", one_place_plan(), 12),
+        ("one place, no transition, as a slice", one_place_slice(), 12),
+        ("16 bytes, one transition and no place", Draft::plan(vec![], 1, vec![]).bytes(), 10),
+    ];
+    for (name, file, number) in edges {
+        list.push(fixed(name, case(&file, 0, 0), number, [0; 3]));
+    }
+    let mut longest = self::kerb();
+    longest.note = vec![9; 65_536 - 108];
+    list.push(fixed("65,536 bytes", case(&longest.bytes(), 3, 2), 0, [-2, 0, 0]));
+    for (name, file, number) in bad_of_either() {
+        list.push(fixed(name, case(&file, 0, 0), number, [0; 3]));
+    }
+    let mut null = case(&[], 0, 0);
+    null.file.null = true;
+    list.push(fixed("null file", null, 1, [0; 3]));
+    list
+}
+
+pub fn arc_runs() -> Vec<Fixed<ArcsCase>> {
+    let case = |plan: &[u8], slice: &[u8], of_slice, transition| ArcsCase {
+        plan: lent(plan),
+        slice: lent(slice),
+        of_slice,
+        transition,
+    };
+    let mut list = Vec::new();
+    let (plan, slice) = (kerb().bytes(), kerb_safety().bytes());
+    // Length and start: the kerb's arcs start at 20, those of its slice at 12.
+    let runs = [
+        (false, 0, 24, 20),
+        (false, 1, 24, 44),
+        (false, 2, 16, 68),
+        (false, 3, 8, 84),
+        (false, 4, 0, 0),
+        (false, 65_535, 0, 0),
+        (true, 0, 24, 12),
+        (true, 1, 16, 36),
+        (true, 2, 0, 0),
+        (true, 3, 0, 0),
+    ];
+    for (of_slice, t, length, start) in runs {
+        let which = if of_slice { "slice" } else { "kerb" };
+        list.push(fixed(format!("{which}, transition {t}"), case(&plan, &slice, of_slice, t), length, [start, 0, 0]));
+    }
+    let mut noted = kerb();
+    noted.note = vec![1; 7];
+    list.push(fixed("a note moves the run", case(&noted.bytes(), &slice, false, 1), 24, [51, 0, 0]));
+    let mut noted = kerb_safety();
+    noted.note = vec![1; 3];
+    list.push(fixed("a note moves the slice's run", case(&plan, &noted.bytes(), true, 1), 16, [39, 0, 0]));
+    let bare = Draft::plan(vec![1], 2, vec![DraftArc::new(1, 0, 0, 1)]).bytes();
+    list.push(fixed("transition without arcs", case(&bare, &slice, false, 0), 0, [0; 3]));
+    list.push(fixed("after one without arcs", case(&bare, &slice, false, 1), 8, [4, 0, 0]));
+    let full = full_net().bytes();
+    list.push(fixed("last run of the full net", case(&full, &slice, false, 1_023), 32, [4_096 + 32_736, 0, 0]));
+    for (name, bad, _) in bad_plans() {
+        list.push(fixed(format!("plan: {name}"), case(&bad, &slice, true, 0), 0, [0; 3]));
+        list.push(fixed(format!("plan: {name}"), case(&bad, &slice, false, 0), 0, [0; 3]));
+    }
+    for (name, bad, _) in bad_slices() {
+        list.push(fixed(format!("slice: {name}"), case(&plan, &bad, false, 0), 0, [0; 3]));
+        list.push(fixed(format!("slice: {name}"), case(&plan, &bad, true, 0), 0, [0; 3]));
+    }
+    let mut null = case(&[], &[], false, 0);
+    (null.plan.null, null.slice.null) = (true, true);
+    list.push(fixed("null files", null, 0, [0; 3]));
+    for net in published::nets() {
+        let transitions = net.plan[net.plan.len() - 10];
+        let mut at = net.plan.len() - 16 - 8 * usize::from(net.plan[net.plan.len() - 8]);
+        if net.plan[net.plan.len() - 7] > 0 {
+            continue;
+        }
+        for t in 0..transitions {
+            let run = net.plan[at..net.plan.len() - 16].chunks(8).take_while(|a| a[0] == t).count();
+            let start = if run == 0 { 0 } else { at as i64 };
+            let case = case(&net.plan, &slice, false, u16::from(t));
+            list.push(fixed(format!("{}, transition {t}", net.name), case, 8 * run as u32, [start, 0, 0]));
+            at += 8 * run;
+        }
+    }
+    list
+}
+
+pub fn replays() -> Vec<Fixed<ReplayCase>> {
+    let case = |file: &[u8], list: &[u16], len| ReplayCase { file: lent(file), list: lent(list), marking: buffer(len) };
+    let mut list = Vec::new();
+    let mut add =
+        |name: String, file: &[u8], numbers: &[u16], len: usize, number, stuck: (i64, i64), marking: &[u64]| {
+            let mut one = fixed(name, case(file, numbers, len), number, [stuck.0, stuck.1, 0]);
+            one.cells = Some(Cells::Longs(after(len, marking)));
+            list.push(one);
+        };
+    let kerb = kerb().bytes();
+    for len in [5, 6, 9] {
+        let name = |list: &str| format!("kerb, {list}, {len} entries lent");
+        add(name("0,1,0,1,2"), &kerb, &[0, 1, 0, 1, 2], len, 0, (0, 0), &[0, 1, 0, 0, 1]);
+        add(name("the empty list"), &kerb, &[], len, 0, (0, 0), &[2, 1, 0, 0, 0]);
+        add(name("0,0"), &kerb, &[0, 0], len, 100, (1, 1), &[1, 0, 1, 0, 0]);
+        add(name("3,3,0"), &kerb, &[3, 3, 0], len, 100, (2, 0), &[0, 1, 0, 0, 0]);
+        add(name("1 at once"), &kerb, &[1], len, 100, (0, 2), &[2, 1, 0, 0, 0]);
+    }
+    add("3,0,1 leaves waiting 0".into(), &kerb, &[3, 0, 1], 5, 0, (0, 0), &[0, 1, 0, 1, 0]);
+    add("its projection leaves waiting 1".into(), &kerb_safety().bytes(), &[0, 1], 3, 0, (0, 0), &[1, 1, 0]);
+    add("in a slice, the T of the slice".into(), &kerb_safety().bytes(), &[2], 3, 12, (0, 0), &[]);
+    add("unknown number".into(), &kerb, &[0, 4], 5, 12, (0, 0), &[]);
+    add("unknown after a stuck one".into(), &kerb, &[1, 65_535], 5, 12, (0, 0), &[]);
+    add("4 entries lent".into(), &kerb, &[0], 4, 13, (0, 0), &[]);
+    add("none lent".into(), &kerb, &[0], 0, 13, (0, 0), &[]);
+    add("list before buffer".into(), &kerb, &[4], 4, 12, (0, 0), &[]);
+    add("65,536 firings".into(), &kerb, &[0; 65_536], 5, 11, (0, 0), &[]);
+    add("length before numbers".into(), &kerb, &[4; 65_536], 5, 11, (0, 0), &[]);
+    add("65,535 firings stick".into(), &kerb, &[0; 65_535], 5, 100, (1, 1), &[1, 0, 1, 0, 0]);
+    let well = Draft::plan(vec![u32::MAX], 1, vec![DraftArc::new(0, 1, 0, 65_535)]).bytes();
+    let most = 4_294_967_295 + 65_535 * 65_535;
+    add("the most tokens there can be".into(), &well, &[0; 65_535], 1, 0, (0, 0), &[most]);
+    add("exactly enough".into(), &loop_net(65_535, 1, 65_535), &[0], 1, 0, (0, 0), &[1]);
+    add("one too few".into(), &loop_net(65_535, 1, 65_534), &[0], 1, 100, (0, 0), &[65_534]);
+    add("a reader needs its tokens".into(), &loop_net(2, 2, 1), &[0], 1, 100, (0, 0), &[1]);
+    add("no places".into(), &Draft::plan(vec![], 2, vec![]).bytes(), &[0, 1, 1], 0, 0, (0, 0), &[]);
+    add("no transitions".into(), &one_place_plan(), &[], 1, 0, (0, 0), &[3]);
+    add("no transitions, a list".into(), &one_place_plan(), &[0], 1, 12, (0, 0), &[]);
+    let two = Draft::plan(vec![0; 3], 1, vec![DraftArc::new(0, 0, 1, 1), DraftArc::new(0, 0, 2, 1)]).bytes();
+    add("the lowest place short".into(), &two, &[0], 3, 100, (0, 1), &[0, 0, 0]);
+    for (name, bad, number) in bad_of_either() {
+        add(name, &bad, &[0], 5, number, (0, 0), &[]);
+    }
+    for net in published::nets() {
+        for l in &net.lists {
+            let (number, stuck) = l.stuck.map_or((0, (0, 0)), |stuck| (100, stuck));
+            add(
+                format!("{}, {:?}", net.name, l.list),
+                &net.plan,
+                &l.list,
+                l.marking.len() + 1,
+                number,
+                stuck,
+                &l.marking,
+            );
+        }
+    }
+    list
+}
+
+pub fn cuts(which: Cut) -> Vec<Fixed<CutCase>> {
+    let case = |plan: &[u8], q: &[u16], len| CutCase { which, plan: lent(plan), q: lent(q), slice: buffer(len) };
+    let mut list = Vec::new();
+    let kerb = kerb().bytes();
+    let mut written = |name: &str, plan: &[u8], q: &[u16], slice: &[u8], places, transitions| {
+        for more in [0, 1, 30] {
+            let len = slice.len() + more;
+            let outs = [slice.len() as i64, places, transitions];
+            let mut one = fixed(format!("{name}, {more} bytes more lent"), case(plan, q, len), 0, outs);
+            one.cells = Some(Cells::Bytes(after(len, slice)));
+            list.push(one);
+        }
+        for short in [1, slice.len() / 2, slice.len()] {
+            let len = slice.len() - short;
+            let mut one = fixed(format!("{name}, {short} bytes too few lent"), case(plan, q, len), 13, [0; 3]);
+            one.cells = Some(Cells::Bytes(after(len, &[])));
+            list.push(one);
+        }
+    };
+    written("one place", &one_place_plan(), &[0], &one_place_slice(), 1, 0);
+    match which {
+        Cut::Safety => {
+            written("kerb for {2}", &kerb, &[2], &kerb_safety().bytes(), 3, 2);
+            written("kerb for {3}", &kerb, &[3], &kerb_safety_left().bytes(), 4, 3);
+        }
+        Cut::Branching => written("kerb for {2}", &kerb, &[2], &kerb_branching().bytes(), 3, 3),
+    }
+    // A transition that only reads a place of Q is not kept.
+    let reader = Draft::plan(vec![4], 0, vec![]).into_slice(vec![0], vec![]).bytes();
+    written("reader", &loop_net(2, 2, 4), &[0], &reader, 1, 0);
+    // In a loop with unequal weights it is kept, both arcs with it.
+    let kept = Draft::plan(vec![4], 1, vec![DraftArc::new(0, 0, 0, 2), DraftArc::new(0, 1, 0, 1)]);
+    written("unequal loop", &kept.clone().bytes(), &[0], &kept.into_slice(vec![0], vec![0]).bytes(), 1, 1);
+    // An arc to a kept place that is no input stays; an arc to one left out goes.
+    let a = DraftArc::new;
+    let fork = Draft::plan(vec![1, 0, 0], 1, vec![a(0, 0, 0, 1), a(0, 1, 1, 1), a(0, 1, 2, 1)]).bytes();
+    let slice = Draft::plan(vec![1, 0], 1, vec![a(0, 0, 0, 1), a(0, 1, 1, 1)]).into_slice(vec![0, 2], vec![0]);
+    written("fork", &fork, &[2], &slice.bytes(), 2, 1);
+    // More than one round: a chain numbered backwards, all of it kept.
+    let mut arcs = Vec::new();
+    for t in 0..1_023 {
+        arcs.extend([a(t, 0, t + 1, 1), a(t, 1, t, 1)]);
+    }
+    let chain = Draft::plan(vec![1; 1_024], 1_023, arcs);
+    let all = chain.clone().into_slice((0..1_024).collect(), (0..1_023).collect()).bytes();
+    written("chain backwards", &chain.bytes(), &[0], &all, 1_024, 1_023);
+
+    let mut refused = |name: String, plan: &[u8], q: &[u16], len, number| {
+        let mut one = fixed(name, case(plan, q, len), number, [0; 3]);
+        one.cells = Some(Cells::Bytes(after(len, &[])));
+        list.push(one);
+    };
+    refused("no criterion".into(), &kerb, &[], 200, 9);
+    refused("no place, no criterion".into(), &Draft::plan(vec![], 1, vec![]).bytes(), &[], 200, 9);
+    refused("no place".into(), &Draft::plan(vec![], 1, vec![]).bytes(), &[0], 200, 10);
+    refused("place P".into(), &kerb, &[5], 200, 10);
+    refused("place 65,535 last".into(), &kerb, &[0, 65_535], 200, 10);
+    refused("criterion equal".into(), &kerb, &[2, 2], 200, 10);
+    refused("criterion falling".into(), &kerb, &[2, 1], 200, 10);
+    refused("criterion before buffer".into(), &kerb, &[5], 0, 10);
+    for (name, bad, number) in bad_plans() {
+        refused(name, &bad, &[], 0, number);
+    }
+    for net in published::nets() {
+        for c in &net.cuts {
+            let sets = if which == Cut::Safety { &c.safety } else { &c.branching };
+            let outs = [sets.bytes as i64, sets.places.len() as i64, sets.transitions.len() as i64];
+            list.push(fixed(format!("{} for {:?}", net.name, c.q), case(&net.plan, &c.q, sets.bytes + 9), 0, outs));
+        }
+    }
+    list
+}
+
+pub fn projections() -> Vec<Fixed<ProjectCase>> {
+    let case = |plan: &[u8], slice: &[u8], list: &[u16], len| ProjectCase {
+        plan: lent(plan),
+        slice: lent(slice),
+        list: lent(list),
+        out: buffer(len),
+    };
+    let (plan, slice, branching) = (kerb().bytes(), kerb_safety().bytes(), kerb_branching().bytes());
+    let mut list = Vec::new();
+    let mut add = |name: String, plan: &[u8], slice: &[u8], numbers: &[u16], len: usize, number, due: &[u16]| {
+        let mut one = fixed(name, case(plan, slice, numbers, len), number, [due.len() as i64, 0, 0]);
+        one.cells = Some(Cells::Halves(after(len, due)));
+        list.push(one);
+    };
+    for len in [2, 3, 10] {
+        add(format!("3,0,1,2 with {len} lent"), &plan, &slice, &[3, 0, 1, 2], len, 0, &[0, 1]);
+    }
+    add("3,0,1,2 with 1 lent".into(), &plan, &slice, &[3, 0, 1, 2], 1, 13, &[]);
+    add("3,0,1,2 with none lent".into(), &plan, &slice, &[3, 0, 1, 2], 0, 13, &[]);
+    add("renumbered".into(), &plan, &branching, &[3, 3, 2, 0, 1, 3], 5, 0, &[2, 2, 0, 1, 2]);
+    add("the empty list".into(), &plan, &slice, &[], 0, 0, &[]);
+    add("all dropped".into(), &plan, &slice, &[2, 3, 2], 0, 0, &[]);
+    add("unknown number".into(), &plan, &slice, &[0, 4], 5, 12, &[]);
+    add("the T of the plan".into(), &plan, &slice, &[3], 5, 0, &[]);
+    add("list before buffer".into(), &plan, &slice, &[0, 4], 0, 12, &[]);
+    add("65,536 entries".into(), &plan, &slice, &[0; 65_536], 65_536, 11, &[]);
+    add("65,535 entries".into(), &plan, &slice, &[1; 65_535], 65_535, 0, &[1; 65_535]);
+    let beyond = counted(&kerb_safety(), |d| d.transition_origins = vec![2, 9]);
+    add("origins beyond the plan".into(), &plan, &beyond, &[0, 2, 1, 2], 4, 0, &[0, 0]);
+    for (name, bad, number) in bad_plans() {
+        add(format!("plan: {name}"), &bad, &slice, &[9], 0, number, &[]);
+        add(format!("plan before slice: {name}"), &bad, &[], &[9], 0, number, &[]);
+    }
+    for (name, bad, number) in bad_slices() {
+        add(format!("slice: {name}"), &plan, &bad, &[9], 0, number, &[]);
+    }
+    list
+}
+
+/// Cases of the checker: a name, the three parts, the answer and its number.
+fn judged() -> Vec<(String, Vec<u8>, Vec<u8>, Vec<u16>, u32, i64)> {
+    let mut list: Vec<(String, Vec<u8>, Vec<u8>, Vec<u16>, u32, i64)> = Vec::new();
+    let (plan, slice) = (kerb(), kerb_safety());
+    let mut add = |name: &str, plan: &Draft, slice: Vec<u8>, q: &[u16], number, breaking| {
+        list.push((name.into(), plan.bytes(), slice, q.to_vec(), number, breaking));
+    };
+    let whole = kerb().into_slice((0..5).collect(), (0..4).collect());
+    add("safety cut for {2}", &plan, slice.bytes(), &[2], 0, 0);
+    add("branching cut for {2}", &plan, kerb_branching().bytes(), &[2], 0, 0);
+    add("safety cut for {3}", &plan, kerb_safety_left().bytes(), &[3], 0, 0);
+    add("safety cut for {3} serves {2}", &plan, kerb_safety_left().bytes(), &[2], 0, 0);
+    add("the whole plan", &plan, whole.bytes(), &[0, 1, 2, 3, 4], 0, 0);
+    add("a note", &plan, counted(&slice, |d| d.note = vec![1, 2, 3]), &[2], 0, 0);
+    add("rule 1", &plan, changed(&slice, |d| d.place_origins[2] = 5), &[2], 101, 2);
+    add("rule 1, two of them", &plan, changed(&slice, |d| d.place_origins = vec![0, 6, 7]), &[2], 101, 1);
+    add("rule 1, 65,535", &plan, changed(&slice, |d| d.place_origins[2] = 65_535), &[2], 101, 2);
+    add("rule 2", &plan, changed(&slice, |d| d.transition_origins[1] = 4), &[2], 102, 1);
+    add("rule 2, both", &plan, changed(&slice, |d| d.transition_origins = vec![4, 5]), &[2], 102, 0);
+    add(
+        "rule 1 before 2",
+        &plan,
+        changed(&slice, |d| (d.place_origins[2], d.transition_origins[1]) = (5, 4)),
+        &[2],
+        101,
+        2,
+    );
+    add("rule 3", &plan, changed(&slice, |d| d.marking[1] = 2), &[2], 103, 1);
+    add("rule 3, two of them", &plan, changed(&slice, |d| d.marking = vec![2, 0, 1]), &[2], 103, 1);
+    add("rule 3, the plan's number", &plan, kerb_gap(|d| d.marking[1] = 9), &[4], 103, 4);
+    add("rule 4, weight", &plan, changed(&slice, |d| d.arcs[0].weight = 2), &[2], 104, 0);
+    add("rule 4, weight, later", &plan, changed(&slice, |d| d.arcs[4].weight = 2), &[2], 104, 1);
+    add("rule 4, arc lost", &plan, counted(&slice, |d| d.arcs.truncate(4)), &[2], 104, 1);
+    add("rule 4, arc added", &plan, counted(&slice, |d| d.arcs.insert(2, DraftArc::new(0, 0, 2, 1))), &[2], 104, 0);
+    add("rule 4, direction", &plan, changed(&slice, |d| d.arcs[1].direction = 1), &[2], 104, 0);
+    add("rule 4, place", &plan, changed(&slice, |d| d.arcs[4].place = 0), &[2], 104, 1);
+    add("rule 4, the plan's number", &plan, changed(&slice, |d| d.transition_origins[1] = 3), &[2], 104, 3);
+    add("rule 5", &plan, slice.bytes(), &[3], 105, 3);
+    add("rule 5, the lowest", &plan, slice.bytes(), &[2, 3, 4], 105, 3);
+    let left_out = |t: u16| {
+        let mut d = kerb_safety();
+        d.arcs.retain(|a| a.transition != t);
+        d.arcs.iter_mut().for_each(|a| a.transition = 0);
+        d.transition_origins = vec![1 - t];
+        d.count();
+        d.bytes()
+    };
+    add("rule 6, transition 0", &plan, left_out(0), &[2], 106, 0);
+    add("rule 6, transition 1", &plan, left_out(1), &[2], 106, 1);
+    let bare = Draft::plan(vec![0], 0, vec![]).into_slice(vec![2], vec![]);
+    add("rule 6, the lowest", &plan, bare.bytes(), &[2], 106, 0);
+    add("rule 6, lowering is changing", &plan, slice.bytes(), &[0], 106, 3);
+    let a = DraftArc::new;
+    let no_input = Draft::plan(vec![2, 0], 2, vec![a(0, 0, 0, 1), a(0, 1, 1, 1), a(1, 0, 1, 1)])
+        .into_slice(vec![0, 2], vec![0, 1]);
+    add("rule 7", &plan, no_input.bytes(), &[2], 107, 0);
+    add("rule 7, the plan's number", &plan, kerb_gap(|_| ()), &[4], 107, 2);
+    let source = Draft::plan(vec![0, 0], 1, vec![a(0, 0, 0, 2), a(0, 1, 1, 1)]).into_slice(vec![3, 4], vec![2]);
+    add("rule 8", &plan, source.bytes(), &[4], 108, 1);
+    // Lowering a kept place from outside is no fault, reading neither.
+    let lowered = Draft::plan(vec![1, 0], 2, vec![a(0, 0, 0, 1), a(0, 1, 1, 1), a(1, 0, 0, 1)]);
+    let kept = Draft::plan(vec![1, 0], 1, vec![a(0, 0, 0, 1), a(0, 1, 1, 1)]).into_slice(vec![0, 1], vec![0]);
+    add("left out, lowers a kept place", &lowered, kept.bytes(), &[1], 0, 0);
+    let read = Draft::plan(vec![1], 1, vec![a(0, 0, 0, 3), a(0, 1, 0, 3)]);
+    add("left out, reads Q", &read, one_place_of(1), &[0], 0, 0);
+    let grows = Draft::plan(vec![1], 1, vec![a(0, 0, 0, 3), a(0, 1, 0, 4)]);
+    add("left out, raises Q in a loop", &grows, one_place_of(1), &[0], 106, 0);
+    // Harmless extras: a transition without arcs, a place without arcs.
+    let spare = Draft::plan(vec![1, 5], 2, vec![a(1, 0, 0, 1)]);
+    let all = spare.clone().into_slice(vec![0, 1], vec![0, 1]);
+    add("spare place and transition", &spare, all.bytes(), &[0], 0, 0);
+
+    add("no criterion", &plan, slice.bytes(), &[], 9, 0);
+    add("criterion 5", &plan, slice.bytes(), &[5], 10, 0);
+    add("criterion equal", &plan, slice.bytes(), &[2, 2], 10, 0);
+    add("criterion falling", &plan, slice.bytes(), &[2, 1], 10, 0);
+    add("criterion before rules", &plan, changed(&slice, |d| d.place_origins[2] = 9), &[5], 10, 0);
+    for (name, bad, number) in bad_plans() {
+        list.push((format!("plan: {name}"), bad.clone(), slice.bytes(), vec![], number, 0));
+        list.push((format!("plan before slice: {name}"), bad, vec![], vec![2], number, 0));
+    }
+    for (name, bad, number) in bad_slices() {
+        list.push((format!("slice: {name}"), plan.bytes(), bad, vec![], number, 0));
+    }
+    list
+}
+
+/// Place 2 and 4 and transition 2 of the kerb, changed: bell is raised, its input is not there.
+fn kerb_gap(change: impl FnOnce(&mut Draft)) -> Vec<u8> {
+    let gap = Draft::plan(vec![0, 0], 1, vec![DraftArc::new(0, 1, 1, 1)]).into_slice(vec![2, 4], vec![2]);
+    changed(&gap, change)
+}
+
+fn one_place_of(tokens: u32) -> Vec<u8> {
+    Draft::plan(vec![tokens], 0, vec![]).into_slice(vec![0], vec![]).bytes()
+}
+
+pub fn verdicts() -> Vec<Fixed<VerdictCase>> {
+    let case = |(name, plan, slice, q, number, breaking): (String, Vec<u8>, Vec<u8>, Vec<u16>, u32, i64)| {
+        let case = VerdictCase { plan: lent(plan), slice: lent(slice), q: lent(q) };
+        fixed(name, case, number, [breaking, 0, 0])
+    };
+    judged().into_iter().map(case).collect()
+}
+
+pub fn checks() -> Vec<Fixed<CheckCase>> {
+    let case =
+        |plan: Vec<u8>, slice: Vec<u8>, q: Vec<u8>| CheckCase { plan: lent(plan), slice: lent(slice), q: lent(q) };
+    let mut list: Vec<Fixed<CheckCase>> = judged()
+        .into_iter()
+        .map(|(name, plan, slice, q, number, _)| fixed(name, case(plan, slice, to_bytes(&q)), number, [0; 3]))
+        .collect();
+    let (plan, slice) = (kerb().bytes(), kerb_safety().bytes());
+    let odd: [(&str, &[u8]); 4] = [
+        ("one byte", &[2]),
+        ("three bytes", &[2, 0, 3]),
+        ("odd, and 10 too", &[9, 9, 9]),
+        ("odd and falling", &[2, 0, 1, 0, 0]),
+    ];
+    for (name, q) in odd {
+        list.push(fixed(name, case(plan.clone(), slice.clone(), q.to_vec()), 9, [0; 3]));
+    }
+    list.push(fixed("high byte", case(plan, slice, vec![2, 1]), 10, [0; 3]));
+    let mut null = case(vec![], vec![], vec![]);
+    (null.plan.null, null.slice.null, null.q.null) = (true, true, true);
+    list.push(fixed("null pointers", null, 1, [0; 3]));
+    list
+}
+
+#[cfg(test)]
+mod tests {
+    use super::*;
+    use crate::net::Kind;
+    use crate::read::read;
+
+    fn hold<C: Case>(list: Vec<Fixed<C>>) {
+        for one in &list {
+            let answer = one.case.second();
+            if let Some(due) = one.fault(&answer) {
+                panic!("{}\n{}answer: {}\n{due}", one.name, one.case.show(), answer.show());
+            }
+        }
+    }
+
+    #[test]
+    fn lengths_told_by_the_paper() {
+        assert_eq!(kerb().bytes().len(), 108);
+        assert_eq!((kerb_safety().bytes().len(), kerb_safety().arcs.len()), (78, 5));
+        assert_eq!((kerb_branching().bytes().len(), kerb_branching().arcs.len()), (88, 6));
+        assert_eq!((kerb_safety_left().bytes().len(), kerb_safety_left().arcs.len()), (102, 7));
+    }
+
+    #[test]
+    fn good_files_are_read() {
+        let mut longest = kerb();
+        longest.note = vec![0; 65_536 - 108];
+        let files = [
+            (one_place_plan(), Kind::Plan),
+            (one_place_slice(), Kind::Slice),
+            (kerb().bytes(), Kind::Plan),
+            (longest.bytes(), Kind::Plan),
+            (Draft::plan(vec![], 1, vec![]).bytes(), Kind::Plan),
+            (full_net().bytes(), Kind::Plan),
+            (full_net().into_slice((0..1_024).collect(), (0..1_024).collect()).bytes(), Kind::Slice),
+        ];
+        for (file, kind) in files {
+            assert_eq!(read(&file, Some(kind)).map(|net| net.kind), Ok(kind));
+            assert_eq!(read(&file, None).map(|net| net.kind), Ok(kind));
+        }
+    }
+
+    #[test]
+    fn refusals_of_files() {
+        for (name, file, number) in bad_plans() {
+            assert_eq!(read(&file, Some(Kind::Plan)).err(), Some(number), "plan: {name}");
+        }
+        for (name, file, number) in bad_slices() {
+            assert_eq!(read(&file, Some(Kind::Slice)).err(), Some(number), "slice: {name}");
+        }
+        for (name, file, number) in bad_of_either() {
+            assert_eq!(read(&file, None).err(), Some(number), "either: {name}");
+        }
+    }
+
+    #[test]
+    fn effect_examples() {
+        hold(effects());
+    }
+
+    #[test]
+    fn arc_run_examples() {
+        hold(arc_runs());
+    }
+
+    #[test]
+    fn replay_examples() {
+        hold(replays());
+    }
+
+    #[test]
+    fn safety_examples() {
+        hold(cuts(Cut::Safety));
+    }
+
+    #[test]
+    fn branching_examples() {
+        hold(cuts(Cut::Branching));
+    }
+
+    #[test]
+    fn projection_examples() {
+        hold(projections());
+    }
+
+    #[test]
+    fn verdict_examples() {
+        hold(verdicts());
+    }
+
+    #[test]
+    fn check_examples() {
+        hold(checks());
+    }
+}

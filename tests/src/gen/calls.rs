@@ -1,0 +1,350 @@
+//! Whole cases of each call, aimed so that each outcome gets its share.
+
+use super::*;
+use crate::cases::*;
+use crate::cut::{self, Cut};
+use crate::net::{Kind, Net};
+use crate::project::strike_out;
+use crate::read::read;
+use crate::rng::Rng;
+use crate::write::slice_bytes;
+
+/// A plan with something in it: a place, a transition and an arc, where that much is wanted.
+fn plan_with_arcs(rng: &mut Rng) -> Draft {
+    for _ in 0..20 {
+        let draft = plan(rng);
+        if !draft.arcs.is_empty() {
+            return draft;
+        }
+    }
+    plan(rng)
+}
+
+/// A plan with two arcs and a place at least, for faults in their order.
+fn rich_plan(rng: &mut Rng) -> Draft {
+    for _ in 0..20 {
+        let draft = plan(rng);
+        if draft.arcs.len() > 1 {
+            return draft;
+        }
+    }
+    plan(rng)
+}
+
+/// A slice with tables of two entries, for faults in their order.
+fn rich_slice(rng: &mut Rng) -> Draft {
+    for _ in 0..20 {
+        let draft = any_slice(rng);
+        if draft.arcs.len() > 1 && (draft.place_origins.len() > 1 || draft.transition_origins.len() > 1) {
+            return draft;
+        }
+    }
+    any_slice(rng)
+}
+
+/// A damaged file of the kind, or of either.
+fn bad_file(rng: &mut Rng, kind: Option<Kind>) -> Vec<u8> {
+    let refusal = rng.below(9) as u32;
+    let slice = match kind {
+        Some(kind) => kind == Kind::Slice,
+        None => refusal == 8 || rng.percent(50),
+    };
+    let draft = if slice { rich_slice(rng) } else { rich_plan(rng) };
+    damage(rng, &draft, refusal)
+}
+
+/// A good file of either kind.
+fn good_file(rng: &mut Rng) -> Draft {
+    if rng.percent(60) {
+        plan_with_arcs(rng)
+    } else {
+        any_slice(rng)
+    }
+}
+
+pub fn effect_case(rng: &mut Rng) -> EffectCase {
+    let aim = rng.below(100);
+    if aim < 36 {
+        let file = bad_file(rng, None);
+        let file = lend(rng, &file);
+        return EffectCase { file, place: rng.below(6) as u16, transition: rng.below(6) as u16 };
+    }
+    let draft = good_file(rng);
+    let (places, transitions) = (draft.marking.len(), usize::from(draft.transitions));
+    let mut place = if places == 0 { 0 } else { rng.below(places) as u16 };
+    let mut transition = if transitions == 0 { 0 } else { rng.below(transitions) as u16 };
+    if !draft.arcs.is_empty() && rng.percent(70) {
+        let arc = rng.pick(&draft.arcs);
+        (place, transition) = (arc.place, arc.transition);
+    }
+    if aim < 44 || aim >= 98 {
+        place = unknown_number(rng, places);
+    }
+    if (44..54).contains(&aim) || aim >= 98 {
+        transition = unknown_number(rng, transitions);
+    }
+    let file = lend(rng, &draft.bytes());
+    EffectCase { file, place, transition }
+}
+
+/// A slice for a plan: honest, against a rule, or any slice file.
+fn some_slice(rng: &mut Rng, plan: &Net) -> Draft {
+    if plan.places() == 0 || rng.percent(20) {
+        return any_slice(rng);
+    }
+    let q = good_criterion(rng, plan.places());
+    if rng.percent(80) {
+        honest_slice(rng, plan, &q)
+    } else {
+        let rule = rng.range(1, 8) as u32;
+        slice_against(rng, plan, &q, rule)
+    }
+}
+
+pub fn arcs_case(rng: &mut Rng) -> ArcsCase {
+    let aim = rng.below(100);
+    let draft = plan_with_arcs(rng);
+    let plan_net = net_of(&draft);
+    let of_slice = rng.percent(50);
+    let slice_draft = some_slice(rng, &plan_net);
+    let named = if of_slice { &slice_draft } else { &draft };
+    let transitions = usize::from(named.transitions);
+    let mut transition = if transitions == 0 { 0 } else { rng.below(transitions) as u16 };
+    if !named.arcs.is_empty() && rng.percent(70) {
+        transition = rng.pick(&named.arcs).transition;
+    }
+    if (34..44).contains(&aim) {
+        transition = unknown_number(rng, transitions);
+    }
+    let (mut plan_file, mut slice_file) = (draft.bytes(), slice_draft.bytes());
+    if aim < 17 || aim == 33 {
+        plan_file = bad_file(rng, Some(Kind::Plan));
+    }
+    if (17..34).contains(&aim) {
+        slice_file = bad_file(rng, Some(Kind::Slice));
+    }
+    let plan = lend(rng, &plan_file);
+    let slice = lend(rng, &slice_file);
+    ArcsCase { plan, slice, of_slice, transition }
+}
+
+pub fn replay_case(rng: &mut Rng) -> ReplayCase {
+    let aim = rng.below(100);
+    let draft = good_file(rng);
+    let net = net_of(&draft);
+    let mut file = draft.bytes();
+    let list = match aim {
+        28 | 29 => long_list(rng, &net),
+        30..=36 => unknown_list(rng, &net),
+        _ => list_for(rng, &net),
+    };
+    if aim < 28 {
+        file = bad_file(rng, None);
+    }
+    // Faults met later stand there too, now and then.
+    let short = (37..44).contains(&aim) || aim < 37 && rng.percent(20);
+    let len = buffer_length(rng, net.places(), short);
+    ReplayCase { file: lend(rng, &file), list: lend(rng, &list), marking: lend_out(rng, len) }
+}
+
+pub fn cut_case(rng: &mut Rng, which: Cut) -> CutCase {
+    let aim = rng.below(100);
+    let draft = if rng.percent(97) { plan_with_arcs(rng) } else { plan(rng) };
+    let net = net_of(&draft);
+    let mut file = draft.bytes();
+    if aim < 30 {
+        file = bad_file(rng, Some(Kind::Plan));
+    }
+    let q = match aim {
+        30..=33 => Vec::new(),
+        34..=43 => bad_criterion(rng, net.places()),
+        _ if net.places() == 0 => vec![0],
+        _ => good_criterion(rng, net.places()),
+    };
+    let needed = match crate::criterion::check(&q, net.places()) {
+        Ok(()) => slice_bytes(&net, &cut::kept(&net, which, &q)).len(),
+        Err(_) => 22,
+    };
+    let short = (44..54).contains(&aim) || aim < 44 && rng.percent(20);
+    let len = buffer_length(rng, needed, short);
+    CutCase { which, plan: lend(rng, &file), q: lend(rng, &q), slice: lend_out(rng, len) }
+}
+
+pub fn project_case(rng: &mut Rng) -> ProjectCase {
+    let aim = rng.below(100);
+    let draft = plan_with_arcs(rng);
+    let net = net_of(&draft);
+    let slice_draft = some_slice(rng, &net);
+    let (mut plan_file, mut slice_file) = (draft.bytes(), slice_draft.bytes());
+    if aim < 15 || aim == 33 {
+        plan_file = bad_file(rng, Some(Kind::Plan));
+    }
+    if (15..34).contains(&aim) {
+        slice_file = bad_file(rng, Some(Kind::Slice));
+    }
+    let list = match aim {
+        34 | 35 => long_list(rng, &net),
+        36..=43 => unknown_list(rng, &net),
+        _ if net.transitions() > 0 && rng.percent(40) => {
+            (0..rng.range(1, 20)).map(|_| rng.below(net.transitions()) as u16).collect()
+        }
+        _ => list_for(rng, &net),
+    };
+    let needed = strike_out(&slice_draft.transition_origins, &list).len();
+    let short = (44..54).contains(&aim) || aim < 44 && rng.percent(20);
+    let len = buffer_length(rng, needed, short);
+    ProjectCase {
+        plan: lend(rng, &plan_file),
+        slice: lend(rng, &slice_file),
+        list: lend(rng, &list),
+        out: lend_out(rng, len),
+    }
+}
+
+/// Plan, slice and criterion for the checker.
+fn check_parts(rng: &mut Rng) -> (Vec<u8>, Vec<u8>, Vec<u16>) {
+    let aim = rng.below(100);
+    let mut draft = plan_with_arcs(rng);
+    if draft.marking.is_empty() {
+        draft = rich_plan(rng);
+    }
+    let net = net_of(&draft);
+    if net.places() == 0 {
+        return (draft.bytes(), any_slice(rng).bytes(), vec![0]);
+    }
+    let mut q = good_criterion(rng, net.places());
+    let slice_draft = match aim {
+        // Rules 1 to 8, the ones that need room in the net more often.
+        36..=75 => {
+            let rule = *rng.pick(&[1, 2, 3, 4, 4, 5, 6, 6, 7, 7, 8, 8, 8]);
+            slice_against(rng, &net, &q, rule)
+        }
+        76..=77 => any_slice(rng),
+        _ => honest_slice(rng, &net, &q),
+    };
+    let (mut plan_file, mut slice_file) = (draft.bytes(), slice_draft.bytes());
+    match aim {
+        0..=11 => plan_file = bad_file(rng, Some(Kind::Plan)),
+        12..=25 => slice_file = bad_file(rng, Some(Kind::Slice)),
+        26..=28 => q.clear(),
+        29..=34 => q = bad_criterion(rng, net.places()),
+        35 => {
+            // The right files the wrong way round.
+            std::mem::swap(&mut plan_file, &mut slice_file);
+        }
+        _ => (),
+    }
+    (plan_file, slice_file, q)
+}
+
+pub fn check_case(rng: &mut Rng) -> CheckCase {
+    let (plan, slice, q) = check_parts(rng);
+    let mut q = to_bytes(&q);
+    if rng.percent(3) {
+        q.push(rng.below(3) as u8);
+    }
+    CheckCase { plan: lend(rng, &plan), slice: lend(rng, &slice), q: lend(rng, &q) }
+}
+
+pub fn verdict_case(rng: &mut Rng) -> VerdictCase {
+    let (plan, slice, q) = check_parts(rng);
+    VerdictCase { plan: lend(rng, &plan), slice: lend(rng, &slice), q: lend(rng, &q) }
+}
+
+/// A plan, an accepted slice of it, the criterion, and a list that fires in each.
+pub struct GuaranteeCase {
+    pub plan: Vec<u8>,
+    pub slice: Vec<u8>,
+    pub q: Vec<u16>,
+    /// Plan numbers, fires in the plan.
+    pub plan_list: Vec<u16>,
+    /// The slice's numbers, fires in the slice.
+    pub slice_list: Vec<u16>,
+}
+
+pub fn guarantee_case(rng: &mut Rng) -> Option<GuaranteeCase> {
+    let plan = plan_with_arcs(rng).bytes();
+    let net = read(&plan, Some(Kind::Plan)).expect("a good plan");
+    if net.places() == 0 {
+        return None;
+    }
+    let q = good_criterion(rng, net.places());
+    // Mostly honest; some tampered ones that the checker has to tell apart.
+    let draft = if rng.percent(85) {
+        honest_slice(rng, &net, &q)
+    } else {
+        let rule = rng.range(3, 8) as u32;
+        slice_against(rng, &net, &q, rule)
+    };
+    let slice_net = net_of(&draft);
+    let most = if rng.below(500) == 0 { 2_000 } else { 30 };
+    let plan_list = firing_list(rng, &net, most);
+    let slice_list = firing_list(rng, &slice_net, most);
+    Some(GuaranteeCase { plan, slice: draft.bytes(), q, plan_list, slice_list })
+}
+
+#[cfg(test)]
+mod tests {
+    use super::*;
+    use std::collections::BTreeMap;
+
+    const CASES: u64 = 20_000;
+
+    /// Each of these numbers is the answer of one case in a hundred at least.
+    fn share<C: Case>(call: &str, make: impl Fn(&mut Rng) -> C, due: &[u32]) {
+        let mut counts = BTreeMap::new();
+        for number in 0..CASES {
+            let mut rng = Rng::for_case(1, call, number);
+            *counts.entry(make(&mut rng).second().number).or_insert(0) += 1;
+        }
+        for number in due {
+            let count = counts.get(number).copied().unwrap_or(0);
+            assert!(100 * count >= CASES, "{call}: {number} came {count} times in {CASES}");
+        }
+    }
+
+    #[test]
+    fn every_outcome_has_its_share() {
+        share("effect", effect_case, &[0, 1, 2, 3, 4, 5, 6, 7, 8, 10, 12]);
+        share("replay", replay_case, &[0, 100, 1, 2, 3, 4, 5, 6, 7, 8, 11, 12, 13]);
+        share("safety", |rng| cut_case(rng, Cut::Safety), &[0, 1, 2, 3, 4, 5, 6, 7, 9, 10, 13]);
+        share("branching", |rng| cut_case(rng, Cut::Branching), &[0, 1, 2, 3, 4, 5, 6, 7, 9, 10, 13]);
+        share("project", project_case, &[0, 1, 2, 3, 4, 5, 6, 7, 8, 11, 12, 13]);
+        let checker = [0, 1, 2, 3, 4, 5, 6, 7, 8, 9, 10, 101, 102, 103, 104, 105, 106, 107, 108];
+        share("check", check_case, &checker);
+        share("verdict", verdict_case, &checker);
+    }
+
+    #[test]
+    fn a_case_is_made_the_same_again() {
+        let make = || check_case(&mut Rng::for_case(5, "check", 77)).show();
+        assert_eq!(make(), make());
+    }
+
+    #[test]
+    fn good_files_are_good() {
+        for number in 0..CASES {
+            let mut rng = Rng::for_case(2, "files", number);
+            assert!(read(&plan(&mut rng).bytes(), Some(Kind::Plan)).is_ok(), "plan {number}");
+            assert!(read(&any_slice(&mut rng).bytes(), Some(Kind::Slice)).is_ok(), "slice {number}");
+        }
+        for number in 0..200 {
+            let mut rng = Rng::for_case(3, "limits", number);
+            assert!(read(&limit_plan(&mut rng).bytes(), Some(Kind::Plan)).is_ok(), "limit plan {number}");
+        }
+    }
+
+    #[test]
+    fn honest_slices_are_accepted() {
+        for number in 0..CASES {
+            let mut rng = Rng::for_case(4, "honest", number);
+            let plan = plan(&mut rng).bytes();
+            let net = read(&plan, Some(Kind::Plan)).unwrap();
+            if net.places() > 0 {
+                let q = good_criterion(&mut rng, net.places());
+                let slice = honest_slice(&mut rng, &net, &q).bytes();
+                assert_eq!(crate::check::verdict(&plan, &slice, &q), Ok(crate::check::Verdict::Accepted), "{number}");
+            }
+        }
+    }
+}

@@ -1,0 +1,169 @@
+//! What goes with the files: criteria, lists, numbers, and how memory is lent.
+
+use crate::cases::Lent;
+use crate::net::{Net, MAX_LIST};
+use crate::replay::{fire, initial, short_place};
+use crate::rng::Rng;
+
+/// A good criterion; there is a place at least.
+pub fn good_criterion(rng: &mut Rng, places: usize) -> Vec<u16> {
+    match rng.below(10) {
+        0..=6 => vec![rng.below(places) as u16],
+        7..=8 => {
+            let mut q: Vec<u16> = (0..rng.range(1, 4)).map(|_| rng.below(places) as u16).collect();
+            q.sort();
+            q.dedup();
+            q
+        }
+        _ => {
+            let share = *rng.pick(&[10, 50, 100]);
+            let q: Vec<u16> = (0..places as u16).filter(|_| rng.percent(share)).collect();
+            if q.is_empty() {
+                vec![0]
+            } else {
+                q
+            }
+        }
+    }
+}
+
+/// A criterion with an unknown place, or one that does not rise.
+pub fn bad_criterion(rng: &mut Rng, places: usize) -> Vec<u16> {
+    let mut q = if places == 0 { vec![0] } else { good_criterion(rng, places) };
+    let at = rng.below(q.len());
+    match rng.below(5) {
+        0 => q[at] = places as u16,
+        1 => q.push(rng.range(places, 65_535) as u16),
+        2 => q.insert(at, q[at]),
+        3 => {
+            q.push(q[0]);
+        }
+        _ => {
+            q.reverse();
+            q.push(rng.below(places + 1) as u16);
+        }
+    }
+    q
+}
+
+pub fn to_bytes(q: &[u16]) -> Vec<u8> {
+    q.iter().flat_map(|p| p.to_le_bytes()).collect()
+}
+
+/// A list that fires, of up to so many firings.
+pub fn firing_list(rng: &mut Rng, net: &Net, most: usize) -> Vec<u16> {
+    fire_on(rng, net, most).0
+}
+
+/// A list that fires and the marking it ends with.
+fn fire_on(rng: &mut Rng, net: &Net, most: usize) -> (Vec<u16>, Vec<u64>) {
+    let mut marking = initial(net);
+    let mut list = Vec::new();
+    let transitions = net.transitions();
+    let mut misses = 0;
+    while transitions > 0 && list.len() < most && misses < 12 {
+        let t = rng.below(transitions);
+        if fire(net, t, &mut marking).is_ok() {
+            list.push(t as u16);
+            misses = 0;
+        } else {
+            misses += 1;
+        }
+    }
+    (list, marking)
+}
+
+/// A list for replay: none, any numbers, one that fires, or one that sticks after some firings.
+pub fn list_for(rng: &mut Rng, net: &Net) -> Vec<u16> {
+    let transitions = net.transitions();
+    if transitions == 0 || rng.percent(4) {
+        return Vec::new();
+    }
+    let most = match rng.below(1_000) {
+        0 => *rng.pick(&[MAX_LIST, MAX_LIST, 20_000]),
+        1..=10 => 1_000,
+        _ => 24,
+    };
+    match rng.below(10) {
+        0..=1 => (0..rng.range(1, 12)).map(|_| rng.below(transitions) as u16).collect(),
+        2..=5 => {
+            let count = if most > 24 { most } else { rng.range(1, most) };
+            firing_list(rng, net, count)
+        }
+        _ => {
+            let count = rng.range(0, most - 1);
+            let (mut list, marking) = fire_on(rng, net, count);
+            let stuck: Vec<usize> =
+                (0..transitions.min(64)).filter(|&t| short_place(net, t, &marking).is_some()).collect();
+            if !stuck.is_empty() {
+                list.push(*rng.pick(&stuck) as u16);
+            }
+            for _ in 0..rng.below(4) {
+                list.push(rng.below(transitions) as u16);
+            }
+            list.truncate(MAX_LIST);
+            list
+        }
+    }
+}
+
+/// A list with an unknown number somewhere.
+pub fn unknown_list(rng: &mut Rng, net: &Net) -> Vec<u16> {
+    let mut list = list_for(rng, net);
+    list.truncate(MAX_LIST - 1);
+    let at = rng.range(0, list.len());
+    let transitions = net.transitions();
+    let far = rng.range(transitions, 65_535);
+    list.insert(at, *rng.pick(&[transitions, far, 65_535]) as u16);
+    list
+}
+
+/// A list of 65,536 entries or more, known or not.
+pub fn long_list(rng: &mut Rng, net: &Net) -> Vec<u16> {
+    let len = *rng.pick(&[MAX_LIST + 1, MAX_LIST + 1, MAX_LIST + 1, MAX_LIST + 2, 131_072]);
+    let number = rng.below(net.transitions() + 1);
+    vec![number as u16; len]
+}
+
+/// A number below the count, at it, or far beyond.
+pub fn unknown_number(rng: &mut Rng, count: usize) -> u16 {
+    let far = rng.range(count, 65_535);
+    *rng.pick(&[count, count, far, 65_535]) as u16
+}
+
+/// Entries to be read, at any alignment, with other entries before and after.
+pub fn lend<T: Copy + From<u8>>(rng: &mut Rng, part: &[T]) -> Lent<T> {
+    let start = rng.below(8);
+    let after = rng.below(5);
+    let guard = T::from(rng.next() as u8);
+    let mut cells = Vec::with_capacity(start + part.len() + after);
+    cells.resize(start, guard);
+    cells.extend_from_slice(part);
+    cells.resize(start + part.len() + after, guard);
+    Lent { cells, start, len: part.len(), null: part.is_empty() && rng.percent(50) }
+}
+
+/// Entries to be written, filled with a pattern, and a guard zone of the same on both sides.
+pub fn lend_out<T: Copy + From<u8>>(rng: &mut Rng, len: usize) -> Lent<T> {
+    let guard = 8;
+    let start = guard + rng.below(8);
+    let first = rng.next() as u8;
+    let cells = (0..start + len + guard).map(|i| T::from(first.wrapping_add(37u8.wrapping_mul(i as u8)))).collect();
+    Lent { cells, start, len, null: len == 0 && rng.percent(50) }
+}
+
+/// A length for a buffer that needs so many entries: exact, longer, or shorter where wanted.
+pub fn buffer_length(rng: &mut Rng, needed: usize, short: bool) -> usize {
+    if short && needed > 0 {
+        return match rng.below(4) {
+            0..=1 => needed - 1,
+            2 => 0,
+            _ => rng.below(needed),
+        };
+    }
+    match rng.below(3) {
+        0 => needed,
+        1 => needed + 1,
+        _ => needed + rng.below(20),
+    }
+}

@@ -1,0 +1,252 @@
+//! Good plans of many shapes: mostly tiny, some larger, a few at the limits.
+
+use super::draft::{Draft, DraftArc};
+use crate::net::{MAX_ARCS, MAX_FILE, MAX_PLACES, MAX_TRANSITIONS};
+use crate::rng::Rng;
+
+/// Any good plan, with or without a note.
+pub fn plan(rng: &mut Rng) -> Draft {
+    let mut draft = match rng.below(1_000) {
+        0..=2 => limit_plan(rng),
+        3..=9 => large(rng),
+        10..=69 => {
+            let (places, transitions) = (rng.range(1, 40), rng.range(1, 40));
+            sparse(rng, places, transitions, 4)
+        }
+        _ => tiny(rng),
+    };
+    add_note(rng, &mut draft);
+    draft
+}
+
+/// How heavy the arcs of a net are, and how full its places.
+struct Style {
+    weights: usize,
+    tokens: usize,
+}
+
+impl Style {
+    fn any(rng: &mut Rng) -> Style {
+        Style { weights: rng.below(10), tokens: rng.below(10) }
+    }
+
+    fn weight(&self, rng: &mut Rng) -> u16 {
+        match self.weights {
+            0..=3 => 1,
+            4..=7 => rng.range(1, 3) as u16,
+            8 => *rng.pick(&[1, 2, 255, 256, 257, 65_534, 65_535]),
+            _ => rng.range(1, 65_535) as u16,
+        }
+    }
+
+    fn marking(&self, rng: &mut Rng) -> u32 {
+        match self.tokens {
+            0..=3 => rng.below(3) as u32,
+            4..=6 => rng.below(12) as u32,
+            7 => *rng.pick(&[0, 1, 65_534, 65_535, 65_536]),
+            8 => *rng.pick(&[0, 1, u32::MAX - 1, u32::MAX]),
+            _ => rng.next() as u32,
+        }
+    }
+
+    /// The arcs between a transition and a place: in, out, both and equal, both and any.
+    fn arcs(&self, rng: &mut Rng, t: usize, p: usize, ins: &mut Vec<DraftArc>, outs: &mut Vec<DraftArc>) {
+        let (a, b) = (self.weight(rng), self.weight(rng));
+        match rng.below(20) {
+            0..=7 => ins.push(DraftArc::new(t, 0, p, a)),
+            8..=14 => outs.push(DraftArc::new(t, 1, p, a)),
+            15..=16 => {
+                ins.push(DraftArc::new(t, 0, p, a));
+                outs.push(DraftArc::new(t, 1, p, a));
+            }
+            _ => {
+                ins.push(DraftArc::new(t, 0, p, a));
+                outs.push(DraftArc::new(t, 1, p, b));
+            }
+        }
+    }
+
+    fn markings(&self, rng: &mut Rng, places: usize) -> Vec<u32> {
+        (0..places).map(|_| self.marking(rng)).collect()
+    }
+}
+
+/// 0 to 6 places and transitions, not both 0, any pairs joined.
+fn tiny(rng: &mut Rng) -> Draft {
+    let (places, transitions) = loop {
+        // 1 and more is the rule, so that most nets have arcs.
+        let low = if rng.percent(4) { 0 } else { 1 };
+        let counts = (rng.range(low, 6), rng.range(low, 6));
+        if counts != (0, 0) {
+            break counts;
+        }
+    };
+    let style = Style::any(rng);
+    let joined = rng.range(15, 60);
+    let mut arcs = Vec::new();
+    for t in 0..transitions {
+        let (mut ins, mut outs) = (Vec::new(), Vec::new());
+        for p in 0..places {
+            if rng.percent(joined) {
+                style.arcs(rng, t, p, &mut ins, &mut outs);
+            }
+        }
+        arcs.extend(ins);
+        arcs.extend(outs);
+    }
+    Draft::plan(style.markings(rng, places), transitions, arcs)
+}
+
+/// So many places and transitions, each transition joined with a few places.
+fn sparse(rng: &mut Rng, places: usize, transitions: usize, most: usize) -> Draft {
+    let style = Style::any(rng);
+    let mut arcs = Vec::new();
+    for t in 0..transitions {
+        let (mut ins, mut outs) = (Vec::new(), Vec::new());
+        for p in some_places(rng, places, most) {
+            style.arcs(rng, t, p, &mut ins, &mut outs);
+        }
+        if arcs.len() + ins.len() + outs.len() > MAX_ARCS {
+            break;
+        }
+        arcs.extend(ins);
+        arcs.extend(outs);
+    }
+    Draft::plan(style.markings(rng, places), transitions, arcs)
+}
+
+/// Up to so many different places, rising.
+fn some_places(rng: &mut Rng, places: usize, most: usize) -> Vec<usize> {
+    let count = rng.range(0, most);
+    let mut some: Vec<usize> = (0..count).map(|_| rng.below(places)).collect();
+    some.sort();
+    some.dedup();
+    some
+}
+
+fn large(rng: &mut Rng) -> Draft {
+    let (places, transitions) = (rng.range(1, MAX_PLACES), rng.range(1, MAX_TRANSITIONS));
+    match rng.below(4) {
+        0 => chain(rng, places.max(2), false),
+        1 => chain(rng, places.max(2), true),
+        2 => sparse(rng, places, transitions, 3),
+        _ => {
+            // Blocks that have nothing to do with each other, so that cuts keep a part.
+            let places = places.max(8);
+            let mut arcs = Vec::new();
+            let block = rng.range(2, 8);
+            for t in 0..transitions {
+                let first = (t * block) % (places - block + 1);
+                let (p, r) = (first + rng.below(block), first + rng.below(block));
+                arcs.push(DraftArc::new(t, 0, p, 1));
+                arcs.push(DraftArc::new(t, 1, r, rng.range(1, 2) as u16));
+            }
+            let style = Style::any(rng);
+            Draft::plan(style.markings(rng, places), transitions, arcs)
+        }
+    }
+}
+
+/// Transition t moves a token along a chain of places, numbered forwards or backwards.
+fn chain(rng: &mut Rng, places: usize, backwards: bool) -> Draft {
+    let transitions = places - 1;
+    let mut arcs = Vec::new();
+    for t in 0..transitions {
+        let (from, to) = if backwards { (t + 1, t) } else { (t, t + 1) };
+        arcs.push(DraftArc::new(t, 0, from, 1));
+        arcs.push(DraftArc::new(t, 1, to, 1));
+    }
+    let mut marking = vec![0; places];
+    marking[if backwards { places - 1 } else { 0 }] = rng.below(4) as u32;
+    Draft::plan(marking, transitions, arcs)
+}
+
+/// Nets at the limits of the format.
+pub fn limit_plan(rng: &mut Rng) -> Draft {
+    let mut draft = match rng.below(9) {
+        0 | 1 => full(rng, false),
+        2 => full(rng, true),
+        3 => one_wide_transition(rng),
+        4 => chain(rng, MAX_PLACES, true),
+        5 => chain(rng, MAX_PLACES, false),
+        6 => Draft::plan(vec![u32::MAX; rng.range(MAX_PLACES - 1, MAX_PLACES)], 0, Vec::new()),
+        7 => Draft::plan(Vec::new(), rng.range(MAX_TRANSITIONS - 1, MAX_TRANSITIONS), Vec::new()),
+        _ => one_wide_place(),
+    };
+    if rng.percent(50) {
+        fill_with_note(rng, &mut draft);
+    }
+    draft
+}
+
+/// All counts at their limits: four arcs a transition; heavy ones weigh and hold as much as can be.
+fn full(rng: &mut Rng, heavy: bool) -> Draft {
+    let mut arcs = Vec::new();
+    for t in 0..MAX_TRANSITIONS {
+        for direction in 0..2 {
+            let first = rng.below(MAX_PLACES);
+            let second = (first + rng.range(1, MAX_PLACES - 1)) % MAX_PLACES;
+            for p in [first.min(second), first.max(second)] {
+                let weight = if heavy { 65_535 } else { rng.range(1, 3) as u16 };
+                arcs.push(DraftArc::new(t, direction, p, weight));
+            }
+        }
+    }
+    let marking = (0..MAX_PLACES).map(|_| if heavy { u32::MAX } else { rng.below(4) as u32 }).collect();
+    Draft::plan(marking, MAX_TRANSITIONS, arcs)
+}
+
+/// One transition with 2,048 arcs among others with none or one.
+fn one_wide_transition(rng: &mut Rng) -> Draft {
+    let transitions = rng.range(1, 4);
+    let wide = rng.below(transitions);
+    let mut arcs = Vec::new();
+    for t in 0..transitions {
+        if t == wide {
+            for direction in 0..2 {
+                for p in 0..MAX_PLACES {
+                    arcs.push(DraftArc::new(t, direction, p, rng.range(1, 2) as u16));
+                }
+            }
+        } else if rng.percent(50) {
+            arcs.push(DraftArc::new(t, 1, rng.below(MAX_PLACES), 1));
+        }
+    }
+    let low = rng.below(3);
+    let marking = (0..MAX_PLACES).map(|_| (low + rng.below(200)) as u32).collect();
+    Draft::plan(marking, transitions, arcs)
+}
+
+/// Every transition takes from and gives to the last place.
+fn one_wide_place() -> Draft {
+    let mut arcs = Vec::new();
+    for t in 0..MAX_TRANSITIONS {
+        arcs.push(DraftArc::new(t, 0, MAX_PLACES - 1, 1));
+        arcs.push(DraftArc::new(t, 1, t, 1));
+        if t != MAX_PLACES - 1 {
+            arcs.push(DraftArc::new(t, 1, MAX_PLACES - 1, 2));
+        }
+    }
+    Draft::plan(vec![1; MAX_PLACES], MAX_TRANSITIONS, arcs)
+}
+
+fn add_note(rng: &mut Rng, draft: &mut Draft) {
+    match rng.below(20) {
+        _ if !draft.note.is_empty() => (),
+        0..=4 => {
+            let n = rng.range(1, 20);
+            draft.note = rng.bytes(n);
+        }
+        // A whole file as a note, trailer and all.
+        5 if draft.body_length < 1_000 => draft.note = draft.bytes(),
+        _ => (),
+    }
+}
+
+/// A note that makes the file 65,536 bytes, or a little less.
+pub fn fill_with_note(rng: &mut Rng, draft: &mut Draft) {
+    let room = MAX_FILE - draft.bytes().len() + draft.note.len();
+    let less = *rng.pick(&[0, 0, 0, 1, 2]);
+    let fill = rng.next() as u8;
+    draft.note = vec![fill; room.saturating_sub(less)];
+}

@@ -1,0 +1,229 @@
+//! Slices: by our cuts, larger honest ones, tampered ones, and any good slice file at all.
+
+use super::draft::{Draft, DraftArc};
+use super::plan::plan;
+use crate::cut::{self, Cut, Kept};
+use crate::net::{changes, raises, Kind, Net};
+use crate::read::read;
+use crate::rng::Rng;
+use crate::write::slice_bytes;
+
+pub fn net_of(draft: &Draft) -> Net {
+    read(&draft.bytes(), None).expect("a good file")
+}
+
+/// Any good slice file, with rising origins that need not fit any plan.
+pub fn any_slice(rng: &mut Rng) -> Draft {
+    let draft = plan(rng);
+    let places = rising(rng, draft.marking.len());
+    let transitions = rising(rng, usize::from(draft.transitions));
+    let mut slice = draft.into_slice(places, transitions);
+    slice.note.truncate(100);
+    slice
+}
+
+/// So many strictly rising numbers.
+fn rising(rng: &mut Rng, count: usize) -> Vec<u16> {
+    let mut next = if rng.percent(10) { 65_536 - count } else { rng.below(4) };
+    let mut numbers = Vec::new();
+    for left in (0..count).rev() {
+        numbers.push(next as u16);
+        let room = 65_535 - next - left;
+        next += 1 + if rng.percent(30) { rng.below(room.min(5) + 1) } else { 0 };
+    }
+    numbers
+}
+
+/// Sets with which a slice is accepted for Q: our safety cut or a larger one.
+pub fn honest_sets(rng: &mut Rng, plan: &Net, q: &[u16]) -> Kept {
+    match rng.below(10) {
+        0..=2 => cut::kept(plan, Cut::Safety, q),
+        3 => cut::kept(plan, Cut::Branching, q),
+        4 => Kept { places: vec![true; plan.places()], transitions: vec![true; plan.transitions()] },
+        _ => {
+            // Anything besides, then closed.
+            let mut kept = cut::kept(plan, Cut::Safety, q);
+            let share = *rng.pick(&[5, 20, 50]);
+            for p in &mut kept.places {
+                *p |= rng.percent(share);
+            }
+            for t in &mut kept.transitions {
+                *t |= rng.percent(share);
+            }
+            let wanted = if rng.percent(80) { raises } else { changes };
+            cut::grow(plan, &mut kept, wanted);
+            kept
+        }
+    }
+}
+
+/// The slice file of sets, as a draft.
+pub fn slice_of(plan: &Net, kept: &Kept) -> Draft {
+    let net = read(&slice_bytes(plan, kept), Some(Kind::Slice));
+    match net {
+        Ok(net) => Draft::of(&net),
+        // Nothing kept: a slice of no plan of ours stands in.
+        Err(_) => Draft::plan(vec![0], 0, Vec::new()).into_slice(vec![0], Vec::new()),
+    }
+}
+
+/// An accepted slice, now and then with a note.
+pub fn honest_slice(rng: &mut Rng, plan: &Net, q: &[u16]) -> Draft {
+    let kept = honest_sets(rng, plan, q);
+    let mut slice = slice_of(plan, &kept);
+    if rng.percent(10) {
+        let n = rng.range(1, 9);
+        slice.note = rng.bytes(n);
+    }
+    slice
+}
+
+/// A slice meant to break this rule first; where the net has no room for that, it breaks another or none.
+pub fn slice_against(rng: &mut Rng, plan: &Net, q: &[u16], rule: u32) -> Draft {
+    let mut kept = honest_sets(rng, plan, q);
+    match rule {
+        5..=8 => {
+            leave_out(rng, plan, q, rule, &mut kept);
+            slice_of(plan, &kept)
+        }
+        _ => {
+            let mut slice = slice_of(plan, &kept);
+            tamper(rng, plan, &mut slice, rule);
+            // Now and then a later rule is broken as well.
+            if rng.percent(15) {
+                let other = rng.range(1, 4) as u32;
+                tamper(rng, plan, &mut slice, other);
+            }
+            slice
+        }
+    }
+}
+
+/// Leaves places or transitions out of closed sets so that rule 5, 6, 7 or 8 is broken.
+fn leave_out(rng: &mut Rng, plan: &Net, q: &[u16], rule: u32, kept: &mut Kept) {
+    let mut in_q = vec![false; plan.places()];
+    q.iter().for_each(|&p| in_q[usize::from(p)] = true);
+    let kept_places = |kept: &Kept| (0..plan.places()).filter(|&p| kept.places[p]).collect::<Vec<_>>();
+    let kept_transitions = |kept: &Kept| (0..plan.transitions()).filter(|&t| kept.transitions[t]).collect::<Vec<_>>();
+    let drops = if rng.percent(70) { 1 } else { rng.range(1, 3) };
+    for _ in 0..drops {
+        match rule {
+            5 => kept.places[usize::from(*rng.pick(q))] = false,
+            6 => {
+                let those: Vec<usize> =
+                    kept_transitions(kept).into_iter().filter(|&t| plan.has_effect(t, &in_q, changes)).collect();
+                if !those.is_empty() {
+                    kept.transitions[*rng.pick(&those)] = false;
+                }
+            }
+            7 => {
+                let mut inputs = vec![false; plan.places()];
+                for t in kept_transitions(kept) {
+                    plan.in_and_out(t).0.iter().for_each(|a| inputs[usize::from(a.place)] = true);
+                }
+                let those: Vec<usize> = kept_places(kept).into_iter().filter(|&p| inputs[p] && !in_q[p]).collect();
+                if !those.is_empty() {
+                    kept.places[*rng.pick(&those)] = false;
+                } else if let Some(t) = (0..plan.transitions()).find(|&t| !kept.transitions[t]) {
+                    kept.transitions[t] = true;
+                }
+            }
+            _ => {
+                let those: Vec<usize> = kept_transitions(kept)
+                    .into_iter()
+                    .filter(|&t| !plan.has_effect(t, &in_q, changes) && plan.has_effect(t, &kept.places, raises))
+                    .collect();
+                if !those.is_empty() {
+                    kept.transitions[*rng.pick(&those)] = false;
+                } else if let Some(p) = (0..plan.places()).find(|&p| !kept.places[p]) {
+                    kept.places[p] = true;
+                }
+            }
+        }
+    }
+}
+
+/// Spoils a slice so that rule 1, 2, 3 or 4 is broken, and its file stays good.
+fn tamper(rng: &mut Rng, plan: &Net, slice: &mut Draft, rule: u32) {
+    match rule {
+        1 => raise_origins(rng, &mut slice.place_origins, plan.places()),
+        2 if slice.transition_origins.is_empty() => {
+            let beyond = rng.range(plan.transitions(), 65_535) as u16;
+            slice.transition_origins.push(beyond);
+        }
+        2 => raise_origins(rng, &mut slice.transition_origins, plan.transitions()),
+        3 => {
+            if !slice.marking.is_empty() {
+                let p = rng.below(slice.marking.len());
+                let bit = if rng.percent(50) { 0 } else { rng.below(32) };
+                slice.marking[p] ^= 1 << bit;
+            }
+        }
+        _ => tamper_arcs(rng, plan, slice),
+    }
+    slice.count();
+}
+
+/// Moves the last few origins out of the plan's range.
+fn raise_origins(rng: &mut Rng, origins: &mut [u16], count: usize) {
+    if origins.is_empty() {
+        return;
+    }
+    let moved = rng.range(1, origins.len().min(3));
+    let from = if rng.percent(60) { count } else { rng.range(count, 65_000) };
+    let first = origins.len() - moved;
+    // Still rising, also where the entries before are beyond the plan already.
+    let from = if first > 0 { from.max(usize::from(origins[first - 1]) + 1) } else { from };
+    for i in first..origins.len() {
+        origins[i] = (from + i - first) as u16;
+    }
+}
+
+/// A weight changed, an arc lost, added, turned or moved, or a transition's origin moved.
+fn tamper_arcs(rng: &mut Rng, plan: &Net, slice: &mut Draft) {
+    let places = slice.marking.len();
+    let transitions = slice.transition_origins.len();
+    let arcs = slice.arcs.len();
+    let way = if arcs == 0 { rng.range(4, 5) } else { rng.below(6) };
+    match way {
+        0 => {
+            let i = rng.below(arcs);
+            let weight = slice.arcs[i].weight;
+            slice.arcs[i].weight =
+                if weight == 65_535 || (weight > 1 && rng.percent(50)) { weight - 1 } else { weight + 1 };
+        }
+        1 => {
+            slice.arcs.remove(rng.below(arcs));
+        }
+        2 => {
+            let i = rng.below(arcs);
+            slice.arcs[i].direction ^= 1;
+        }
+        3 => {
+            let i = rng.below(arcs);
+            slice.arcs[i].place = rng.below(places) as u16;
+        }
+        4 => {
+            if places > 0 && transitions > 0 {
+                let (t, p) = (rng.below(transitions), rng.below(places));
+                let arc = DraftArc::new(t, rng.below(2) as u8, p, rng.range(1, 3) as u16);
+                slice.arcs.push(arc);
+            }
+        }
+        _ => {
+            // Another number between the neighbours.
+            if transitions > 0 {
+                let i = rng.below(transitions);
+                let low = if i == 0 { 0 } else { usize::from(slice.transition_origins[i - 1]) + 1 };
+                let high = slice.transition_origins.get(i + 1).map_or(plan.transitions(), |&o| usize::from(o));
+                if low < high {
+                    slice.transition_origins[i] = rng.range(low, high - 1) as u16;
+                }
+            }
+        }
+    }
+    // The file must stay readable.
+    slice.arcs.sort_by_key(|a| (a.transition, a.direction, a.place));
+    slice.arcs.dedup_by_key(|a| (a.transition, a.direction, a.place));
+    slice.arcs.truncate(crate::net::MAX_ARCS);
+}
