@@ -9,7 +9,7 @@
 #include <string.h>
 
 /* Places 0 waiting (2 tokens), 1 bay free (1), 2 in bay, 3 left, 4 bell (0 each). */
-static const uint8_t kerb[108] = {
+static const uint8_t plan[108] = {
     2, 0, 0, 0,  1, 0, 0, 0,  0, 0, 0, 0,  0, 0, 0, 0,  0, 0, 0, 0,
     /* transition, direction, zero, place, weight */
     0, 0,  0, 0,  0, 0,  1, 0,
@@ -69,16 +69,16 @@ static void run_is(const char *what, const uint8_t *plan, size_t plan_n, const u
 static void effects(void)
 {
     uint8_t spoilt[108];
-    effect_is("effect of 2 on 3", kerb, 108, 3, 2, 0, -2);
-    effect_is("effect of 1 on 0", kerb, 108, 0, 1, 0, 0);
-    effect_is("effect of 1 on 1", kerb, 108, 1, 1, 0, 1);
+    effect_is("effect of 2 on 3", plan, 108, 3, 2, 0, -2);
+    effect_is("effect of 1 on 0", plan, 108, 0, 1, 0, 0);
+    effect_is("effect of 1 on 1", plan, 108, 1, 1, 0, 1);
     effect_is("effect of 1 on 2 in the slice", cut, 78, 2, 1, 0, -1);
-    effect_is("unknown place", kerb, 108, 5, 0, 10, 0);
-    effect_is("unknown transition", kerb, 108, 0, 4, 12, 0);
-    effect_is("both unknown", kerb, 108, 5, 4, 10, 0);
+    effect_is("unknown place", plan, 108, 5, 0, 10, 0);
+    effect_is("unknown transition", plan, 108, 0, 4, 12, 0);
+    effect_is("both unknown", plan, 108, 5, 4, 10, 0);
     effect_is("no bytes", NULL, 0, 0, 0, 1, 0);
-    effect_is("15 bytes", kerb + 93, 15, 0, 0, 1, 0);
-    effect_is("front byte lost", kerb + 1, 107, 0, 0, 5, 0);
+    effect_is("15 bytes", plan + 93, 15, 0, 0, 1, 0);
+    effect_is("front byte lost", plan + 1, 107, 0, 0, 5, 0);
     /* Offsets in the file: trailer at 92, first arc at 20. */
     const struct {
         const char *what;
@@ -97,7 +97,7 @@ static void effects(void)
         {"equal arcs", 32, 0, 7},
     };
     for (size_t i = 0; i < sizeof faults / sizeof faults[0]; i++) {
-        memcpy(spoilt, kerb, 108);
+        memcpy(spoilt, plan, 108);
         spoilt[faults[i].at] = faults[i].value;
         effect_is(faults[i].what, spoilt, 108, 0, 0, faults[i].number, 0);
     }
@@ -109,23 +109,23 @@ static void effects(void)
 
 static void arcs(void)
 {
-    run_is("plan, transition 0", kerb, 108, cut, 78, false, 0, 24, 20);
-    run_is("plan, transition 2", kerb, 108, cut, 78, false, 2, 16, 68);
-    run_is("plan, transition 3", kerb, 108, cut, 78, false, 3, 8, 84);
-    run_is("slice, transition 0", kerb, 108, cut, 78, true, 0, 24, 12);
-    run_is("slice, transition 1", kerb, 108, cut, 78, true, 1, 16, 36);
-    run_is("plan, unknown", kerb, 108, cut, 78, false, 4, 0, 0);
-    run_is("slice, unknown", kerb, 108, cut, 78, true, 2, 0, 0);
-    run_is("files the wrong way round", cut, 78, kerb, 108, false, 0, 0, 0);
+    run_is("plan, transition 0", plan, 108, cut, 78, false, 0, 24, 20);
+    run_is("plan, transition 2", plan, 108, cut, 78, false, 2, 16, 68);
+    run_is("plan, transition 3", plan, 108, cut, 78, false, 3, 8, 84);
+    run_is("slice, transition 0", plan, 108, cut, 78, true, 0, 24, 12);
+    run_is("slice, transition 1", plan, 108, cut, 78, true, 1, 16, 36);
+    run_is("plan, unknown", plan, 108, cut, 78, false, 4, 0, 0);
+    run_is("slice, unknown", plan, 108, cut, 78, true, 2, 0, 0);
+    run_is("files the wrong way round", cut, 78, plan, 108, false, 0, 0, 0);
     run_is("no plan", NULL, 0, cut, 78, true, 0, 0, 0);
-    run_is("no slice", kerb, 108, NULL, 0, false, 0, 0, 0);
+    run_is("no slice", plan, 108, NULL, 0, false, 0, 0, 0);
     run_is("no files", NULL, 0, NULL, 0, false, 0, 0, 0);
 
     /* A user reads the weight of the first arc of the run: bytes 6 and 7 of it. */
     uint32_t start = 0;
-    uint32_t length = nesfoal_arcs(kerb, 108, cut, 78, false, 2, &start);
+    uint32_t length = nesfoal_arcs(plan, 108, cut, 78, false, 2, &start);
     expect("two arcs", length / 8, 2);
-    expect("weight of the first", kerb[start + 6] + 256 * kerb[start + 7], 2);
+    expect("weight of the first", plan[start + 6] + 256 * plan[start + 7], 2);
 }
 
 int main(void)

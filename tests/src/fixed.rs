@@ -46,7 +46,7 @@ pub fn one_place_slice() -> Vec<u8> {
 }
 
 /// The small kerb.
-pub fn kerb() -> Draft {
+pub fn small_plan() -> Draft {
     let arc = DraftArc::new;
     let arcs = vec![
         arc(0, 0, 0, 1),
@@ -63,15 +63,15 @@ pub fn kerb() -> Draft {
 }
 
 /// The kerb's safety cut for {2}, put down by hand.
-pub fn kerb_safety() -> Draft {
+pub fn small_safety() -> Draft {
     let arc = DraftArc::new;
     let arcs = vec![arc(0, 0, 0, 1), arc(0, 0, 1, 1), arc(0, 1, 2, 1), arc(1, 0, 2, 1), arc(1, 1, 1, 1)];
     Draft::plan(vec![2, 1, 0], 2, arcs).into_slice(vec![0, 1, 2], vec![0, 1])
 }
 
 /// The kerb's branching cut for {2}, put down by hand.
-pub fn kerb_branching() -> Draft {
-    let mut draft = kerb_safety();
+pub fn small_branching() -> Draft {
+    let mut draft = small_safety();
     draft.arcs.push(DraftArc::new(2, 0, 0, 1));
     draft.transition_origins.push(3);
     draft.count();
@@ -79,8 +79,8 @@ pub fn kerb_branching() -> Draft {
 }
 
 /// The kerb's safety cut for {3}, put down by hand.
-pub fn kerb_safety_left() -> Draft {
-    let mut draft = kerb();
+pub fn small_safety_for_3() -> Draft {
+    let mut draft = small_plan();
     draft.arcs.retain(|a| a.transition != 3 && a.place != 4);
     draft.marking.pop();
     draft.into_slice(vec![0, 1, 2, 3], vec![0, 1, 2])
@@ -102,7 +102,7 @@ fn counted(draft: &Draft, change: impl FnOnce(&mut Draft)) -> Vec<u8> {
 
 /// Damaged files that every call refuses with this number, made of the kerb or of its slice.
 pub fn bad_files(slice: bool) -> Vec<(String, Vec<u8>, u32)> {
-    let good = if slice { kerb_safety() } else { kerb() };
+    let good = if slice { small_safety() } else { small_plan() };
     let (p, t, a) = (good.places, good.transitions, good.arc_count);
     let bytes = good.bytes();
     let n = bytes.len();
@@ -171,7 +171,7 @@ pub fn bad_files(slice: bool) -> Vec<(String, Vec<u8>, u32)> {
 
 /// Files that are refused with 3 where the other kind is due.
 fn other_kind(slice: bool) -> Vec<(String, Vec<u8>, u32)> {
-    let file = if slice { kerb() } else { kerb_safety() };
+    let file = if slice { small_plan() } else { small_safety() };
     vec![("the other kind".into(), file.bytes(), 3)]
 }
 
@@ -226,17 +226,17 @@ pub fn full_net() -> Draft {
 pub fn effects() -> Vec<Fixed<EffectCase>> {
     let case = |file: &[u8], place, transition| EffectCase { file: lent(file), place, transition };
     let mut list = Vec::new();
-    let kerb = kerb().bytes();
+    let small = small_plan().bytes();
     let due: [[i64; 4]; 5] = [[-1, 0, 0, -1], [-1, 1, 0, 0], [1, -1, 0, 0], [0, 1, -2, 0], [0, 0, 1, 0]];
     for p in 0..5u16 {
         for t in 0..4u16 {
             let effect = due[usize::from(p)][usize::from(t)];
-            list.push(fixed(format!("kerb, effect of {t} on {p}"), case(&kerb, p, t), 0, [effect, 0, 0]));
+            list.push(fixed(format!("kerb, effect of {t} on {p}"), case(&small, p, t), 0, [effect, 0, 0]));
         }
     }
     let numbers = [(5, 0, 10), (65_535, 0, 10), (0, 4, 12), (4, 65_535, 12), (5, 4, 10)];
     for (p, t, number) in numbers {
-        list.push(fixed(format!("kerb, effect of {t} on {p}"), case(&kerb, p, t), number, [0; 3]));
+        list.push(fixed(format!("kerb, effect of {t} on {p}"), case(&small, p, t), number, [0; 3]));
     }
     let nets = [
         ("reader", loop_net(3, 3, 0), 0),
@@ -246,7 +246,7 @@ pub fn effects() -> Vec<Fixed<EffectCase>> {
         ("weight 65,535 both", loop_net(65_535, 65_535, 0), 0),
         ("65,535 in", Draft::plan(vec![0], 1, vec![DraftArc::new(0, 0, 0, 65_535)]).bytes(), -65_535),
         ("65,535 out", Draft::plan(vec![0], 1, vec![DraftArc::new(0, 1, 0, 65_535)]).bytes(), 65_535),
-        ("slice", kerb_safety().bytes(), -1),
+        ("slice", small_safety().bytes(), -1),
         ("full net", full_net().bytes(), 0),
     ];
     for (name, file, effect) in nets {
@@ -260,7 +260,7 @@ pub fn effects() -> Vec<Fixed<EffectCase>> {
     for (name, file, number) in edges {
         list.push(fixed(name, case(&file, 0, 0), number, [0; 3]));
     }
-    let mut longest = self::kerb();
+    let mut longest = self::small_plan();
     longest.note = vec![9; 65_536 - 108];
     list.push(fixed("65,536 bytes", case(&longest.bytes(), 3, 2), 0, [-2, 0, 0]));
     for (name, file, number) in bad_of_either() {
@@ -280,7 +280,7 @@ pub fn arc_runs() -> Vec<Fixed<ArcsCase>> {
         transition,
     };
     let mut list = Vec::new();
-    let (plan, slice) = (kerb().bytes(), kerb_safety().bytes());
+    let (plan, slice) = (small_plan().bytes(), small_safety().bytes());
     // Length and start: the kerb's arcs start at 20, those of its slice at 12.
     let runs = [
         (false, 0, 24, 20),
@@ -298,10 +298,10 @@ pub fn arc_runs() -> Vec<Fixed<ArcsCase>> {
         let which = if of_slice { "slice" } else { "kerb" };
         list.push(fixed(format!("{which}, transition {t}"), case(&plan, &slice, of_slice, t), length, [start, 0, 0]));
     }
-    let mut noted = kerb();
+    let mut noted = small_plan();
     noted.note = vec![1; 7];
     list.push(fixed("a note moves the run", case(&noted.bytes(), &slice, false, 1), 24, [51, 0, 0]));
-    let mut noted = kerb_safety();
+    let mut noted = small_safety();
     noted.note = vec![1; 3];
     list.push(fixed("a note moves the slice's run", case(&plan, &noted.bytes(), true, 1), 16, [39, 0, 0]));
     let bare = Draft::plan(vec![1], 2, vec![DraftArc::new(1, 0, 0, 1)]).bytes();
@@ -346,26 +346,26 @@ pub fn replays() -> Vec<Fixed<ReplayCase>> {
             one.cells = Some(Cells::Longs(after(len, marking)));
             list.push(one);
         };
-    let kerb = kerb().bytes();
+    let small = small_plan().bytes();
     for len in [5, 6, 9] {
         let name = |list: &str| format!("kerb, {list}, {len} entries lent");
-        add(name("0,1,0,1,2"), &kerb, &[0, 1, 0, 1, 2], len, 0, (0, 0), &[0, 1, 0, 0, 1]);
-        add(name("the empty list"), &kerb, &[], len, 0, (0, 0), &[2, 1, 0, 0, 0]);
-        add(name("0,0"), &kerb, &[0, 0], len, 100, (1, 1), &[1, 0, 1, 0, 0]);
-        add(name("3,3,0"), &kerb, &[3, 3, 0], len, 100, (2, 0), &[0, 1, 0, 0, 0]);
-        add(name("1 at once"), &kerb, &[1], len, 100, (0, 2), &[2, 1, 0, 0, 0]);
+        add(name("0,1,0,1,2"), &small, &[0, 1, 0, 1, 2], len, 0, (0, 0), &[0, 1, 0, 0, 1]);
+        add(name("the empty list"), &small, &[], len, 0, (0, 0), &[2, 1, 0, 0, 0]);
+        add(name("0,0"), &small, &[0, 0], len, 100, (1, 1), &[1, 0, 1, 0, 0]);
+        add(name("3,3,0"), &small, &[3, 3, 0], len, 100, (2, 0), &[0, 1, 0, 0, 0]);
+        add(name("1 at once"), &small, &[1], len, 100, (0, 2), &[2, 1, 0, 0, 0]);
     }
-    add("3,0,1 leaves waiting 0".into(), &kerb, &[3, 0, 1], 5, 0, (0, 0), &[0, 1, 0, 1, 0]);
-    add("its projection leaves waiting 1".into(), &kerb_safety().bytes(), &[0, 1], 3, 0, (0, 0), &[1, 1, 0]);
-    add("in a slice, the T of the slice".into(), &kerb_safety().bytes(), &[2], 3, 12, (0, 0), &[]);
-    add("unknown number".into(), &kerb, &[0, 4], 5, 12, (0, 0), &[]);
-    add("unknown after a stuck one".into(), &kerb, &[1, 65_535], 5, 12, (0, 0), &[]);
-    add("4 entries lent".into(), &kerb, &[0], 4, 13, (0, 0), &[]);
-    add("none lent".into(), &kerb, &[0], 0, 13, (0, 0), &[]);
-    add("list before buffer".into(), &kerb, &[4], 4, 12, (0, 0), &[]);
-    add("65,536 firings".into(), &kerb, &[0; 65_536], 5, 11, (0, 0), &[]);
-    add("length before numbers".into(), &kerb, &[4; 65_536], 5, 11, (0, 0), &[]);
-    add("65,535 firings stick".into(), &kerb, &[0; 65_535], 5, 100, (1, 1), &[1, 0, 1, 0, 0]);
+    add("3,0,1 leaves waiting 0".into(), &small, &[3, 0, 1], 5, 0, (0, 0), &[0, 1, 0, 1, 0]);
+    add("its projection leaves waiting 1".into(), &small_safety().bytes(), &[0, 1], 3, 0, (0, 0), &[1, 1, 0]);
+    add("in a slice, the T of the slice".into(), &small_safety().bytes(), &[2], 3, 12, (0, 0), &[]);
+    add("unknown number".into(), &small, &[0, 4], 5, 12, (0, 0), &[]);
+    add("unknown after a stuck one".into(), &small, &[1, 65_535], 5, 12, (0, 0), &[]);
+    add("4 entries lent".into(), &small, &[0], 4, 13, (0, 0), &[]);
+    add("none lent".into(), &small, &[0], 0, 13, (0, 0), &[]);
+    add("list before buffer".into(), &small, &[4], 4, 12, (0, 0), &[]);
+    add("65,536 firings".into(), &small, &[0; 65_536], 5, 11, (0, 0), &[]);
+    add("length before numbers".into(), &small, &[4; 65_536], 5, 11, (0, 0), &[]);
+    add("65,535 firings stick".into(), &small, &[0; 65_535], 5, 100, (1, 1), &[1, 0, 1, 0, 0]);
     let well = Draft::plan(vec![u32::MAX], 1, vec![DraftArc::new(0, 1, 0, 65_535)]).bytes();
     let most = 4_294_967_295 + 65_535 * 65_535;
     add("the most tokens there can be".into(), &well, &[0; 65_535], 1, 0, (0, 0), &[most]);
@@ -400,7 +400,7 @@ pub fn replays() -> Vec<Fixed<ReplayCase>> {
 pub fn cuts(which: Cut) -> Vec<Fixed<CutCase>> {
     let case = |plan: &[u8], q: &[u16], len| CutCase { which, plan: lent(plan), q: lent(q), slice: buffer(len) };
     let mut list = Vec::new();
-    let kerb = kerb().bytes();
+    let small = small_plan().bytes();
     let mut written = |name: &str, plan: &[u8], q: &[u16], slice: &[u8], places, transitions| {
         for more in [0, 1, 30] {
             let len = slice.len() + more;
@@ -419,10 +419,10 @@ pub fn cuts(which: Cut) -> Vec<Fixed<CutCase>> {
     written("one place", &one_place_plan(), &[0], &one_place_slice(), 1, 0);
     match which {
         Cut::Safety => {
-            written("kerb for {2}", &kerb, &[2], &kerb_safety().bytes(), 3, 2);
-            written("kerb for {3}", &kerb, &[3], &kerb_safety_left().bytes(), 4, 3);
+            written("kerb for {2}", &small, &[2], &small_safety().bytes(), 3, 2);
+            written("kerb for {3}", &small, &[3], &small_safety_for_3().bytes(), 4, 3);
         }
-        Cut::Branching => written("kerb for {2}", &kerb, &[2], &kerb_branching().bytes(), 3, 3),
+        Cut::Branching => written("kerb for {2}", &small, &[2], &small_branching().bytes(), 3, 3),
     }
     // A transition that only reads a place of Q is not kept.
     let reader = Draft::plan(vec![4], 0, vec![]).into_slice(vec![0], vec![]).bytes();
@@ -449,14 +449,14 @@ pub fn cuts(which: Cut) -> Vec<Fixed<CutCase>> {
         one.cells = Some(Cells::Bytes(after(len, &[])));
         list.push(one);
     };
-    refused("no criterion".into(), &kerb, &[], 200, 9);
+    refused("no criterion".into(), &small, &[], 200, 9);
     refused("no place, no criterion".into(), &Draft::plan(vec![], 1, vec![]).bytes(), &[], 200, 9);
     refused("no place".into(), &Draft::plan(vec![], 1, vec![]).bytes(), &[0], 200, 10);
-    refused("place P".into(), &kerb, &[5], 200, 10);
-    refused("place 65,535 last".into(), &kerb, &[0, 65_535], 200, 10);
-    refused("criterion equal".into(), &kerb, &[2, 2], 200, 10);
-    refused("criterion falling".into(), &kerb, &[2, 1], 200, 10);
-    refused("criterion before buffer".into(), &kerb, &[5], 0, 10);
+    refused("place P".into(), &small, &[5], 200, 10);
+    refused("place 65,535 last".into(), &small, &[0, 65_535], 200, 10);
+    refused("criterion equal".into(), &small, &[2, 2], 200, 10);
+    refused("criterion falling".into(), &small, &[2, 1], 200, 10);
+    refused("criterion before buffer".into(), &small, &[5], 0, 10);
     for (name, bad, number) in bad_plans() {
         refused(name, &bad, &[], 0, number);
     }
@@ -477,7 +477,7 @@ pub fn projections() -> Vec<Fixed<ProjectCase>> {
         list: lent(list),
         out: buffer(len),
     };
-    let (plan, slice, branching) = (kerb().bytes(), kerb_safety().bytes(), kerb_branching().bytes());
+    let (plan, slice, branching) = (small_plan().bytes(), small_safety().bytes(), small_branching().bytes());
     let mut list = Vec::new();
     let mut add = |name: String, plan: &[u8], slice: &[u8], numbers: &[u16], len: usize, number, due: &[u16]| {
         let mut one = fixed(name, case(plan, slice, numbers, len), number, [due.len() as i64, 0, 0]);
@@ -497,7 +497,7 @@ pub fn projections() -> Vec<Fixed<ProjectCase>> {
     add("list before buffer".into(), &plan, &slice, &[0, 4], 0, 12, &[]);
     add("65,536 entries".into(), &plan, &slice, &[0; 65_536], 65_536, 11, &[]);
     add("65,535 entries".into(), &plan, &slice, &[1; 65_535], 65_535, 0, &[1; 65_535]);
-    let beyond = counted(&kerb_safety(), |d| d.transition_origins = vec![2, 9]);
+    let beyond = counted(&small_safety(), |d| d.transition_origins = vec![2, 9]);
     add("origins beyond the plan".into(), &plan, &beyond, &[0, 2, 1, 2], 4, 0, &[0, 0]);
     for (name, bad, number) in bad_plans() {
         add(format!("plan: {name}"), &bad, &slice, &[9], 0, number, &[]);
@@ -512,15 +512,15 @@ pub fn projections() -> Vec<Fixed<ProjectCase>> {
 /// Cases of the checker: a name, the three parts, the answer and its number.
 fn judged() -> Vec<(String, Vec<u8>, Vec<u8>, Vec<u16>, u32, i64)> {
     let mut list: Vec<(String, Vec<u8>, Vec<u8>, Vec<u16>, u32, i64)> = Vec::new();
-    let (plan, slice) = (kerb(), kerb_safety());
+    let (plan, slice) = (small_plan(), small_safety());
     let mut add = |name: &str, plan: &Draft, slice: Vec<u8>, q: &[u16], number, breaking| {
         list.push((name.into(), plan.bytes(), slice, q.to_vec(), number, breaking));
     };
-    let whole = kerb().into_slice((0..5).collect(), (0..4).collect());
+    let whole = small_plan().into_slice((0..5).collect(), (0..4).collect());
     add("safety cut for {2}", &plan, slice.bytes(), &[2], 0, 0);
-    add("branching cut for {2}", &plan, kerb_branching().bytes(), &[2], 0, 0);
-    add("safety cut for {3}", &plan, kerb_safety_left().bytes(), &[3], 0, 0);
-    add("safety cut for {3} serves {2}", &plan, kerb_safety_left().bytes(), &[2], 0, 0);
+    add("branching cut for {2}", &plan, small_branching().bytes(), &[2], 0, 0);
+    add("safety cut for {3}", &plan, small_safety_for_3().bytes(), &[3], 0, 0);
+    add("safety cut for {3} serves {2}", &plan, small_safety_for_3().bytes(), &[2], 0, 0);
     add("the whole plan", &plan, whole.bytes(), &[0, 1, 2, 3, 4], 0, 0);
     add("a note", &plan, counted(&slice, |d| d.note = vec![1, 2, 3]), &[2], 0, 0);
     add("rule 1", &plan, changed(&slice, |d| d.place_origins[2] = 5), &[2], 101, 2);
@@ -538,7 +538,7 @@ fn judged() -> Vec<(String, Vec<u8>, Vec<u8>, Vec<u16>, u32, i64)> {
     );
     add("rule 3", &plan, changed(&slice, |d| d.marking[1] = 2), &[2], 103, 1);
     add("rule 3, two of them", &plan, changed(&slice, |d| d.marking = vec![2, 0, 1]), &[2], 103, 1);
-    add("rule 3, the plan's number", &plan, kerb_gap(|d| d.marking[1] = 9), &[4], 103, 4);
+    add("rule 3, the plan's number", &plan, small_with_gap(|d| d.marking[1] = 9), &[4], 103, 4);
     add("rule 4, weight", &plan, changed(&slice, |d| d.arcs[0].weight = 2), &[2], 104, 0);
     add("rule 4, weight, later", &plan, changed(&slice, |d| d.arcs[4].weight = 2), &[2], 104, 1);
     add("rule 4, arc lost", &plan, counted(&slice, |d| d.arcs.truncate(4)), &[2], 104, 1);
@@ -549,7 +549,7 @@ fn judged() -> Vec<(String, Vec<u8>, Vec<u8>, Vec<u16>, u32, i64)> {
     add("rule 5", &plan, slice.bytes(), &[3], 105, 3);
     add("rule 5, the lowest", &plan, slice.bytes(), &[2, 3, 4], 105, 3);
     let left_out = |t: u16| {
-        let mut d = kerb_safety();
+        let mut d = small_safety();
         d.arcs.retain(|a| a.transition != t);
         d.arcs.iter_mut().for_each(|a| a.transition = 0);
         d.transition_origins = vec![1 - t];
@@ -565,7 +565,7 @@ fn judged() -> Vec<(String, Vec<u8>, Vec<u8>, Vec<u16>, u32, i64)> {
     let no_input = Draft::plan(vec![2, 0], 2, vec![a(0, 0, 0, 1), a(0, 1, 1, 1), a(1, 0, 1, 1)])
         .into_slice(vec![0, 2], vec![0, 1]);
     add("rule 7", &plan, no_input.bytes(), &[2], 107, 0);
-    add("rule 7, the plan's number", &plan, kerb_gap(|_| ()), &[4], 107, 2);
+    add("rule 7, the plan's number", &plan, small_with_gap(|_| ()), &[4], 107, 2);
     let source = Draft::plan(vec![0, 0], 1, vec![a(0, 0, 0, 2), a(0, 1, 1, 1)]).into_slice(vec![3, 4], vec![2]);
     add("rule 8", &plan, source.bytes(), &[4], 108, 1);
     // Lowering a kept place from outside is no fault, reading neither.
@@ -597,7 +597,7 @@ fn judged() -> Vec<(String, Vec<u8>, Vec<u8>, Vec<u16>, u32, i64)> {
 }
 
 /// Place 2 and 4 and transition 2 of the kerb, changed: bell is raised, its input is not there.
-fn kerb_gap(change: impl FnOnce(&mut Draft)) -> Vec<u8> {
+fn small_with_gap(change: impl FnOnce(&mut Draft)) -> Vec<u8> {
     let gap = Draft::plan(vec![0, 0], 1, vec![DraftArc::new(0, 1, 1, 1)]).into_slice(vec![2, 4], vec![2]);
     changed(&gap, change)
 }
@@ -621,7 +621,7 @@ pub fn checks() -> Vec<Fixed<CheckCase>> {
         .into_iter()
         .map(|(name, plan, slice, q, number, _)| fixed(name, case(plan, slice, to_bytes(&q)), number, [0; 3]))
         .collect();
-    let (plan, slice) = (kerb().bytes(), kerb_safety().bytes());
+    let (plan, slice) = (small_plan().bytes(), small_safety().bytes());
     let odd: [(&str, &[u8]); 4] = [
         ("one byte", &[2]),
         ("three bytes", &[2, 0, 3]),
@@ -655,20 +655,20 @@ mod tests {
 
     #[test]
     fn lengths_told_by_the_paper() {
-        assert_eq!(kerb().bytes().len(), 108);
-        assert_eq!((kerb_safety().bytes().len(), kerb_safety().arcs.len()), (78, 5));
-        assert_eq!((kerb_branching().bytes().len(), kerb_branching().arcs.len()), (88, 6));
-        assert_eq!((kerb_safety_left().bytes().len(), kerb_safety_left().arcs.len()), (102, 7));
+        assert_eq!(small_plan().bytes().len(), 108);
+        assert_eq!((small_safety().bytes().len(), small_safety().arcs.len()), (78, 5));
+        assert_eq!((small_branching().bytes().len(), small_branching().arcs.len()), (88, 6));
+        assert_eq!((small_safety_for_3().bytes().len(), small_safety_for_3().arcs.len()), (102, 7));
     }
 
     #[test]
     fn good_files_are_read() {
-        let mut longest = kerb();
+        let mut longest = small_plan();
         longest.note = vec![0; 65_536 - 108];
         let files = [
             (one_place_plan(), Kind::Plan),
             (one_place_slice(), Kind::Slice),
-            (kerb().bytes(), Kind::Plan),
+            (small_plan().bytes(), Kind::Plan),
             (longest.bytes(), Kind::Plan),
             (Draft::plan(vec![], 1, vec![]).bytes(), Kind::Plan),
             (full_net().bytes(), Kind::Plan),
