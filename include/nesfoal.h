@@ -40,6 +40,31 @@
 extern "C" {
 #endif
 
+/* Is the slice good for the plan and the criterion? A slice, whoever made it, that is accepted loses no run of the plan
+ * and makes none up: every list that fires in the plan fires in the slice once the transitions missing from it are
+ * struck out, and both end with equal tokens on each place of the criterion; a list of the slice's own transitions fires
+ * in the slice exactly when it fires in the plan, and then both end with equal tokens on each place of the slice.
+ *
+ * criterion: places of the plan, strictly rising, 2 bytes each, low byte first.
+ * Returns 0 accepted; 1 to 10 a refusal (9 also for an odd count of bytes); 100 plus the number of the first rule broken:
+ *   101 an origin that is no place of the plan        105 a place of the criterion that is not kept
+ *   102 an origin that is no transition of the plan   106 a transition left out that changes a place of the criterion
+ *   103 a marking other than the plan's               107 a kept transition with an input place that is not kept
+ *   104 arcs other than the plan's to kept places     108 a transition left out that raises a kept place
+ */
+uint32_t nesfoal_check(const uint8_t *plan, size_t plan_length,
+                       const uint8_t *slice, size_t slice_length,
+                       const uint8_t *criterion, size_t criterion_length);
+
+/* The same with the criterion as numbers (criterion_count of them), and with the lowest number that breaks the rule put
+ * into *number: the slice's place or transition for 101 and 102, the plan's place for 103 and 105, the plan's transition
+ * for 104, 106, 107 and 108; 0 where the slice is accepted or the call is refused.
+ */
+uint32_t nesfoal_verdict(const uint8_t *plan, size_t plan_length,
+                         const uint8_t *slice, size_t slice_length,
+                         const uint16_t *criterion, size_t criterion_count,
+                         uint32_t *number);
+
 /* The effect of a transition on a place of a plan or a slice: by how much one firing changes the place's tokens.
  *
  * Returns 0 and puts the effect, from -65,535 to 65,535, into *effect; or returns a refusal: 1 to 8 of the file, then
@@ -48,6 +73,49 @@ extern "C" {
 uint32_t nesfoal_effect(const uint8_t *file, size_t file_length,
                         uint16_t place, uint16_t transition,
                         int32_t *effect);
+
+/* Fires a list of transitions of a plan or a slice, one after the other, from the initial marking.
+ *
+ * Returns 0 where all fired; 100 where one is not enabled, with its index (from 0) in *index and the lowest-numbered
+ * place that is short in *place; or a refusal: 1 to 8, 11, 12, and 13 where marking has fewer entries than the net has
+ * places. *index and *place are 0 but where the answer is 100.
+ * The first entries of marking, one for each place, become the marking after all firings, or the one before the firing
+ * that sticks; later entries keep their values.
+ */
+uint32_t nesfoal_replay(const uint8_t *file, size_t file_length,
+                        const uint16_t *list, size_t list_count,
+                        uint64_t *marking, size_t marking_count,
+                        uint32_t *index, uint32_t *place);
+
+/* The safety cut of a plan for a criterion (places of the plan, strictly rising): the smallest slice that nesfoal_check
+ * accepts for them, written as a slice file without note.
+ *
+ * Returns 0, with the file's length in *length and the numbers of kept places and transitions in *places and
+ * *transitions; or a refusal: 1 to 7, 9, 10, and 13 where slice is shorter than the file (40,976 bytes always suffice).
+ * Bytes of slice past the file's length keep their values.
+ */
+uint32_t nesfoal_safety(const uint8_t *plan, size_t plan_length,
+                        const uint16_t *criterion, size_t criterion_count,
+                        uint8_t *slice, size_t slice_length,
+                        uint32_t *length, uint32_t *places, uint32_t *transitions);
+
+/* The branching cut: the same call for the slice that also keeps every transition that changes a kept place. */
+uint32_t nesfoal_branching(const uint8_t *plan, size_t plan_length,
+                           const uint16_t *criterion, size_t criterion_count,
+                           uint8_t *slice, size_t slice_length,
+                           uint32_t *length, uint32_t *places, uint32_t *transitions);
+
+/* Carries a list of the plan's transitions over to a slice: the slice's own number for each listed transition that the
+ * slice has, in order; the others are dropped.
+ *
+ * Returns 0 and puts how many numbers were written to out into *count; or a refusal: 1 to 8 of either file, 11, 12 (by
+ * the plan's transitions), and 13 where out has fewer entries than that. Later entries of out keep their values.
+ */
+uint32_t nesfoal_project(const uint8_t *plan, size_t plan_length,
+                         const uint8_t *slice, size_t slice_length,
+                         const uint16_t *list, size_t list_count,
+                         uint16_t *out, size_t out_count,
+                         uint32_t *count);
 
 /* Where the arcs of a transition stand: in the slice where of_slice is true, else in the plan. Both files are read.
  *

@@ -1,2 +1,5 @@
 pub mod Effects
 pub mod ArcRuns
+pub mod Replayed
+pub mod Cutting
+pub mod Checks

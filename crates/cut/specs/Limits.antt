@@ -1,0 +1,38 @@
+-- The parts of a cut: for the contracts of its functions, not for a reader of `kept`. Assumes nothing.
+use Prim.Native.Nat.{ℕ, _<_}
+use mathlib.Core.Bool.{Bool, true, false, _||_}
+use mathlib.Core.List.{List}
+use mathlib.Core.Path.{_≡_}
+use lib.Dec.{T}
+use lib.ListN.{length, getD}
+use Rattle.net.specs.Numbers.{among}
+use Rattle.net.specs.Cut.{Growth}
+use Rattle.file.specs.declared.Header.{Header}
+use Rattle.sets.specs.Member.{member}
+use Rattle.sets.specs.declared.KeptSets.{KeptSets}
+use Rattle.starts.specs.Table.{choose}
+use Rattle.search.specs.Search.{Grows}
+use Rattle.cut.specs.Kept.{Kept}
+
+-- the limit of a place outside of the criterion: 0 where what changes it is drawn in, 2 ^ 30 where what raises it is
+abbrev pub limitOf : Bool → ℕ
+limitOf true = 0
+limitOf false = 1073741824
+
+-- each number of the criterion is below n
+abbrev pub Below : ℕ → List ℕ → Type 0
+Below n Q = (q : ℕ) → T (among q Q) → q < n
+
+-- the limit of each place of the criterion is 0
+pub record Lowered (Q limit limit′ : List ℕ) : Type 0 where
+  pub at : (p : ℕ) → p < length limit → getD limit′ p 0 ≡ choose (among p Q) 0 (getD limit p 0)
+  pub long : length limit′ ≡ length limit
+
+-- the places of the criterion are put into the set
+pub record Started (Q places places′ : List ℕ) : Type 0 where
+  pub members : (k : ℕ) → member places′ k ≡ member places k || among k Q
+  pub long : length places′ ≡ 16
+
+-- the sets are those of every cut whose criterion is Q and whose rows stand in head and next
+pub record Grown (s : List ℕ) (h : Header) (Q head next : List ℕ) (r : KeptSets) : Type 0 where
+  pub kept : (G : Growth) → Grows G s h head next → G .criterion ≡ Q → Kept G r

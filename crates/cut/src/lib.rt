@@ -1,0 +1,101 @@
+// The kept sets of a plan and a criterion: the section "The two cuts" of document 01.
+ghost use mathlib.Core.Path.{_≡_};
+ghost use Prim.Native.Nat.{ℕ, _<_};
+ghost use lib.ListN.{length};
+ghost use Rattle.file.specs.Layout.{netFrom};
+ghost use Rattle.file.specs.Facts.{Sound};
+ghost use Rattle.file.specs.Criterion.{criterionRefusal};
+ghost use Rattle.index.specs.Rows.{Starts};
+ghost use Rattle.search.specs.Search.{Links};
+ghost use Rattle.cut.specs.Kept.{growthOf, Kept};
+ghost use Rattle.cut.specs.Limits.{limitOf, Below, Lowered, Started, Grown};
+use file::Header;
+use sets::KeptSets;
+
+fn wide(x: u16) -> usize
+    ensures { λ r. ⌜ r ≡ x ⌝ }
+{
+    x as usize
+}
+
+// Puts the places of the criterion into a set.
+fn keep_criterion(criterion: &[u16], places: &mut [u64; 16])
+    requires { ⌜ Below 1024 (now criterion) × (length (now places) ≡ 16) ⌝ }
+    ensures { λ _. ⌜ Started (now (criterion .entry)) (now (places .entry)) (now (places .exit)) ⌝ }
+{
+    let mut i: usize = 0;
+    while i < criterion.len() {
+        pending::insert(places, wide(criterion[i]));
+        i += 1;
+    }
+}
+
+// The limit of a place outside of the criterion: above 2 ^ 30 it is raised, above 0 and not at 2 ^ 30 it is changed.
+fn limit_of(all: bool) -> u32
+    ensures { λ r. ⌜ r ≡ limitOf all ⌝ }
+{
+    if all { 0 } else { 1073741824 }
+}
+
+// Lowers the limit of each place of the criterion: what changes it is drawn in.
+fn lower(criterion: &[u16], limit: &mut [u32])
+    requires { ⌜ Below (length (now limit)) (now criterion) ⌝ }
+    ensures { λ _. ⌜ Lowered (now (criterion .entry)) (now (limit .entry)) (now (limit .exit)) ⌝ }
+{
+    let mut i: usize = 0;
+    while i < criterion.len() {
+        let p = wide(criterion[i]);
+        limit[p] = 0;
+        i += 1;
+    }
+}
+
+// Keeps the criterion, and goes through pending places until none is left.
+fn grow(
+    file: &[u8],
+    h: Header,
+    criterion: &[u16],
+    table: &[u16],
+    head: &[u16],
+    next: &[u16],
+) -> KeptSets
+    requires { ⌜ Sound (now file) h × Starts (now file) h (now table) × Links h (now head) (now next) × Below (h .places) (now criterion) ⌝ }
+    ensures { λ r. ⌜ Grown (now (file .entry)) h (now (criterion .entry)) (now (head .entry)) (now (next .entry)) r ⌝ }
+{
+    let mut places = [0u64; 16];
+    keep_criterion(criterion, &mut places);
+    let mut pending = places;
+    let mut transitions = [0u64; 16];
+    search::close(
+        file,
+        h,
+        table,
+        head,
+        next,
+        &mut places,
+        &mut transitions,
+        &mut pending,
+    );
+    KeptSets {
+        places,
+        transitions,
+    }
+}
+
+// The kept places and transitions: of the branching cut if `all`, else of the safety cut.
+pub fn kept(file: &[u8], h: Header, criterion: &[u16], all: bool) -> KeptSets
+    requires { ⌜ Sound (now file) h ⌝ }
+    requires { ⌜ criterionRefusal (h .places) (now criterion) ≡ 0 ⌝ }
+    ensures { λ r. ⌜ Kept (growthOf all (netFrom (now (file .entry)) h) (now (criterion .entry))) (r) ⌝ }
+{
+    let mut table = [0u16; 2049];
+    starts::starts(file, h.arcstart, h.arcs, h.transitions, &mut table);
+    let floor = limit_of(all);
+    let mut limit = [floor; 1024];
+    lower(criterion, &mut limit);
+    let mut column = [1073741824u32; 1024];
+    let mut head = [0u16; 1024];
+    let mut next = [0u16; 4096];
+    index::index(file, h, &table, &limit, &mut column, &mut head, &mut next);
+    grow(file, h, criterion, &table, &head, &next)
+}

@@ -1,0 +1,3 @@
+pub mod Arcs
+pub mod Linking
+pub mod Runs

@@ -1,0 +1,4 @@
+pub mod Columns
+pub mod Moving
+pub mod Limits
+pub mod Both

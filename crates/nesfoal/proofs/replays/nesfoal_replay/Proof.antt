@@ -1,0 +1,45 @@
+use mathlib.Core.Path.{_∙_, ap}
+use Rattle.promise.specs.Firing.{ReplayAnswer}
+use Rattle.nesfoal.specs.Replays.{replayCode}
+use borrow.Author.Needs.{needs}
+use Rattle.nesfoal.proofs.replays.nesfoal_replay.Statement.{statement}
+use Rattle.nesfoal.proofs.replays.nesfoal_replay.Tie as tie
+
+replay-requires : tie.Need-replay-requires
+replay-requires c κs = search needs
+
+index-of-requires : tie.Need-index-of-requires
+index-of-requires c κs = search needs
+
+place-of-requires : tie.Need-place-of-requires
+place-of-requires c κs = search needs
+
+code-requires : tie.Need-code-requires
+code-requires c κs = search needs
+
+same-length : tie.Need-same-length
+same-length c = search needs
+
+returns : tie.Need-returns
+returns c =
+    let e = c .before .before .before .before .before .replay .ensures in (
+      c .code .ensures ∙ ap replayCode (e .0),
+      (
+        e .1,
+        (
+          c .before .before .index-of .ensures ∙ ap (λ (a : ReplayAnswer). a .index) (e .0),
+          c .before .place-of .ensures ∙ ap (λ (a : ReplayAnswer). a .place) (e .0),
+        ),
+      ),
+    )
+
+pub nesfoal-replay-spec : {M : Type 1} → statement M
+nesfoal-replay-spec =
+    tie.close
+    (tie.spec
+    replay-requires
+    index-of-requires
+    place-of-requires
+    code-requires
+    same-length
+    returns)

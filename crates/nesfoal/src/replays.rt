@@ -1,0 +1,75 @@
+// Replay of a list of transitions on a plan or a slice.
+ghost use mathlib.Core.Path.{_≡_};
+ghost use lib.ListN.{length};
+ghost use Rattle.promise.specs.Firing.{replayAnswer, replayMarking};
+ghost use Rattle.replay.specs.Told.{outcomeNumbers};
+ghost use Rattle.nesfoal.specs.Replays.{replayCode};
+use file::Due;
+use file::Reading;
+use replay::Outcome;
+
+// Refused: the file's number; 11 or 12 for the list; 13 where the marking has fewer entries than the file has places.
+pub fn replay(file: &[u8], list: &[u16], marking: &mut [u64]) -> Outcome
+    ensures answer { λ r. ⌜ outcomeNumbers r ≡ replayAnswer (now (file .entry)) (now (list .entry)) (length (now (marking .entry))) ⌝ }
+    ensures marking { λ _. ⌜ now (marking .exit) ≡ replayMarking (now (file .entry)) (now (list .entry)) (now (marking .entry)) ⌝ }
+{
+    let whole = file::read(file, Due::Either);
+    let Reading::Whole(h) = whole else {
+        return Outcome::Refused(file::number(whole));
+    };
+    replay::replay(file, h, list, marking)
+}
+
+// 0 where all fired, 100 where the list is stuck, else the number of a refusal.
+fn code(o: Outcome) -> u32
+    ensures { λ r. ⌜ r ≡ replayCode (outcomeNumbers o) ⌝ }
+{
+    match o {
+        Outcome::Fired => 0,
+        Outcome::Stuck(_, _) => 100,
+        Outcome::Refused(n) => n,
+    }
+}
+
+// The index of the firing that is not enabled, 0 where the list is not stuck.
+fn index_of(o: Outcome) -> u32
+    ensures { λ r. ⌜ r ≡ outcomeNumbers o .index ⌝ }
+{
+    match o {
+        Outcome::Fired => 0,
+        Outcome::Stuck(i, _) => i,
+        Outcome::Refused(_) => 0,
+    }
+}
+
+// The place that is short, 0 where the list is not stuck.
+fn place_of(o: Outcome) -> u32
+    ensures { λ r. ⌜ r ≡ outcomeNumbers o .place ⌝ }
+{
+    match o {
+        Outcome::Fired => 0,
+        Outcome::Stuck(_, p) => p,
+        Outcome::Refused(_) => 0,
+    }
+}
+
+// The same for C: 0 where all fired, 100 where the list is stuck, or the number of a refusal; index and place go to the
+// last two parameters, zeros where the list is not stuck.
+#[no_mangle]
+pub extern "C" fn nesfoal_replay(
+    file: &[u8],
+    list: &[u16],
+    marking: &mut [u64],
+    index: &mut u32,
+    place: &mut u32,
+) -> u32
+    ensures answer { λ r. ⌜ r ≡ replayCode (replayAnswer (now (file .entry)) (now (list .entry)) (length (now (marking .entry)))) ⌝ }
+    ensures marking { λ _. ⌜ now (marking .exit) ≡ replayMarking (now (file .entry)) (now (list .entry)) (now (marking .entry)) ⌝ }
+    ensures index { λ _. ⌜ now (index .exit) ≡ replayAnswer (now (file .entry)) (now (list .entry)) (length (now (marking .entry))) .index ⌝ }
+    ensures place { λ _. ⌜ now (place .exit) ≡ replayAnswer (now (file .entry)) (now (list .entry)) (length (now (marking .entry))) .place ⌝ }
+{
+    let o = replay(file, list, marking);
+    *index = index_of(o);
+    *place = place_of(o);
+    code(o)
+}

@@ -1,0 +1,91 @@
+use borrow.Author.Needs.{needs}
+use Prim.Native.Nat.{ℕ, _+_, _-_, _*_, _≤_}
+use mathlib.Core.Path.{_≡_, ap, _∙_}
+use native.Mathlib.Omega.{arith}
+use lib.ListN.{length, getD, drop}
+use Rattle.file.specs.Layout.{netFrom}
+use Rattle.file.specs.Word.{bytes32}
+use Rattle.file.proofs.Bytes.{length-32}
+use Rattle.promise.proofs.Writer.{markingsOf}
+use Rattle.put.proofs.Storing.{Storing, storing-all, storing-as, storing-part, storing-none}
+use Rattle.parts.proofs.Steps.{markings-next, markings-end}
+use Rattle.parts.proofs.write_markings.Statement.{statement}
+use Rattle.parts.proofs.write_markings.Tie as tie
+use Rattle.parts.proofs.write_markings.Reads as reads
+use Rattle.parts.proofs.write_markings.Lts as lts
+use Rattle.file.proofs.marking.Reads as marking-reads
+use Rattle.put.proofs.put32.Reads as put32-reads
+
+abbrev Inv-loop : tie.InvT-loop
+Inv-loop plan h ps buffer₀ i₀ buffer i =
+    (i ≤ length ps) × Storing buffer₀ 0 (markingsOf (netFrom plan h .marking) ps) buffer (4 * i) (markingsOf (netFrom plan h .marking) (drop i ps))
+
+abbrev μ-loop : tie.MeasureT-loop
+μ-loop plan h ps buffer₀ i₀ buffer i = length ps - i
+
+loop-holds : tie.Need-loop-holds Inv-loop μ-loop
+loop-holds c = (search needs, storing-all _ _ _)
+
+mul-marking : tie.Need-mul-marking Inv-loop μ-loop
+mul-marking c = search needs
+
+shared-slice-read-marking : tie.Need-shared-slice-read-marking Inv-loop μ-loop
+shared-slice-read-marking c = search needs
+
+cast-marking : tie.Need-cast-marking Inv-loop μ-loop
+cast-marking c = omega (arith, c .shared-slice-known3 .given (c .before .before .loop .i))
+
+marking-requires : tie.Need-marking-requires Inv-loop μ-loop
+marking-requires c κs = (c .before .before .before .before .before .before .pre .0, c .before .before .before .before .before .before .pre .1 .0 (c .before .before .loop .i) (c .before .loop-test .taken))
+
+mul-put32 : tie.Need-mul-put32 Inv-loop μ-loop
+mul-put32 c = omega (arith, c .before .before .before .before .before .before .before .before .pre .1 .1, c .before .before .before .loop-test .taken)
+
+put32-requires : tie.Need-put32-requires Inv-loop μ-loop
+put32-requires c κs = omega (arith, c .before .before .before .before .before .before .before .before .pre .1 .1, c .before .before .before .loop-test .taken, c .before .before .before .before .loop .inv .1 .long)
+
+add-i : tie.Need-add-i Inv-loop μ-loop
+add-i c = search needs
+
+loop-less : tie.Need-loop-less Inv-loop μ-loop
+loop-less c = search needs
+
+loop-again : tie.Need-loop-again Inv-loop μ-loop
+loop-again c =
+    let start = c .before .before .before .before .before .before .before .before .before .before .before in
+    let at = c .before .before .before .before .before .before .before .loop in
+    let call = c .before .before .put32 in
+    let M = netFrom (start .args .plan .now) (start .args .h) .marking in
+    let p = getD (start .args .ps .now) (at .i) 0 in
+    let next = markings-next (start .args .ps .now) (at .i) M (c .before .before .before .before .before .before .loop-test .taken) in (
+      omega arith,
+      storing-part (bytes32 (M p)) _ _ _ (storing-as (at .inv .1) next) (call .ensures ∙ rw (c .before .before .before .before .marking .ensures .0)) (omega (arith, length-32 (M p))),
+    )
+
+same-length : tie.Need-same-length Inv-loop μ-loop
+same-length c = c .before .loop .inv .1 .long
+
+returns : tie.Need-returns Inv-loop μ-loop
+returns c =
+    let start = c .before .before .before .before .before in
+    let at = c .before .loop in
+    storing-none (storing-as (at .inv .1) (markings-end (start .args .ps .now) (at .i) (netFrom (start .args .plan .now) (start .args .h) .marking) (omega (arith, at .inv .0, c .loop-test .left))))
+
+pub write-markings-spec : {M : Type 1} → statement M
+write-markings-spec =
+    tie.close
+    (tie.spec
+    Inv-loop
+    μ-loop
+    loop-holds
+    mul-marking
+    shared-slice-read-marking
+    cast-marking
+    marking-requires
+    mul-put32
+    put32-requires
+    add-i
+    loop-less
+    loop-again
+    same-length
+    returns)

@@ -1,0 +1,38 @@
+// Writes numbers and arcs into a byte slice, low byte first.
+ghost use mathlib.Core.Path.{_≡_};
+ghost use Prim.Native.Nat.{_+_, _<_, _≤_};
+ghost use lib.ListN.{length};
+ghost use lib.Seq.{sets};
+ghost use Rattle.file.specs.Word.{bytes16, bytes32};
+ghost use Rattle.file.specs.Writing.{arcBytes};
+use net::Arc;
+
+// A number in 2 bytes.
+pub fn put16(s: &mut [u8], at: usize, n: usize)
+    requires { ⌜ at + 2 ≤ length (now s) ⌝ }
+    ensures { λ _. ⌜ now (s .exit) ≡ sets (now (s .entry)) at (bytes16 n) ⌝ }
+{
+    s[at] = (n % 256) as u8;
+    s[at + 1] = (n / 256 % 256) as u8;
+}
+
+// A number in 4 bytes.
+pub fn put32(s: &mut [u8], at: usize, n: usize)
+    requires { ⌜ at + 4 ≤ length (now s) ⌝ }
+    ensures { λ _. ⌜ now (s .exit) ≡ sets (now (s .entry)) at (bytes32 n) ⌝ }
+{
+    put16(s, at, n);
+    put16(s, at + 2, n / 65536);
+}
+
+// An arc in 8 bytes.
+pub fn put_arc(s: &mut [u8], at: usize, a: Arc)
+    requires { ⌜ at + 8 ≤ length (now s) ⌝ }
+    requires { ⌜ a .direction < 256 ⌝ }
+    ensures { λ _. ⌜ now (s .exit) ≡ sets (now (s .entry)) at (arcBytes a) ⌝ }
+{
+    put16(s, at, a.transition);
+    put16(s, at + 2, a.direction);
+    put16(s, at + 4, a.place);
+    put16(s, at + 6, a.weight);
+}

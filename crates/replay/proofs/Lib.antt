@@ -1,0 +1,7 @@
+pub mod Sums
+pub mod Order
+pub mod Firing
+pub mod Short
+pub mod Listing
+pub mod Underway
+pub mod Loading

@@ -1,0 +1,94 @@
+-- The initial marking, written entry by entry, and the entries of a marking. Assumes nothing.
+use Prim.Native.Nat.{ℕ, zero, suc, _+_, _*_, _^_, _<_, _≤_}
+use mathlib.Core.Path.{_≡_, refl, ap, sym, _∙_, fun-ext}
+use mathlib.Core.List.{List, map}
+use mathlib.Core.Bool.{true}
+use native.Mathlib.Decide.{decLt}
+use native.Mathlib.Nat.{add-zero}
+use native.Mathlib.Omega.{arith}
+use borrow.Author.Count.{below-none, below-more}
+use lib.ListN.{length, getD, set, length-set, List·getD-eq-default}
+use lib.Seq.{getD-set-same, getD-set-other, ext-getD}
+use Rattle.net.specs.Numbers.{selected}
+use Rattle.net.specs.Net.{Net, Marking, Replay, tokens, replay, replayFrom}
+use Rattle.net.proofs.Markings.{below-at, below-off}
+use Rattle.file.specs.Word.{Bytes, le32}
+use Rattle.file.specs.Layout.{netFrom}
+use Rattle.file.specs.declared.Header.{Header}
+use Rattle.file.proofs.Bytes.{le32-lt}
+use Rattle.replay.specs.Steps.{held, Holds}
+
+pub record Loaded (s : List ℕ) (h : Header) (m₀ m : List ℕ) (n : ℕ) : Type 0 where
+  pub places : length m₀ ≡ h .places
+  pub within : n ≤ h .places
+  pub long : length m ≡ length m₀
+  pub at : (q : ℕ) → q < n → getD m q 0 ≡ netFrom s h .marking q
+
+module _ {s : List ℕ} {h : Header} {m₀ : List ℕ} where
+  pub loaded-none : length m₀ ≡ h .places → Loaded s h m₀ m₀ 0
+  loaded-none e = record { places = e; within = omega arith; long = refl; at = below-none _ }
+
+  module _ {m : List ℕ} {n : ℕ} (d : Loaded s h m₀ m n) where
+    pub loaded-next : {v : ℕ} → n < h .places → v ≡ netFrom s h .marking n → Loaded s h m₀ (set m n v) (n + 1)
+    loaded-next {v} l e = record {
+      places = d .places;
+      within = omega arith;
+      long = length-set m n v ∙ d .long;
+      at = below-more _ n (λ q u. getD-set-other m n q v 0 (λ f. omega arith) ∙ d .at q u) (getD-set-same m n v 0 (omega (arith, d .long, d .places)) ∙ e);
+    }
+
+    pub loaded-all : h .places ≤ n → Holds m₀ m (netFrom s h .marking)
+    loaded-all l = record { long = d .long; at = λ p. at p (decLt p n) }
+      where
+        at : (p : ℕ) → Dec (p < n) → getD m p 0 ≡ netFrom s h .marking p
+        at p (yes u) = d .at p u
+        at p (no u) =
+            omega (
+              arith,
+              List·getD-eq-default m 0 {n = p} (omega (arith, u, d .long, d .places)),
+              below-off (h .places) (λ q. le32 s (h .markstart + 4 * q)) p (omega (arith, u)),
+            )
+
+-- "a marking 0 to 4,294,967,295"
+pub marking-low : (s : List ℕ) (h : Header) → Bytes s → (p : ℕ) → netFrom s h .marking p < 2 ^ 32
+marking-low s h b p = go (decLt p (h .places))
+  where
+    go : Dec (p < h .places) → netFrom s h .marking p < 2 ^ 32
+    go (yes l) = omega (arith, below-at (h .places) (λ q. le32 s (h .markstart + 4 * q)) p l, le32-lt s b (h .markstart + 4 * p))
+    go (no l) = omega (arith, below-off (h .places) (λ q. le32 s (h .markstart + 4 * q)) p (omega (arith, l)))
+
+length-tokens : (M : Marking) (a n : ℕ) → length (map M (selected (λ p. true) a n)) ≡ n
+unfolding selected
+length-tokens M a zero = refl
+length-tokens M a (suc n) = ap suc (length-tokens M (suc a) n)
+
+getD-tokens : (M : Marking) (a n i : ℕ) → i < n → getD (map M (selected (λ p. true) a n)) i 0 ≡ M (a + i)
+unfolding selected
+getD-tokens M a zero i l = absurd (omega arith)
+getD-tokens M a (suc n) zero l = ap M (sym (add-zero a))
+getD-tokens M a (suc n) (suc i) l =
+    let e : suc a + i ≡ a + suc i = omega arith in
+    getD-tokens M (suc a) n i (omega arith) ∙ ap M e
+
+-- a list is the entries of the marking that it holds
+pub tokens-are : (N : Net) (M : Marking) (m : List ℕ) → length m ≡ N .places → ((p : ℕ) → getD m p 0 ≡ M p) → m ≡ tokens N M
+unfolding tokens
+tokens-are N M m e f =
+    ext-getD 0 m (map M (selected (λ p. true) 0 (N .places))) (e ∙ sym (length-tokens M 0 (N .places)))
+    (λ i l. let z : i ≡ 0 + i = omega arith in f i ∙ ap M z ∙ sym (getD-tokens M 0 (N .places) i (omega arith)))
+
+pub length-tokens-of : (N : Net) (M : Marking) → length (tokens N M) ≡ N .places
+unfolding tokens
+length-tokens-of N M = length-tokens M 0 (N .places)
+
+-- "starts at the initial marking"
+pub from-initial : (s : List ℕ) (h : Header) {m₀ m : List ℕ} → Holds m₀ m (netFrom s h .marking) → (ts : List ℕ) → replayFrom (netFrom s h) 0 (held m) ts ≡ replay (netFrom s h) ts
+unfolding replay
+from-initial s h e ts = ap (λ (M : Marking). replayFrom (netFrom s h) 0 M ts) (fun-ext (e .at))
+
+-- the list that holds the marking that a replay ends with
+pub ended : (s : List ℕ) (h : Header) {m₀ m₁ m₂ : List ℕ} → length m₀ ≡ h .places → (ts : List ℕ) → Holds m₀ m₁ (netFrom s h .marking) → Holds m₁ m₂ (replayFrom (netFrom s h) 0 (held m₁) ts .marking)
+    → m₂ ≡ tokens (netFrom s h) (replay (netFrom s h) ts .marking)
+ended s h e ts f g =
+    tokens-are (netFrom s h) (replay (netFrom s h) ts .marking) _ (g .long ∙ f .long ∙ e)
+    (λ p. g .at p ∙ ap (λ (R : Replay). R .marking p) (from-initial s h f ts))

@@ -1,0 +1,163 @@
+use Rattle.replay.specs.Steps.{needAt}
+use Prim.Native.Nat.{_*_, _+_, _-_}
+use mathlib.Core.Path.{ap, sym, _∙_}
+use mathlib.Core.Bool.{true}
+use native.Mathlib.Omega.{arith}
+use borrow.Author.Tests.{ltb-true, ltb-false}
+use lib.ListN.{length, getD}
+use Rattle.net.specs.Net.{Replay}
+use Rattle.net.specs.declared.Arc.{Arc}
+use Rattle.promise.specs.Firing.{ReplayAnswer, replayTold}
+use Rattle.replay.proofs.Firing.{arcs-fit, split-by}
+use Rattle.replay.proofs.Short.{Covered, covered-none, covered-next, input-at, place-known}
+use Rattle.replay.proofs.Short as short
+use Rattle.replay.proofs.Underway.{Underway, underway-begin, all-fired, tokens-left, known, stuck-at, firable, ready-still, fired-on}
+use borrow.Author.Needs.{needs}
+use Rattle.replay.proofs.run.Statement.{statement}
+use Rattle.replay.proofs.run.Tie as tie
+
+abbrev Inv-loop : tie.InvT-loop
+Inv-loop file h table list marking k t from middle j₀ j = Covered file h t from middle marking j
+
+abbrev μ-loop : tie.MeasureT-loop
+μ-loop file h table list marking k t from middle j₀ j = h .arcs - j
+
+abbrev Inv-firings : tie.InvT-firings
+Inv-firings file h table list marking₀ k₀ marking k = Underway file h list marking₀ marking k
+
+abbrev μ-firings : tie.MeasureT-firings
+μ-firings file h table list marking₀ k₀ marking k = length list - k
+
+firings-holds : tie.Need-firings-holds Inv-loop μ-loop Inv-firings μ-firings
+firings-holds c = underway-begin (c .before .before .before .before .pre .1)
+
+mul-t : tie.Need-mul-t Inv-loop μ-loop Inv-firings μ-firings
+mul-t c = search needs
+
+shared-slice-read-t : tie.Need-shared-slice-read-t Inv-loop μ-loop Inv-firings μ-firings
+shared-slice-read-t c = search needs
+
+cast-t : tie.Need-cast-t Inv-loop μ-loop Inv-firings μ-firings
+cast-t c = omega (arith, c .shared-slice-known4 .given (c .before .before .firings .k))
+
+mul-entry : tie.Need-mul-entry Inv-loop μ-loop Inv-firings μ-firings
+mul-entry c = omega (arith, known (c .before .before .firings .inv) (c .before .if1 .left), c .before .before .before .before .before .before .before .pre .0 .sound .placed .transitions)
+
+entry-requires : tie.Need-entry-requires Inv-loop μ-loop Inv-firings μ-firings
+entry-requires c κs = omega (arith, known (c .before .before .firings .inv) (c .before .if1 .left), c .before .before .before .before .before .before .before .pre .0 .long)
+
+mul-entry-2 : tie.Need-mul-entry-2 Inv-loop μ-loop Inv-firings μ-firings
+mul-entry-2 c = omega (arith, known (c .before .before .before .firings .inv) (c .before .before .if1 .left), c .before .before .before .before .before .before .before .before .pre .0 .sound .placed .transitions)
+
+add-entry : tie.Need-add-entry Inv-loop μ-loop Inv-firings μ-firings
+add-entry c = omega (arith, known (c .before .before .before .firings .inv) (c .before .before .if1 .left), c .before .before .before .before .before .before .before .before .pre .0 .sound .placed .transitions)
+
+entry-requires-2 : tie.Need-entry-requires-2 Inv-loop μ-loop Inv-firings μ-firings
+entry-requires-2 c κs = omega (arith, known (c .before .before .before .firings .inv) (c .before .before .if1 .left), c .before .before .before .before .before .before .before .before .pre .0 .long)
+
+loop-holds : tie.Need-loop-holds Inv-loop μ-loop Inv-firings μ-firings
+loop-holds c =
+    let l = known (c .before .before .before .before .firings .inv) (c .before .before .before .if1 .left) in
+    let t = (getD (c .before .before .before .before .before .before .before .before .before .args .list .now) (c .before .before .before .before .firings .k) 0) in
+    covered-none (c .before .before .before .before .before .before .before .before .before .pre .0 .sound) (split-by (c .before .before .before .before .before .before .before .before .before .pre .0) (2 * t) (omega arith) (c .before .entry .ensures)) (split-by (c .before .before .before .before .before .before .before .before .before .pre .0) (2 * t + 1) (omega arith) (c .entry2 .ensures))
+
+mul-arc : tie.Need-mul-arc Inv-loop μ-loop Inv-firings μ-firings
+mul-arc c = omega (arith, short.known (c .before .loop .inv) (c .loop-test .taken), c .before .loop .inv .sound .placed .arcs)
+
+add-arc : tie.Need-add-arc Inv-loop μ-loop Inv-firings μ-firings
+add-arc c = omega (arith, short.known (c .before .before .loop .inv) (c .before .loop-test .taken), arcs-fit (c .before .before .loop .inv .sound), c .before .before .loop .inv .sound .placed .short)
+
+arc-requires : tie.Need-arc-requires Inv-loop μ-loop Inv-firings μ-firings
+arc-requires c κs = omega (arith, short.known (c .before .before .loop .inv) (c .before .loop-test .taken), arcs-fit (c .before .before .loop .inv .sound))
+
+mul-short-at : tie.Need-mul-short-at Inv-loop μ-loop Inv-firings μ-firings
+mul-short-at c = omega (arith, c .arc .ensures .1 .place)
+
+slice-read-short-at : tie.Need-slice-read-short-at Inv-loop μ-loop Inv-firings μ-firings
+slice-read-short-at c = omega (arith, place-known (c .before .before .before .before .loop .inv) (c .before .before .before .loop-test .taken), ap (λ (x : Arc). x .place) (c .before .arc .ensures .0), c .before .before .before .before .before .before .before .before .before .firings .inv .long, c .before .before .before .before .before .before .before .before .before .before .before .before .before .before .pre .0 .places)
+
+short-at-requires : tie.Need-short-at-requires Inv-loop μ-loop Inv-firings μ-firings
+short-at-requires c κs = input-at (c .before .before .before .before .loop .inv) (c .before .before .before .loop-test .taken)
+
+cast-index : tie.Need-cast-index Inv-loop μ-loop Inv-firings μ-firings
+cast-index c = omega (arith, (c .before .before .before .before .before .before .before .before .before .before .if1 .left), c .before .before .before .before .before .before .before .before .before .before .before .firings .inv .listed .short)
+
+cast-place : tie.Need-cast-place Inv-loop μ-loop Inv-firings μ-firings
+cast-place c = omega (arith, c .before .before .before .arc .ensures .1 .place)
+
+add-j : tie.Need-add-j Inv-loop μ-loop Inv-firings μ-firings
+add-j c = omega (arith, short.known (c .before .before .before .before .before .before .loop .inv) (c .before .before .before .before .before .loop-test .taken), c .before .before .before .before .before .before .loop .inv .sound .placed .arcs)
+
+loop-less : tie.Need-loop-less Inv-loop μ-loop Inv-firings μ-firings
+loop-less c = omega (arith, short.known (c .before .before .before .before .before .before .loop .inv) (c .before .before .before .before .before .loop-test .taken))
+
+loop-again : tie.Need-loop-again Inv-loop μ-loop Inv-firings μ-firings
+loop-again c = covered-next (c .before .before .before .before .before .before .loop .inv) (c .before .before .before .before .before .loop-test .taken) (omega (arith, ltb-false (getD (c .before .before .before .before .before .before .before .before .before .before .before .firings .marking) (c .before .before .before .arc .result .place) 0) (needAt (c .before .before .before .before .before .before .before .before .before .before .before .before .before .before .before .before .args .file .now) (c .before .before .before .before .before .before .before .before .before .before .before .before .before .before .before .before .args .h) (c .before .before .before .before .before .before .loop .j)) (sym (c .before .short-at .ensures) ∙ c .if2 .left), ap (λ (x : Arc). getD (c .before .before .before .before .before .before .before .before .before .before .before .firings .marking) (x .place) 0) (c .before .before .before .arc .ensures .0)))
+
+fire-requires : tie.Need-fire-requires Inv-loop μ-loop Inv-firings μ-firings
+fire-requires c κs = (ready-still (c .before .before .before .before .before .before .before .firings .inv) (c .before .before .before .before .before .before .if1 .left) (c .before .before .loop .inv) (c .before .before .before .before .before .before .before .before .before .before .before .before .pre .0), firable (c .before .before .before .before .before .before .before .firings .inv) (c .before .before .before .before .before .before .if1 .left) (c .before .before .loop .inv) (c .before .loop-test .left))
+
+add-k : tie.Need-add-k Inv-loop μ-loop Inv-firings μ-firings
+add-k c = omega (arith, (c .before .before .before .before .before .before .before .before .before .if1 .left), c .before .before .before .before .before .before .before .before .before .before .firings .inv .listed .short)
+
+firings-less : tie.Need-firings-less Inv-loop μ-loop Inv-firings μ-firings
+firings-less c = omega (arith, (c .before .before .before .before .before .before .before .before .before .if1 .left))
+
+firings-again : tie.Need-firings-again Inv-loop μ-loop Inv-firings μ-firings
+firings-again c = fired-on (c .before .before .before .before .before .before .before .before .before .before .firings .inv) (c .before .before .before .before .before .before .before .before .before .if1 .left) (c .before .before .before .before .before .loop .inv) (c .before .before .before .before .before .before .before .before .before .before .before .before .before .before .before .pre .0) (c .before .before .before .before .loop-test .left) (c .before .before .fire .ensures)
+
+same-length : tie.Need-same-length Inv-loop μ-loop Inv-firings μ-firings
+same-length c = c .before .firings .inv .long
+
+returns : tie.Need-returns Inv-loop μ-loop Inv-firings μ-firings
+returns c =
+    let e = all-fired (c .before .firings .inv) (c .if1 .taken) in
+    (ap (λ (R : Replay). replayTold (R .answer)) (sym e), tokens-left (c .before .firings .inv) e)
+
+same-length-2 : tie.Need-same-length-2 Inv-loop μ-loop Inv-firings μ-firings
+same-length-2 c = c .before .before .before .before .before .before .before .before .before .before .before .firings .inv .long
+
+returns-2 : tie.Need-returns-2 Inv-loop μ-loop Inv-firings μ-firings
+returns-2 c =
+    let k = c .before .before .before .before .before .before .before .before .before .before .before .firings .k in
+    let e = stuck-at (c .before .before .before .before .before .before .before .before .before .before .before .firings .inv) (c .before .before .before .before .before .before .before .before .before .before .if1 .left) (c .before .before .before .before .before .before .loop .inv) (c .before .before .before .before .before .loop-test .taken) (omega (arith, ltb-true (getD (c .before .before .before .before .before .before .before .before .before .before .before .firings .marking) (c .before .before .before .arc .result .place) 0) (needAt (c .before .before .before .before .before .before .before .before .before .before .before .before .before .before .before .before .args .file .now) (c .before .before .before .before .before .before .before .before .before .before .before .before .before .before .before .before .args .h) (c .before .before .before .before .before .before .loop .j)) (sym (c .before .short-at .ensures) ∙ c .if2 .taken), ap (λ (x : Arc). getD (c .before .before .before .before .before .before .before .before .before .before .before .firings .marking) (x .place) 0) (c .before .before .before .arc .ensures .0))) in
+    let told : Arc → ReplayAnswer = λ a. record { refusal = 0; stuck = true; index = k; place = a .place } in
+    (ap told (c .before .before .before .arc .ensures .0) ∙ ap (λ (R : Replay). replayTold (R .answer)) (sym e), tokens-left (c .before .before .before .before .before .before .before .before .before .before .before .firings .inv) e)
+
+pub run-spec : {M : Type 1} → statement M
+run-spec =
+    tie.close
+    (tie.spec
+    Inv-loop
+    μ-loop
+    Inv-firings
+    μ-firings
+    firings-holds
+    mul-t
+    shared-slice-read-t
+    cast-t
+    mul-entry
+    entry-requires
+    mul-entry-2
+    add-entry
+    entry-requires-2
+    loop-holds
+    mul-arc
+    add-arc
+    arc-requires
+    mul-short-at
+    slice-read-short-at
+    short-at-requires
+    cast-index
+    cast-place
+    add-j
+    loop-less
+    loop-again
+    fire-requires
+    add-k
+    firings-less
+    firings-again
+    same-length
+    returns
+    same-length-2
+    returns-2)

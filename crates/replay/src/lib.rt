@@ -1,0 +1,192 @@
+// Replay of a list of transitions on the net of a file that was read.
+ghost use mathlib.Core.Path.{_≡_};
+ghost use Prim.Native.Nat.{ℕ, _+_, _*_, _^_, _<_, _≤_};
+ghost use lib.ListN.{length, getD};
+ghost use lib.Dec.{ltb};
+ghost use Rattle.net.specs.Net.{fire as fireOf, replay as replayOf, replayFrom, tokens};
+ghost use Rattle.file.specs.Layout.{netFrom};
+ghost use Rattle.file.specs.Facts.{Sound};
+ghost use Rattle.gain.specs.Gain.{sumTo, Run, Takes, Gives};
+ghost use Rattle.promise.specs.Calls.{written};
+ghost use Rattle.promise.specs.Firing.{replayTold, replayOr};
+ghost use Rattle.replay.specs.Told.{outcomeNumbers, heldBack};
+ghost use Rattle.replay.specs.Steps.{InputAt, needAt, held, Ready, Firable, Holds, Listed, Passed};
+use file::Header;
+use file::arcs::arc;
+
+// How a replay ends: all fired; stuck, at an index of the list and a place; or refused.
+pub enum Outcome {
+    Fired,
+    Stuck(u32, u32),
+    Refused(u32),
+}
+
+// What the transition of input arc j takes from the place of the arc.
+fn need_at(file: &[u8], h: Header, j: usize) -> u64
+    requires { ⌜ InputAt (now file) h j ⌝ }
+    ensures { λ r. ⌜ r ≡ needAt (now (file .entry)) h j ⌝ }
+{
+    let a = arc(file, h.arcstart + 8 * j);
+    a.weight as u64
+}
+
+// Is the place of input arc j short, where it holds so many tokens?
+fn short_at(file: &[u8], h: Header, j: usize, count: u64) -> bool
+    requires { ⌜ InputAt (now file) h j ⌝ }
+    ensures { λ r. ⌜ r ≡ ltb count (needAt (now (file .entry)) h j) ⌝ }
+{
+    count < need_at(file, h, j)
+}
+
+// Takes the weights of the arcs from `from` to `to` out of the marking.
+fn take(file: &[u8], start: usize, from: usize, to: usize, marking: &mut [u64])
+    requires { ⌜ Run (now file) start from to (length (now marking)) ⌝ }
+    requires { ⌜ ((p : ℕ) → sumTo (now file) start p to ≤ getD (now marking) p 0 + sumTo (now file) start p from) ⌝ }
+    ensures { λ _. ⌜ Takes (now (file .entry)) start from to (now (marking .entry)) (now (marking .exit)) ⌝ }
+{
+    let mut j = from;
+    while j < to {
+        let a = arc(file, start + 8 * j);
+        let p = a.place;
+        marking[p] = marking[p] - (a.weight as u64);
+        j += 1;
+    }
+}
+
+// Adds the weights of the arcs from `from` to `to` to the marking.
+fn give(file: &[u8], start: usize, from: usize, to: usize, marking: &mut [u64])
+    requires { ⌜ Run (now file) start from to (length (now marking)) ⌝ }
+    requires { ⌜ ((p : ℕ) → getD (now marking) p 0 + sumTo (now file) start p to < 2 ^ 64 + sumTo (now file) start p from) ⌝ }
+    ensures { λ _. ⌜ Gives (now (file .entry)) start from to (now (marking .entry)) (now (marking .exit)) ⌝ }
+{
+    let mut j = from;
+    while j < to {
+        let a = arc(file, start + 8 * j);
+        let p = a.place;
+        marking[p] = marking[p] + (a.weight as u64);
+        j += 1;
+    }
+}
+
+// The number of arcs whose slot is below k.
+fn entry(table: &[u16], k: usize) -> usize
+    requires { ⌜ k < length (now table) ⌝ }
+    ensures { λ r. ⌜ r ≡ getD (now (table .entry)) k 0 ⌝ }
+{
+    table[k] as usize
+}
+
+// Fires t, which is enabled.
+fn fire(file: &[u8], h: Header, table: &[u16], t: usize, marking: &mut [u64])
+    requires { ⌜ Ready (now file) h (now table) (now marking) ⌝ }
+    requires { ⌜ Firable (now file) h t (now marking) ⌝ }
+    ensures { λ _. ⌜ Holds (now (marking .entry)) (now (marking .exit)) (fireOf (netFrom (now (file .entry)) h) t (held (now (marking .entry)))) ⌝ }
+{
+    let from = entry(table, 2 * t);
+    let middle = entry(table, 2 * t + 1);
+    let to = entry(table, 2 * t + 2);
+    take(file, h.arcstart, from, middle, marking);
+    give(file, h.arcstart, middle, to, marking);
+}
+
+// Fires the listed transitions in turn, until one is not enabled.
+fn run(file: &[u8], h: Header, table: &[u16], list: &[u16], marking: &mut [u64]) -> Outcome
+    requires { ⌜ Ready (now file) h (now table) (now marking) ⌝ }
+    requires { ⌜ Listed h (now list) (now marking) ⌝ }
+    ensures { λ r. ⌜ outcomeNumbers r ≡ replayTold (replayFrom (netFrom (now (file .entry)) h) 0 (held (now (marking .entry))) (now (list .entry)) .answer) ⌝ }
+    ensures { λ _. ⌜ Holds (now (marking .entry)) (now (marking .exit)) (replayFrom (netFrom (now (file .entry)) h) 0 (held (now (marking .entry))) (now (list .entry)) .marking) ⌝ }
+{
+    let mut k: usize = 0;
+    'firings: loop {
+        if list.len() <= k {
+            break 'firings Outcome::Fired;
+        }
+        let t = list[k] as usize;
+        let from = entry(table, 2 * t);
+        let middle = entry(table, 2 * t + 1);
+        let mut j = from;
+        while j < middle {
+            let a = arc(file, h.arcstart + 8 * j);
+            let p = a.place;
+            if short_at(file, h, j, marking[p]) {
+                let index = k as u32;
+                let place = p as u32;
+                break 'firings Outcome::Stuck(index, place);
+            }
+            j += 1;
+        }
+        fire(file, h, table, t, marking);
+        k += 1;
+    }
+}
+
+// Writes the initial marking of each place.
+fn load(file: &[u8], h: Header, marking: &mut [u64])
+    requires { ⌜ Sound (now file) h ⌝ }
+    requires { ⌜ length (now marking) ≡ h .places ⌝ }
+    ensures { λ _. ⌜ Holds (now (marking .entry)) (now (marking .exit)) (netFrom (now (file .entry)) h .marking) ⌝ }
+{
+    let mut p: usize = 0;
+    while p < h.places {
+        marking[p] = file::marking(file, h, p) as u64;
+        p += 1;
+    }
+}
+
+// Replays a list that is not refused, with one entry of the marking for each place.
+fn replay_by(
+    file: &[u8],
+    h: Header,
+    list: &[u16],
+    table: &mut [u16],
+    marking: &mut [u64],
+) -> Outcome
+    requires { ⌜ Passed (now file) h (now list) (now marking) ⌝ }
+    requires { ⌜ 2 * h .transitions < length (now table) ⌝ }
+    ensures { λ r. ⌜ outcomeNumbers r ≡ replayTold (replayOf (netFrom (now (file .entry)) h) (now (list .entry)) .answer) ⌝ }
+    ensures { λ _. ⌜ now (marking .exit) ≡ tokens (netFrom (now (file .entry)) h) (replayOf (netFrom (now (file .entry)) h) (now (list .entry)) .marking) ⌝ }
+{
+    starts::starts(file, h.arcstart, h.arcs, h.transitions, table);
+    load(file, h, marking);
+    run(file, h, table, list, marking)
+}
+
+// The same, with a table that is as large as the net needs it.
+fn replay_all(file: &[u8], h: Header, list: &[u16], marking: &mut [u64]) -> Outcome
+    requires { ⌜ Passed (now file) h (now list) (now marking) ⌝ }
+    ensures { λ r. ⌜ outcomeNumbers r ≡ replayTold (replayOf (netFrom (now (file .entry)) h) (now (list .entry)) .answer) ⌝ }
+    ensures { λ _. ⌜ now (marking .exit) ≡ tokens (netFrom (now (file .entry)) h) (replayOf (netFrom (now (file .entry)) h) (now (list .entry)) .marking) ⌝ }
+{
+    if h.transitions <= 64 {
+        let mut table: [u16; 129] = [0; 129];
+        return replay_by(file, h, list, &mut table, marking);
+    }
+    let mut table: [u16; 2049] = [0; 2049];
+    replay_by(file, h, list, &mut table, marking)
+}
+
+// Checks the list, then the room for the marking: 0, 11, 12 or 13.
+fn held_back(h: Header, list: &[u16], room: usize) -> u32
+    requires { ⌜ h .transitions ≤ 1024 ⌝ }
+    ensures { λ r. ⌜ r ≡ heldBack h (now (list .entry)) room ⌝ }
+{
+    let listed = lists::refusal(h.transitions, list);
+    if listed != 0 {
+        return listed;
+    }
+    lists::refuse(room < h.places, 13, 0)
+}
+
+// Replays the list from the initial marking. The first entries of `marking` get the marking that it ends with, and the others are kept.
+pub fn replay(file: &[u8], h: Header, list: &[u16], marking: &mut [u64]) -> Outcome
+    requires { ⌜ Sound (now file) h ⌝ }
+    ensures answer { λ r. ⌜ outcomeNumbers r ≡ replayOr (heldBack h (now (list .entry)) (length (now (marking .entry)))) (replayOf (netFrom (now (file .entry)) h) (now (list .entry)) .answer) ⌝ }
+    ensures marking { λ _. ⌜ now (marking .exit) ≡ written (heldBack h (now (list .entry)) (length (now (marking .entry)))) (tokens (netFrom (now (file .entry)) h) (replayOf (netFrom (now (file .entry)) h) (now (list .entry)) .marking)) (now (marking .entry)) ⌝ }
+{
+    let refused = held_back(h, list, marking.len());
+    if refused != 0 {
+        return Outcome::Refused(refused);
+    }
+    let places = h.places;
+    replay_all(file, h, list, &mut marking[..places])
+}

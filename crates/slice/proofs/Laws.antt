@@ -1,0 +1,200 @@
+-- From the parts of a slice file to the file, its length and the answer. Assumes nothing.
+use Prim.Native.Nat.{ℕ, zero, suc, _+_, _*_, _≤_, _<_}
+use mathlib.Core.Bool.{true, false, _&&_}
+use mathlib.Core.List.{List, [], _∷_, _++_}
+use mathlib.Core.Path.{_≡_, refl, sym, ap, subst, subst⁻¹, _∙_}
+use native.Mathlib.Omega.{arith}
+use lib.ListN.{length, getD, take, replicate, length-append}
+use lib.Seq.{sets}
+use borrow.Author.Tests.{lt-ltb, le-ltb}
+use Rattle.net.specs.Numbers.{among, selected}
+use Rattle.net.specs.Net.{Net}
+use Rattle.net.specs.Slice.{Slice, restrict, keeping}
+use Rattle.net.specs.declared.Arc.{Arc}
+use Rattle.net.proofs.Numbers.{by-cases, among-at, below-passes, selected-rises, length-selected}
+use Rattle.file.specs.Facts.{Sound}
+use Rattle.file.specs.Layout.{arcAt, netFrom}
+use Rattle.file.specs.Word.{bytes16, bytes32}
+use Rattle.file.specs.Writing.{arcsBytes, originsBytes, sliceBody, trailerBytes, sliceBytes}
+use Rattle.file.specs.declared.Header.{Header}
+use Rattle.file.proofs.Bytes.{length-origins, length-arcs}
+use Rattle.promise.proofs.Cuts.{length-arcsFrom}
+use Rattle.promise.proofs.Writer.{markingsOf, cut-bytes}
+use Rattle.starts.proofs.Reached.{range-at}
+use Rattle.between.specs.Between.{Run, Runs, keptRuns}
+use Rattle.between.proofs.Restricted.{split-rises, runs-restricted}
+use Rattle.parts.specs.Trailer.{trailerFor}
+use Rattle.parts.proofs.Steps.{length-markingsOf}
+use Rattle.put.proofs.Sets.{sets-after, sets-first, take-sets}
+use Rattle.sets.specs.Member.{member, countBelow}
+use Rattle.sets.specs.declared.KeptSets.{KeptSets}
+use Rattle.members.proofs.Selected.{selected-below, count-selected}
+use Rattle.slice.specs.Kept.{Within, Answers, keptSlice}
+use Rattle.slice.specs.Parts.{Lists, Tables}
+use Rattle.slice.specs.declared.Cut.{Cut}
+use Rattle.slice.specs.declared.Cut.the-variants.{Written, Refused}
+
+-- an array of zeros
+pub all-zero : (n x : ℕ) → _≡_ {A = ℕ} (getD {A = ℕ} (replicate n 0) x 0) 0
+all-zero zero x = refl
+all-zero (suc n) zero = refl
+all-zero (suc n) (suc x) = all-zero n x
+
+-- the members of a set of numbers below P
+module _ (words : List ℕ) (P : ℕ) (small : P ≤ 1024) (within : (p : ℕ) → member words p ≡ true → p < P) where
+  members-are : selected (member words) 0 1024 ≡ selected (member words) 0 P
+  members-are = selected-below (member words) P 1024 within small
+
+  pub members-fit : length (selected (member words) 0 1024) ≤ P
+  members-fit = omega (arith, ap length members-are, length-selected (member words) 0 P)
+
+  module _ (n : ℕ) (count : n ≡ countBelow (member words) 1024) where
+    counted : length (selected (member words) 0 1024) ≡ n
+    counted = omega (arith, count, count-selected (member words) 1024)
+
+    pub count-fits : n ≤ P
+    count-fits = omega (arith, counted, members-fit)
+
+    pub members-listed : (l stored : List ℕ) → P ≤ length l → stored ≡ sets l 0 (selected (member words) 0 1024) → take n stored ≡ selected (member words) 0 P
+    members-listed l stored h e = ap (take n) e ∙ take-sets (selected (member words) 0 1024) l n counted (omega (arith, members-fit)) ∙ members-are
+
+    pub listed-length : (l stored : List ℕ) → P ≤ length l → stored ≡ sets l 0 (selected (member words) 0 1024) → n ≡ length (take n stored)
+    listed-length l stored h e = omega (arith, counted, ap length members-are, ap length (members-listed l stored h e))
+
+  member-known : (i : ℕ) → i < length (selected (member words) 0 P) → getD (selected (member words) 0 P) i 0 < P
+  member-known i l = below-passes (member words) P (getD (selected (member words) 0 P) i 0) (among-at (selected (member words) 0 P) i l) .0
+
+-- the kept numbers as lists
+pub lists-kept : (kept : KeptSets) (h : Header) → Within kept h → h .places ≤ 1024 → h .transitions ≤ 1024 → (ps ts : List ℕ)
+    → ps ≡ selected (member (kept .places)) 0 (h .places) → ts ≡ selected (member (kept .transitions)) 0 (h .transitions) → Lists h ps ts
+lists-kept kept h w p t ps ts e f =
+    subst⁻¹ (λ (l : List ℕ). Lists h l ts) e (subst⁻¹ (Lists h (selected (member (kept .places)) 0 (h .places))) f (record {
+      few-places = omega (arith, length-selected (member (kept .places)) 0 (h .places));
+      few-transitions = omega (arith, length-selected (member (kept .transitions)) 0 (h .transitions));
+      places-rise = selected-rises (member (kept .places)) 0 (h .places);
+      transitions-rise = selected-rises (member (kept .transitions)) 0 (h .transitions);
+      places-known = member-known (kept .places) (h .places) p (w .places);
+      transitions-known = member-known (kept .transitions) (h .transitions) t (w .transitions);
+    }))
+
+pub slice-kept : (s : List ℕ) (h : Header) (kept : KeptSets) (ps ts entry exit : List ℕ) (r : Cut)
+    → ps ≡ selected (member (kept .places)) 0 (h .places) → ts ≡ selected (member (kept .transitions)) 0 (h .transitions)
+    → Answers (keeping (netFrom s h) ps ts) entry exit r → Answers (keptSlice s h kept) entry exit r
+unfolding keptSlice
+slice-kept s h kept ps ts entry exit r e f = subst (λ (S : Slice). Answers S entry exit r) (λ i. keeping (netFrom s h) (e i) (f i))
+
+-- the runs of the kept transitions
+module _ (s : List ℕ) (h : Header) (sound : Sound s h) (ps ts own table : List ℕ) (lists : Lists h ps ts) (tables : Tables s h ps own table) where
+  place-entry : (j : ℕ) → j < h .arcs → arcAt s (h .arcstart + 8 * j) .place < length own
+  place-entry j l = omega (arith, range-at (h .places) (h .transitions) s (h .arcstart) (h .arcs) j (sound .arcs) l .place, tables .reach)
+
+  pub runs-known : Runs s (h .arcstart) own table ts
+  runs-known = record {
+    short = lists .few-transitions;
+    reach = λ i l. omega (arith, lists .transitions-known i l, tables .starts .long);
+    runs = λ i l.
+        let t = getD ts i 0 in
+        let k = lists .transitions-known i l in
+        let a = tables .starts .splits (2 * t) (omega arith) in
+        let b = tables .starts .splits (2 * t + 2) (omega arith) in
+        record {
+          order = split-rises s (h .arcstart) (h .arcs) (2 * t) _ (2 * t + 2) _ a b (omega arith);
+          few = omega (arith, b .within, sound .placed .arcs);
+          fit = omega (arith, b .within, sound .placed .arcsFit, sound .placed .originsFit);
+          places = λ j q. place-entry j (omega (arith, b .within));
+        };
+  }
+
+  pub runs-are : keptRuns s (h .arcstart) own table 0 ts ≡ restrict ps ts (netFrom s h .arcs)
+  runs-are =
+      runs-restricted s (h .arcstart) (h .arcs) (h .transitions) own table ps ts (tables .starts .splits)
+      (λ j l. range-at (h .places) (h .transitions) s (h .arcstart) (h .arcs) j (sound .arcs) l .direction)
+      place-entry (tables .owns) (lists .transitions-rise) (lists .transitions-known)
+
+restrict-length : (ps ts : List ℕ) (l : List Arc) → length (restrict ps ts l) ≤ length l
+unfolding restrict
+restrict-length ps ts [] = omega arith
+restrict-length ps ts (a ∷ l) =
+    by-cases (among (a .place) ps && among (a .transition) ts)
+    (λ e. rw (e, restrict) (omega (arith, restrict-length ps ts l)))
+    (λ e. rw (e, restrict) (omega (arith, restrict-length ps ts l)))
+
+pub few-arcs : (s : List ℕ) (h : Header) (ps ts : List ℕ) → Sound s h → length (restrict ps ts (netFrom s h .arcs)) ≤ 4096
+few-arcs s h ps ts sound = omega (arith, restrict-length ps ts (netFrom s h .arcs), length-arcsFrom s (h .arcstart) (h .arcs), sound .placed .arcs)
+
+module _ (N : Net) (ps ts : List ℕ) where
+  abbrev M : List ℕ
+  M = markingsOf (N .marking) ps
+
+  abbrev A : List ℕ
+  A = arcsBytes (restrict ps ts (N .arcs))
+
+  abbrev n : ℕ
+  n = length (restrict ps ts (N .arcs))
+
+  abbrev body : ℕ → ℕ
+  body arcs = 4 * length ps + 8 * arcs + 2 * length ps + 2 * length ts
+
+  length-1 : length M ≡ 4 * length ps
+  length-1 = length-markingsOf (N .marking) ps
+
+  length-2 : length (M ++ A) ≡ 4 * length ps + 8 * n
+  length-2 = omega (arith, length-append M A, length-1, length-arcs (restrict ps ts (N .arcs)))
+
+  length-3 : length (M ++ A ++ originsBytes ps) ≡ 4 * length ps + 8 * n + 2 * length ps
+  length-3 = omega (arith, length-append (M ++ A) (originsBytes ps), length-2, length-origins ps)
+
+  length-4 : length (M ++ A ++ originsBytes ps ++ originsBytes ts) ≡ body n
+  length-4 = omega (arith, length-append (M ++ A ++ originsBytes ps) (originsBytes ts), length-3, length-origins ts)
+
+  trailer-is : trailerBytes (keeping N ps ts) ≡ trailerFor (body n) (length ps) (length ts) n
+  unfolding trailerBytes sliceBody keeping trailerFor
+  trailer-is = refl
+
+  length-trailer : length (trailerBytes (keeping N ps ts)) ≡ 16
+  unfolding trailerBytes bytes16 bytes32
+  length-trailer = refl
+
+  pub file-length : length (sliceBytes (keeping N ps ts)) ≡ 6 * length ps + 8 * length (restrict ps ts (N .arcs)) + 2 * length ts + 16
+  file-length =
+      let all = length-append (M ++ A ++ originsBytes ps ++ originsBytes ts) (trailerBytes (keeping N ps ts)) in
+      omega (arith, ap length (cut-bytes N ps ts), all, length-4, length-trailer)
+
+  pub kept-places : length ps ≡ keeping N ps ts .net .places
+  unfolding keeping
+  kept-places = refl
+
+  pub kept-transitions : length ts ≡ keeping N ps ts .net .transitions
+  unfolding keeping
+  kept-transitions = refl
+
+  -- the parts stored one after the other are the file
+  pub parts-stored : (found : List Arc) (arcs : ℕ) (s b₁ b₂ b₃ b₄ b₅ : List ℕ) → found ≡ restrict ps ts (N .arcs) → arcs ≡ length (restrict ps ts (N .arcs))
+      → b₁ ≡ sets s 0 (markingsOf (N .marking) ps)
+      → b₂ ≡ sets b₁ (4 * length ps) (arcsBytes found)
+      → b₃ ≡ sets b₂ (4 * length ps + 8 * arcs) (originsBytes ps)
+      → b₄ ≡ sets b₃ (4 * length ps + 8 * arcs + 2 * length ps) (originsBytes ts)
+      → b₅ ≡ sets b₄ (4 * length ps + 8 * arcs + 2 * length ps + 2 * length ts) (trailerFor (4 * length ps + 8 * arcs + 2 * length ps + 2 * length ts) (length ps) (length ts) arcs)
+      → b₅ ≡ sets s 0 (sliceBytes (keeping N ps ts))
+  parts-stored found arcs s b₁ b₂ b₃ b₄ b₅ same count e₁ e₂ e₃ e₄ e₅ =
+      let P = originsBytes ps in
+      let T = originsBytes ts in
+      let here₂ : b₂ ≡ sets b₁ (4 * length ps) A = e₂ ∙ ap (λ (l : List Arc). sets b₁ (4 * length ps) (arcsBytes l)) same in
+      let here₅ : b₅ ≡ sets b₄ (body arcs) (trailerBytes (keeping N ps ts)) = e₅ ∙ ap (λ (k : ℕ). sets b₄ (body arcs) (trailerFor (body k) (length ps) (length ts) k)) count ∙ ap (sets b₄ (body arcs)) (sym trailer-is) in
+      let to₂ = sets-after M A s 0 (4 * length ps) e₁ here₂ (omega (arith, length-1)) in
+      let to₃ = sets-after (M ++ A) P s 0 (4 * length ps + 8 * arcs) to₂ e₃ (omega (arith, length-2)) in
+      let to₄ = sets-after (M ++ A ++ P) T s 0 (4 * length ps + 8 * arcs + 2 * length ps) to₃ e₄ (omega (arith, length-3)) in
+      sets-after (M ++ A ++ P ++ T) (trailerBytes (keeping N ps ts)) s 0 (body arcs) to₄ here₅ (omega (arith, length-4))
+      ∙ ap (sets s 0) (sym (cut-bytes N ps ts))
+
+-- the answers
+module _ (S : Slice) (entry : List ℕ) where
+  pub no-room : length entry < length (sliceBytes S) → Answers S entry entry (Refused 13)
+  no-room h = record { answer = rw (lt-ltb (length entry) (length (sliceBytes S)) h); buffer = rw (lt-ltb (length entry) (length (sliceBytes S)) h) }
+
+  pub room : (exit : List ℕ) (k p t : ℕ) → length (sliceBytes S) ≤ length entry → exit ≡ sets entry 0 (sliceBytes S) → k ≡ length (sliceBytes S) → p ≡ S .net .places → t ≡ S .net .transitions
+      → Answers S entry exit (Written k p t)
+  room exit k p t h e ke pe te = record {
+    answer = rw (le-ltb (length entry) (length (sliceBytes S)) h) (λ i. record { refusal = 0; length = ke i; places = pe i; transitions = te i });
+    buffer = rw (le-ltb (length entry) (length (sliceBytes S)) h) (e ∙ sets-first (sliceBytes S) entry h);
+  }

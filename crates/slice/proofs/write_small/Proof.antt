@@ -1,0 +1,67 @@
+use borrow.Author.Needs.{needs}
+use Prim.Native.Nat.{ℕ}
+use native.Mathlib.Omega.{arith}
+use lib.ListN.{length-replicate}
+use Rattle.starts.proofs.Reached.{tabled}
+use Rattle.slice.proofs.Laws.{all-zero}
+use Rattle.slice.proofs.write_small.Statement.{statement}
+use Rattle.slice.proofs.write_small.Tie as tie
+use Rattle.slice.proofs.write_small.Reads as reads
+use Rattle.slice.proofs.write_small.Lts as lts
+use Rattle.slice.proofs.write_sets.Reads as write-sets-reads
+use Rattle.starts.proofs.starts.Reads as starts-reads
+
+slice-aggregate-starts : tie.Need-slice-aggregate-starts
+slice-aggregate-starts c = search needs
+
+starts-requires : tie.Need-starts-requires
+starts-requires c κs = tabled _ _ _ (c .before .before .before .pre .0) (omega (arith, c .before .before .before .pre .1 .1 .1, length-replicate {A = ℕ} 129 0))
+
+slice-aggregate-write-sets : tie.Need-slice-aggregate-write-sets
+slice-aggregate-write-sets c = search needs
+
+slice-aggregate-write-sets-2 : tie.Need-slice-aggregate-write-sets-2
+slice-aggregate-write-sets-2 c = search needs
+
+slice-aggregate-write-sets-3 : tie.Need-slice-aggregate-write-sets-3
+slice-aggregate-write-sets-3 c = search needs
+
+slice-aggregate-write-sets-4 : tie.Need-slice-aggregate-write-sets-4
+slice-aggregate-write-sets-4 c = search needs
+
+write-sets-requires : tie.Need-write-sets-requires
+write-sets-requires c κs =
+    let start = c .before .before .before .before .before .before .before .before .before .before in
+    let table = c .before .before .before .before .before .before .starts .ensures in (
+      start .pre .0,
+      (
+        start .pre .1 .0,
+        (
+          (omega (arith, start .pre .1 .1 .0, length-replicate {A = ℕ} 64 0), omega (arith, start .pre .1 .1 .1, length-replicate {A = ℕ} 64 0)),
+          (
+            record { reach = omega (arith, start .pre .1 .1 .0, length-replicate {A = ℕ} 64 0); clear = all-zero 64 },
+            record { long = omega (arith, table .0, start .pre .1 .1 .1, length-replicate {A = ℕ} 129 0); splits = table .1 },
+          ),
+        ),
+      ),
+    )
+
+same-length : tie.Need-same-length
+same-length c = search needs
+
+returns : tie.Need-returns
+returns c = search needs
+
+pub write-small-spec : {M : Type 1} → statement M
+write-small-spec =
+    tie.close
+    (tie.spec
+    slice-aggregate-starts
+    starts-requires
+    slice-aggregate-write-sets
+    slice-aggregate-write-sets-2
+    slice-aggregate-write-sets-3
+    slice-aggregate-write-sets-4
+    write-sets-requires
+    same-length
+    returns)

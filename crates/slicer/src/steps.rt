@@ -1,0 +1,49 @@
+// The arcs of one transition in words.
+ghost use Prim.Native.Nat.{_+_, _≤_};
+ghost use lib.ListN.{length};
+use net::Arc;
+use terminal::say;
+
+// `takes 1 from place 0`, `adds 1 to place 2`.
+fn step(a: Arc) {
+    if a.direction == 0 {
+        say::text(b"takes ");
+        say::count(a.weight);
+        say::text(b" from place ");
+        say::count(a.place);
+        return;
+    }
+    say::text(b"adds ");
+    say::count(a.weight);
+    say::text(b" to place ");
+    say::count(a.place);
+}
+
+fn before(at: usize) {
+    if at == 0 {
+        say::text(b": ");
+        return;
+    }
+    say::text(b", ");
+}
+
+fn step_at(run: &[u8], at: usize)
+    requires { ⌜ at + 8 ≤ length (now run) ⌝ }
+{
+    before(at);
+    step(file::arcs::arc(run, at));
+}
+
+fn steps(run: &[u8]) {
+    let mut left = run.len();
+    while 8 <= left {
+        step_at(run, run.len() - left);
+        left -= 8;
+    }
+}
+
+// Each arc of a run, and the end of the line.
+pub fn line(run: &[u8]) {
+    steps(run);
+    say::text(b"\n");
+}
