@@ -128,10 +128,88 @@ static void arcs(void)
     expect("weight of the first", plan[start + 6] + 256 * plan[start + 7], 2);
 }
 
+static void replays(void)
+{
+    const struct {
+        const char *what;
+        uint16_t list[5];
+        size_t n, room;
+        uint32_t answer, index, place;
+        uint64_t marking[6];
+    } cases[] = {
+        {"0,1,0,1,2", {0, 1, 0, 1, 2}, 5, 6, 0, 0, 0, {0, 1, 0, 0, 1, 7}},
+        {"the empty list", {0}, 0, 6, 0, 0, 0, {2, 1, 0, 0, 0, 7}},
+        {"0,0", {0, 0}, 2, 5, 100, 1, 1, {1, 0, 1, 0, 0, 7}},
+        {"3,3,0", {3, 3, 0}, 3, 5, 100, 2, 0, {0, 1, 0, 0, 0, 7}},
+        {"an unknown transition", {0, 4}, 2, 5, 12, 0, 0, {7, 7, 7, 7, 7, 7}},
+        {"too few entries", {0}, 1, 4, 13, 0, 0, {7, 7, 7, 7, 7, 7}},
+    };
+    for (size_t i = 0; i < sizeof cases / sizeof cases[0]; i++) {
+        uint64_t marking[6] = {7, 7, 7, 7, 7, 7};
+        uint32_t index = 99, place = 99;
+        expect(cases[i].what, nesfoal_replay(plan, 108, cases[i].list, cases[i].n, marking, cases[i].room, &index, &place), cases[i].answer);
+        expect(cases[i].what, index, cases[i].index);
+        expect(cases[i].what, place, cases[i].place);
+        expect(cases[i].what, memcmp(marking, cases[i].marking, sizeof marking), 0);
+    }
+    static uint16_t longest[65536];
+    uint64_t marking[5];
+    uint32_t index, place;
+    expect("65,536 firings", nesfoal_replay(plan, 108, longest, 65536, marking, 5, &index, &place), 11);
+    expect("no file", nesfoal_replay(NULL, 0, NULL, 0, NULL, 0, &index, &place), 1);
+}
+
+static void cuts(void)
+{
+    const uint16_t criterion[] = {2};
+    uint8_t room[100];
+    uint32_t length = 9, places = 9, transitions = 9;
+    memset(room, 0xAA, sizeof room);
+    expect("safety", nesfoal_safety(plan, 108, criterion, 1, room, 100, &length, &places, &transitions), 0);
+    expect("safety, bytes", length, 78);
+    expect("safety, places", places, 3);
+    expect("safety, transitions", transitions, 2);
+    expect("safety, the file", memcmp(room, cut, 78), 0);
+    expect("safety, past the file", room[78], 0xAA);
+    memset(room, 0xAA, sizeof room);
+    expect("one byte short", nesfoal_safety(plan, 108, criterion, 1, room, 77, &length, &places, &transitions), 13);
+    expect("one byte short, zeros", length + places + transitions, 0);
+    expect("one byte short, untouched", room[0], 0xAA);
+    expect("no criterion", nesfoal_safety(plan, 108, NULL, 0, room, 100, &length, &places, &transitions), 9);
+    expect("a slice is no plan", nesfoal_safety(cut, 78, criterion, 1, room, 100, &length, &places, &transitions), 3);
+    expect("branching", nesfoal_branching(plan, 108, criterion, 1, room, 100, &length, &places, &transitions), 0);
+    expect("branching, bytes", length, 88);
+    expect("branching, transitions", transitions, 3);
+}
+
+static void checks(void)
+{
+    const uint8_t one[] = {2, 0}, both[] = {2, 0, 3, 0};
+    const uint16_t numbers[] = {2, 3};
+    uint8_t other[78];
+    uint32_t number = 9;
+    expect("accepted", nesfoal_check(plan, 108, cut, 78, one, 2), 0);
+    expect("too small for two places", nesfoal_check(plan, 108, cut, 78, both, 4), 105);
+    expect("an odd count", nesfoal_check(plan, 108, cut, 78, both, 3), 9);
+    expect("no criterion", nesfoal_check(plan, 108, cut, 78, NULL, 0), 9);
+    expect("no slice", nesfoal_check(plan, 108, NULL, 0, one, 2), 1);
+    expect("verdict", nesfoal_verdict(plan, 108, cut, 78, numbers, 1, &number), 0);
+    expect("verdict, number", number, 0);
+    expect("rule 5", nesfoal_verdict(plan, 108, cut, 78, numbers, 2, &number), 105);
+    expect("rule 5, place", number, 3);
+    memcpy(other, cut, 78);
+    other[0] = 1;
+    expect("rule 3", nesfoal_verdict(plan, 108, other, 78, numbers, 1, &number), 103);
+    expect("rule 3, place", number, 0);
+}
+
 int main(void)
 {
     effects();
     arcs();
+    replays();
+    cuts();
+    checks();
     printf("%u passed, %u failed\n", passed, failed);
     return failed != 0;
 }

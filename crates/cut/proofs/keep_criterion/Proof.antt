@@ -34,7 +34,7 @@ wide-requires c κs = search needs
 
 -- src/lib.rt:28:9
 insert-requires : tie.Need-insert-requires Inv-loop μ-loop
-insert-requires c κs = (number-below _ _ (c .before .before .before .before .before .before .pre .0) (c .before .before .before .before .loop .i) (c .wide .result) (c .before .before .before .loop-test .taken) (c .wide .ensures), c .before .before .before .before .loop .inv .long)
+insert-requires c κs = (omega (arith, number-below _ _ (c .before .before .before .before .before .before .pre .0) (c .before .before .before .before .loop .i) (c .wide .result) (c .before .before .before .loop-test .taken) (c .wide .ensures)), c .before .before .before .before .loop .inv .long)
 
 -- src/lib.rt:29:9
 add-i : tie.Need-add-i Inv-loop μ-loop
