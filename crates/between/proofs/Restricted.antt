@@ -8,12 +8,12 @@ use lib.ListN.{length, getD, drop}
 use Rattle.net.specs.Numbers.{among, position, Rising}
 use Rattle.net.specs.Slice.{renumber, restrict}
 use Rattle.net.specs.declared.Arc.{Arc}
-use Rattle.net.proofs.Numbers.{by-cases, by-order, holds, is-true, is-false, among-at, position-lt, at-position, position-at, rising-lt}
+use Rattle.net.proofs.Numbers.{by-cases, by-order, is-true, is-false, among-at, position-lt, at-position, position-at, rising-lt}
 use Rattle.net.proofs.Weights.{restrict-append}
 use Rattle.file.specs.Layout.{arcAt, arcsFrom}
 use Rattle.own.specs.Own.{ownEntry, Own}
 use Rattle.starts.specs.Table.{slotAt, Split}
-use Rattle.between.specs.Between.{keptArc, keptRun, arcsAt, runAt, keptRuns}
+use Rattle.between.specs.Between.{keptArc, keptRun, arcsAt, keptRuns}
 use Rattle.between.proofs.Steps.{runs-next, runs-end}
 
 first : (s : List ℕ) (at : ℕ) → arcAt s (at + 8 * 0) ≡ arcAt s at

@@ -8,10 +8,10 @@ ghost use Rattle.file.specs.Writing.{arcsBytes};
 ghost use Rattle.between.specs.Between.{keptArc, keptRun, keptRuns, arcsAt, Run, Runs};
 use net::Arc;
 
-fn one_if_kept(entry: u16) -> usize
-    ensures { λ r. ⌜ (r ≤ 1) × ((i : ℕ) (a : Arc) → r ≡ length (keptArc i entry a)) ⌝ }
+fn one_if_kept(own: u16) -> usize
+    ensures { λ r. ⌜ (r ≤ 1) × ((i : ℕ) (a : Arc) → r ≡ length (keptArc i own a)) ⌝ }
 {
-    if entry == 0 { 0 } else { 1 }
+    if own == 0 { 0 } else { 1 }
 }
 
 // How many of the arcs `from` to `to` have a kept place.
@@ -53,13 +53,15 @@ fn write_arc(a: Arc, entry: usize, number: usize, at: usize, buffer: &mut [u8]) 
     requires { ⌜ at + length (arcsBytes (keptArc number entry a)) ≤ length (now buffer) ⌝ }
     ensures { λ r. ⌜ (r ≡ at + length (arcsBytes (keptArc number entry a))) × (now (buffer .exit) ≡ sets (now (buffer .entry)) at (arcsBytes (keptArc number entry a))) ⌝ }
 {
+    let direction = a.direction;
     if entry == 0 {
         return at;
     }
+    let place = entry - 1;
     let kept = Arc {
         transition: number,
-        direction: a.direction,
-        place: entry - 1,
+        direction,
+        place,
         weight: a.weight,
     };
     put::put_arc(buffer, at, kept);

@@ -6,14 +6,16 @@ use mathlib.Core.Path.{_≡_, refl, sym, ap, _∙_, subst}
 use native.Mathlib.Omega.{arith}
 use native.Mathlib.Decide.{ℕ-discrete}
 use lib.Dec.{T, eqb}
-use lib.ListN.{length, getD, take, set, length-set}
+use lib.ListN.{length, getD, take, set, replicate, length-set}
 use lib.Seq.{take-all, getD-set-same, getD-set-other}
 use borrow.Author.Tests.{eq-eqb, ne-eqb}
 use Rattle.net.specs.Numbers.{among}
 use Rattle.net.proofs.Numbers.{among-at}
 use Rattle.sets.specs.Member.{member}
 use Rattle.starts.specs.Table.{choose}
-use Rattle.pending.specs.Growing.{Inserted}
+use Rattle.sets.specs.declared.KeptSets.{KeptSets}
+use Rattle.sets.proofs.Members.{none}
+use Rattle.add.specs.Added.{Added}
 use Rattle.cut.specs.Limits
 
 or-false : (a : Bool) → a || false ≡ a
@@ -23,6 +25,10 @@ or-false false = refl
 or-true : (a : Bool) → a || true ≡ true
 or-true true = refl
 or-true false = refl
+
+or-swap : (a b : Bool) → a || b ≡ b || a
+or-swap true b = sym (or-true b)
+or-swap false b = sym (or-false b)
 
 or-or : (a b c : Bool) → (a || b) || c ≡ a || (b || c)
 or-or true b c = refl
@@ -49,26 +55,33 @@ among-none (x ∷ Q) k = refl
 pub number-below : (n : ℕ) (Q : List ℕ) → Limits.Below n Q → (i q : ℕ) → i < length Q → q ≡ getD Q i 0 → q < n
 number-below n Q b i q l e = subst (λ (x : ℕ). x < n) (sym e) (b (getD Q i 0) (among-at Q i l))
 
--- ---- the set
+-- ---- the sets
 
--- the first i numbers are in the set
-pub record Starting (Q places : List ℕ) (i : ℕ) (places′ : List ℕ) : Type 0 where
-  pub members : (k : ℕ) → member places′ k ≡ member places k || among k (take i Q)
-  pub long : length places′ ≡ 16
+-- the first i numbers are kept, and no transition
+pub record Starting (Q : List ℕ) (i : ℕ) (r : KeptSets) : Type 0 where
+  pub places : (k : ℕ) → member (r .places) k ≡ among k (take i Q)
+  pub transitions : (k : ℕ) → member (r .transitions) k ≡ false
+  pub places-long : length (r .places) ≡ 16
+  pub transitions-long : length (r .transitions) ≡ 16
 
-pub starting-none : (Q places : List ℕ) → length places ≡ 16 → Starting Q places 0 places
-starting-none Q places l = record { members = λ k. sym (ap (λ (b : Bool). member places k || b) (among-none Q k) ∙ or-false (member places k)); long = l }
+pub starting-none : (Q : List ℕ) → Starting Q 0 (record { places = replicate 16 0; transitions = replicate 16 0 })
+starting-none Q = record { places = λ k. none k ∙ sym (among-none Q k); transitions = none; places-long = refl; transitions-long = refl }
 
-pub starting-more : (Q places : List ℕ) (i q : ℕ) (P P′ : List ℕ) → Starting Q places i P → i < length Q → q ≡ getD Q i 0 → Inserted q P P′ → Starting Q places (i + 1) P′
-starting-more Q places i q P P′ x l e y = record {
-  members = λ k.
-      y .members k ∙ ap (λ (b : Bool). b || eqb k q) (x .members k) ∙ or-or (member places k) (among k (take i Q)) (eqb k q)
-      ∙ ap (λ (b : Bool). member places k || b) (among-next Q i q k l e);
-  long = y .long;
+pub starting-more : (Q : List ℕ) (i q : ℕ) (w r : KeptSets) → Starting Q i w → i < length Q → q ≡ getD Q i 0 → Added true q w r → Starting Q (i + 1) r
+starting-more Q i q w r x l e y = record {
+  places = λ k. y .places k ∙ ap (λ (b : Bool). eqb k q || b) (x .places k) ∙ or-swap (eqb k q) (among k (take i Q)) ∙ among-next Q i q k l e;
+  transitions = λ k. y .transitions k ∙ x .transitions k;
+  places-long = y .places-long;
+  transitions-long = y .transitions-long;
 }
 
-pub starting-end : (Q places : List ℕ) (i : ℕ) (P : List ℕ) → Starting Q places i P → length Q ≤ i → Limits.Started Q places P
-starting-end Q places i P x l = record { members = λ k. x .members k ∙ ap (λ (R : List ℕ). member places k || among k R) (take-all i Q l); long = x .long }
+pub starting-end : (Q : List ℕ) (i : ℕ) (r : KeptSets) → Starting Q i r → length Q ≤ i → Limits.Started Q r
+starting-end Q i r x l = record {
+  places = λ k. x .places k ∙ ap (λ (R : List ℕ). among k R) (take-all i Q l);
+  transitions = x .transitions;
+  places-long = x .places-long;
+  transitions-long = x .transitions-long;
+}
 
 -- ---- the limits
 

@@ -1,6 +1,6 @@
 -- The parts of a cut: for the contracts of its functions, not for a reader of `kept`. Assumes nothing.
 use Prim.Native.Nat.{ℕ, _<_}
-use mathlib.Core.Bool.{Bool, true, false, _||_}
+use mathlib.Core.Bool.{Bool, true, false}
 use mathlib.Core.List.{List}
 use mathlib.Core.Path.{_≡_}
 use lib.Dec.{T}
@@ -28,10 +28,12 @@ pub record Lowered (Q limit limit′ : List ℕ) : Type 0 where
   pub at : (p : ℕ) → p < length limit → getD limit′ p 0 ≡ choose (among p Q) 0 (getD limit p 0)
   pub long : length limit′ ≡ length limit
 
--- the places of the criterion are put into the set
-pub record Started (Q places places′ : List ℕ) : Type 0 where
-  pub members : (k : ℕ) → member places′ k ≡ member places k || among k Q
-  pub long : length places′ ≡ 16
+-- the places of the criterion are kept, and no transition
+pub record Started (Q : List ℕ) (r : KeptSets) : Type 0 where
+  pub places : (k : ℕ) → member (r .places) k ≡ among k Q
+  pub transitions : (k : ℕ) → member (r .transitions) k ≡ false
+  pub places-long : length (r .places) ≡ 16
+  pub transitions-long : length (r .transitions) ≡ 16
 
 -- the sets are those of every cut whose criterion is Q and whose rows stand in head and next
 pub record Grown (s : List ℕ) (h : Header) (Q head next : List ℕ) (r : KeptSets) : Type 0 where

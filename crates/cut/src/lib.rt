@@ -18,16 +18,23 @@ fn wide(x: u16) -> usize
     x as usize
 }
 
-// Puts the places of the criterion into a set.
-fn keep_criterion(criterion: &[u16], places: &mut [u64; 16])
-    requires { ⌜ Below 1024 (now criterion) × (length (now places) ≡ 16) ⌝ }
-    ensures { λ _. ⌜ Started (now (criterion .entry)) (now (places .entry)) (now (places .exit)) ⌝ }
+// The pair of kept sets at first: the places of the criterion, and no transition.
+fn keep_criterion(criterion: &[u16]) -> KeptSets
+    requires { ⌜ Below 1024 (now criterion) ⌝ }
+    ensures { λ r. ⌜ Started (now (criterion .entry)) r ⌝ }
 {
+    let places = [0u64; 16];
+    let transitions = [0u64; 16];
+    let mut kept = KeptSets {
+        places,
+        transitions,
+    };
     let mut i: usize = 0;
     while i < criterion.len() {
-        pending::insert(places, wide(criterion[i]));
+        kept = add::added(kept, true, wide(criterion[i]));
         i += 1;
     }
+    kept
 }
 
 // The limit of a place outside of the criterion: above 2 ^ 30 it is raised, above 0 and not at 2 ^ 30 it is changed.
@@ -62,10 +69,10 @@ fn grow(
     requires { ⌜ Sound (now file) h × Starts (now file) h (now table) × Links h (now head) (now next) × Below (h .places) (now criterion) ⌝ }
     ensures { λ r. ⌜ Grown (now (file .entry)) h (now (criterion .entry)) (now (head .entry)) (now (next .entry)) r ⌝ }
 {
-    let mut places = [0u64; 16];
-    keep_criterion(criterion, &mut places);
+    let kept = keep_criterion(criterion);
+    let mut places = kept.places;
+    let mut transitions = kept.transitions;
     let mut pending = places;
-    let mut transitions = [0u64; 16];
     search::close(
         file,
         h,

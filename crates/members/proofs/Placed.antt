@@ -1,6 +1,5 @@
 -- The table of the places of a list's entries, entry by entry. Assumes nothing.
-use Prim.Native.Nat.{ℕ, suc, _+_, _≤_, _<_}
-use mathlib.Core.Bool.{true, false}
+use Prim.Native.Nat.{ℕ, suc, _+_, _<_}
 use mathlib.Core.List.{List}
 use mathlib.Core.Path.{_≡_, refl, sym, ap, _∙_}
 use mathlib.Core.Logic.{_≢_}
@@ -9,7 +8,7 @@ use native.Mathlib.Omega.{arith}
 use lib.ListN.{length, getD, set, length-set}
 use lib.Seq.{getD-set-same, getD-set-other}
 use Rattle.net.specs.Numbers.{among, position, Rising}
-use Rattle.net.proofs.Numbers.{by-cases, holds, is-true, fails, among-at, position-lt, at-position, rising-lt}
+use Rattle.net.proofs.Numbers.{by-cases, holds, fails, among-at, position-lt, at-position, rising-lt}
 use Rattle.own.specs.Own.{ownEntry, Own}
 use Rattle.members.specs.List.{Listed}
 

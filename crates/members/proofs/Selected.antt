@@ -1,5 +1,5 @@
 -- Selections part by part, and from their lowest number on; the bits of a word as a selection. Assumes nothing.
-use Prim.Native.Nat.{ℕ, zero, suc, _+_, _-_, _*_, _/_, _%_, _^_, _≤_, _<_}
+use Prim.Native.Nat.{ℕ, zero, suc, _+_, _-_, _*_, _%_, _^_, _≤_, _<_}
 use mathlib.Core.Bool.{Bool, true, false}
 use mathlib.Core.List.{List, [], _∷_, _++_, append-nil}
 use mathlib.Core.Path.{_≡_, refl, sym, ap, subst⁻¹, _∙_}
@@ -15,7 +15,7 @@ use borrow.Author.Tests.{eq-eqb, ne-eqb}
 use Rattle.net.specs.Numbers.{selected}
 use Rattle.net.proofs.Numbers.{by-cases, selected-same}
 use Rattle.net.proofs.Selections.{count-next}
-use Rattle.sets.specs.Member.{bit, digit, member, countBelow}
+use Rattle.sets.specs.Member.{bit, member, countBelow}
 use Rattle.sets.proofs.Bits.{differs, bit-xor, bit-pow, bit-zero, shifted-one, trailing-below, trailing-at, trailing-all}
 use Rattle.sets.proofs.Members.{member-at}
 use Rattle.members.specs.List.{bitsFrom}

@@ -2,5 +2,6 @@
 pub mod arcs;
 pub mod cuts;
 pub mod effect;
+pub mod project;
 pub mod replays;
 pub mod verdict;

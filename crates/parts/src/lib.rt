@@ -19,7 +19,8 @@ pub fn write_markings(plan: &[u8], h: Header, ps: &[u16], buffer: &mut [u8])
 {
     let mut i: usize = 0;
     while i < ps.len() {
-        let tokens = file::marking(plan, h, ps[i] as usize);
+        let p = ps[i] as usize;
+        let tokens = file::marking(plan, h, p);
         put::put32(buffer, 4 * i, tokens);
         i += 1;
     }

@@ -1,6 +1,6 @@
 -- From the parts of a slice file to the file, its length and the answer. Assumes nothing.
 use Prim.Native.Nat.{ℕ, zero, suc, _+_, _*_, _≤_, _<_}
-use mathlib.Core.Bool.{true, false, _&&_}
+use mathlib.Core.Bool.{true, _&&_}
 use mathlib.Core.List.{List, [], _∷_, _++_}
 use mathlib.Core.Path.{_≡_, refl, sym, ap, subst, subst⁻¹, _∙_}
 use native.Mathlib.Omega.{arith}
@@ -21,7 +21,7 @@ use Rattle.file.proofs.Bytes.{length-origins, length-arcs}
 use Rattle.promise.proofs.Cuts.{length-arcsFrom}
 use Rattle.promise.proofs.Writer.{markingsOf, cut-bytes}
 use Rattle.starts.proofs.Reached.{range-at}
-use Rattle.between.specs.Between.{Run, Runs, keptRuns}
+use Rattle.between.specs.Between.{Runs, keptRuns}
 use Rattle.between.proofs.Restricted.{split-rises, runs-restricted}
 use Rattle.parts.specs.Trailer.{trailerFor}
 use Rattle.parts.proofs.Steps.{length-markingsOf}

@@ -1,15 +1,12 @@
 use borrow.Author.Needs.{needs}
-use Prim.Native.Nat.{ℕ, _+_, _-_, _*_, _≤_, _<_}
-use mathlib.Core.Path.{_≡_, ap, _∙_}
+use Prim.Native.Nat.{_+_, _-_, _*_, _≤_, _<_}
+use mathlib.Core.Path.{_≡_, ap}
 use native.Mathlib.Omega.{arith}
 use lib.ListN.{length, getD, drop}
 use Rattle.between.specs.Between.{keptRuns}
 use Rattle.between.proofs.Steps.{runs-count, runs-end}
 use Rattle.between.proofs.count_arcs.Statement.{statement}
 use Rattle.between.proofs.count_arcs.Tie as tie
-use Rattle.between.proofs.count_arcs.Reads as reads
-use Rattle.between.proofs.count_arcs.Lts as lts
-use Rattle.between.proofs.count_run.Reads as count-run-reads
 
 abbrev Inv-loop : tie.InvT-loop
 Inv-loop plan start ts own table total₀ i₀ total i =

@@ -1,6 +1,6 @@
 use borrow.Author.Needs.{needs}
-use Prim.Native.Nat.{ℕ, _+_, _-_, _*_, _≤_, _<_}
-use mathlib.Core.Path.{_≡_, ap, _∙_}
+use Prim.Native.Nat.{ℕ, _+_, _-_, _≤_, _<_}
+use mathlib.Core.Path.{_≡_, ap}
 use native.Mathlib.Omega.{arith}
 use lib.ListN.{length}
 use Rattle.net.specs.declared.Arc.{Arc}
@@ -8,10 +8,6 @@ use Rattle.between.specs.Between.{keptRun, arcsAt}
 use Rattle.between.proofs.Steps.{run-count, run-end}
 use Rattle.between.proofs.count_run.Statement.{statement}
 use Rattle.between.proofs.count_run.Tie as tie
-use Rattle.between.proofs.count_run.Reads as reads
-use Rattle.between.proofs.count_run.Lts as lts
-use Rattle.between.proofs.one_if_kept.Reads as one-if-kept-reads
-use Rattle.file.proofs.arcs.arc.Reads as arc-reads
 
 abbrev Inv-loop : tie.InvT-loop
 Inv-loop plan start from to own total₀ j₀ total j =

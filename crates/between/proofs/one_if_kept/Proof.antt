@@ -1,18 +1,13 @@
-use borrow.Author.Needs.{needs}
-use mathlib.Core.Path.{refl, sym, ap, _∙_}
+use mathlib.Core.Path.{sym, ap}
 use native.Mathlib.Omega.{arith}
 use lib.ListN.{length}
 use Rattle.between.proofs.Steps.{arc-none, arc-one}
 use Rattle.between.proofs.one_if_kept.Statement.{statement}
 use Rattle.between.proofs.one_if_kept.Tie as tie
-use Rattle.between.proofs.one_if_kept.Reads as reads
-use Rattle.between.proofs.one_if_kept.Lts as lts
 
--- src/lib.rt:11:1
 returns : tie.Need-returns
 returns c = (omega arith, λ i a. sym (ap length (arc-none i _ a (c .if1 .taken))))
 
--- src/lib.rt:11:1
 returns-2 : tie.Need-returns-2
 returns-2 c = (omega arith, λ i a. sym (ap length (arc-one i _ a (c .if1 .left))))
 

@@ -1,6 +1,5 @@
 use borrow.Author.Needs.{needs}
-use Prim.Native.Nat.{ℕ, _+_, _-_, _*_, _≤_, _<_}
-use mathlib.Core.Path.{_≡_, ap, _∙_}
+use Prim.Native.Nat.{_+_, _-_, _*_, _≤_, _<_}
 use native.Mathlib.Omega.{arith}
 use lib.ListN.{length, getD, drop}
 use Rattle.file.specs.Writing.{arcsBytes}
@@ -9,9 +8,6 @@ use Rattle.between.specs.Between.{keptRun, runAt, keptRuns}
 use Rattle.between.proofs.Steps.{runs-bytes, runs-size, runs-end-bytes}
 use Rattle.between.proofs.write_arcs.Statement.{statement}
 use Rattle.between.proofs.write_arcs.Tie as tie
-use Rattle.between.proofs.write_arcs.Reads as reads
-use Rattle.between.proofs.write_arcs.Lts as lts
-use Rattle.between.proofs.write_run.Reads as write-run-reads
 
 abbrev Inv-loop : tie.InvT-loop
 Inv-loop plan start ts own table first buffer₀ at₀ i₀ buffer at i =

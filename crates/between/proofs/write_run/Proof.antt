@@ -1,10 +1,8 @@
 use borrow.Author.Needs.{needs}
-use Prim.Native.Nat.{ℕ, _+_, _-_, _*_, _≤_, _<_}
-use mathlib.Core.List.{[]}
-use mathlib.Core.Path.{_≡_, ap, _∙_}
+use Prim.Native.Nat.{_-_, _≤_, _<_}
+use mathlib.Core.Path.{ap}
 use native.Mathlib.Omega.{arith}
 use lib.ListN.{length, getD}
-use lib.Seq.{length-sets}
 use Rattle.net.specs.declared.Arc.{Arc}
 use Rattle.file.specs.Writing.{arcsBytes}
 use Rattle.put.proofs.Storing.{Storing, storing-all, storing-as, storing-part, storing-none, storing-end}
@@ -12,10 +10,6 @@ use Rattle.between.specs.Between.{keptArc, keptRun, arcsAt}
 use Rattle.between.proofs.Steps.{run-bytes, run-size, run-end-bytes}
 use Rattle.between.proofs.write_run.Statement.{statement}
 use Rattle.between.proofs.write_run.Tie as tie
-use Rattle.between.proofs.write_run.Reads as reads
-use Rattle.between.proofs.write_run.Lts as lts
-use Rattle.between.proofs.write_arc.Reads as write-arc-reads
-use Rattle.file.proofs.arcs.arc.Reads as arc-reads
 
 abbrev Inv-loop : tie.InvT-loop
 Inv-loop plan start from to own number first buffer₀ at₀ j₀ buffer at j =

@@ -1,8 +1,7 @@
 use borrow.Author.Needs.{needs}
-use Prim.Native.Nat.{ℕ, _+_, _-_, _*_, _≤_}
-use mathlib.Core.Path.{_≡_, ap, _∙_}
+use Prim.Native.Nat.{_-_, _*_, _≤_}
 use native.Mathlib.Omega.{arith}
-use lib.ListN.{length, getD}
+use lib.ListN.{getD}
 use Rattle.net.specs.Numbers.{selected}
 use Rattle.sets.specs.Member.{member}
 use Rattle.put.proofs.Storing.{Storing, storing-all, storing-as, storing-part, storing-none}
@@ -10,9 +9,6 @@ use Rattle.members.specs.List.{bitsFrom}
 use Rattle.members.proofs.Selected.{members-next, members-count, selected-end}
 use Rattle.members.proofs.members.Statement.{statement}
 use Rattle.members.proofs.members.Tie as tie
-use Rattle.members.proofs.members.Reads as reads
-use Rattle.members.proofs.members.Lts as lts
-use Rattle.members.proofs.word_members.Reads as word-members-reads
 
 abbrev Inv-loop : tie.InvT-loop
 Inv-loop words list₀ n₀ i₀ list n i = (i ≤ 16) × Storing list₀ 0 (selected (member words) 0 1024) list n (selected (member words) (i * 64) (1024 - i * 64))
@@ -20,23 +16,18 @@ Inv-loop words list₀ n₀ i₀ list n i = (i ≤ 16) × Storing list₀ 0 (sel
 abbrev μ-loop : tie.MeasureT-loop
 μ-loop words list₀ n₀ i₀ list n i = 16 - i
 
--- src/lib.rt:35:5
 loop-holds : tie.Need-loop-holds Inv-loop μ-loop
 loop-holds c = (omega arith, storing-all _ _ _)
 
--- src/lib.rt:36:26
 mul-word-members : tie.Need-mul-word-members Inv-loop μ-loop
 mul-word-members c = search needs
 
--- src/lib.rt:36:26
 element-copy-out-word-members : tie.Need-element-copy-out-word-members Inv-loop μ-loop
 element-copy-out-word-members c = search needs
 
--- src/lib.rt:36:36
 mul-word-members-2 : tie.Need-mul-word-members-2 Inv-loop μ-loop
 mul-word-members-2 c = search needs
 
--- src/lib.rt:36:9
 word-members-requires : tie.Need-word-members-requires Inv-loop μ-loop
 word-members-requires c κs =
     let at = c .before .before .before .loop in
@@ -45,15 +36,12 @@ word-members-requires c κs =
       omega (arith, members-count (start .args .words .now) (at .i) (c .before .before .loop-test .taken), at .inv .1 .long, at .inv .1 .count, start .pre),
     )
 
--- src/lib.rt:37:9
 add-i : tie.Need-add-i Inv-loop μ-loop
 add-i c = search needs
 
--- src/lib.rt:35:5
 loop-less : tie.Need-loop-less Inv-loop μ-loop
 loop-less c = search needs
 
--- src/lib.rt:35:5
 loop-again : tie.Need-loop-again Inv-loop μ-loop
 loop-again c =
     let at = c .before .before .before .before .before .before .loop in
@@ -63,11 +51,9 @@ loop-again c =
       storing-part (bitsFrom (at .i * 64) (getD words (at .i) 0)) _ _ _ (storing-as (at .inv .1) (members-next words (at .i) (c .before .before .before .before .before .loop-test .taken))) (call .ensures .1) (call .ensures .0),
     )
 
--- src/lib.rt:29:1
 same-length : tie.Need-same-length Inv-loop μ-loop
 same-length c = c .before .loop .inv .1 .long
 
--- src/lib.rt:29:1
 returns : tie.Need-returns Inv-loop μ-loop
 returns c =
     let at = c .before .loop in

@@ -1,12 +1,10 @@
 use borrow.Author.Needs.{needs}
-use Prim.Native.Nat.{_+_, _-_, _≤_}
+use Prim.Native.Nat.{_-_, _≤_}
 use native.Mathlib.Omega.{arith}
-use lib.ListN.{length, length-set}
+use lib.ListN.{length}
 use Rattle.members.proofs.Placed.{Placed, placed-none, placed-more, placed-all}
 use Rattle.members.proofs.positions.Statement.{statement}
 use Rattle.members.proofs.positions.Tie as tie
-use Rattle.members.proofs.positions.Reads as reads
-use Rattle.members.proofs.positions.Lts as lts
 
 abbrev Inv-loop : tie.InvT-loop
 Inv-loop list table₀ i₀ table i = (i ≤ length list) × Placed list (length table₀) i table
@@ -14,58 +12,45 @@ Inv-loop list table₀ i₀ table i = (i ≤ length list) × Placed list (length
 abbrev μ-loop : tie.MeasureT-loop
 μ-loop list table₀ i₀ table i = length list - i
 
--- src/lib.rt:47:5
 loop-holds : tie.Need-loop-holds Inv-loop μ-loop
 loop-holds c = (omega arith, placed-none _ _ (c .pre))
 
--- src/lib.rt:48:36
 add-table : tie.Need-add-table Inv-loop μ-loop
 add-table c = search needs
 
--- src/lib.rt:48:35
 cast-table : tie.Need-cast-table Inv-loop μ-loop
 cast-table c = search needs
 
--- src/lib.rt:48:15
 mul-table : tie.Need-mul-table Inv-loop μ-loop
 mul-table c = search needs
 
--- src/lib.rt:48:15
 shared-slice-read-table : tie.Need-shared-slice-read-table Inv-loop μ-loop
 shared-slice-read-table c = search needs
 
--- src/lib.rt:48:15
 cast-table-2 : tie.Need-cast-table-2 Inv-loop μ-loop
 cast-table-2 c = omega (arith, c .shared-slice-known .given (c .before .before .loop .i))
 
--- src/lib.rt:48:9
 mul-table-2 : tie.Need-mul-table-2 Inv-loop μ-loop
 mul-table-2 c = omega (arith, c .shared-slice-known .given (c .before .before .loop .i))
 
--- src/lib.rt:48:9
 slice-write-table : tie.Need-slice-write-table Inv-loop μ-loop
 slice-write-table c = omega (arith, c .before .before .before .pre .within (c .before .before .loop .i) (c .before .loop-test .taken), c .before .before .loop .inv .1 .long)
 
--- src/lib.rt:49:9
 add-i : tie.Need-add-i Inv-loop μ-loop
 add-i c = search needs
 
--- src/lib.rt:47:5
 loop-less : tie.Need-loop-less Inv-loop μ-loop
 loop-less c = search needs
 
--- src/lib.rt:47:5
 loop-again : tie.Need-loop-again Inv-loop μ-loop
 loop-again c =
     let start = c .before .before .before in
     let at = c .before .before .loop in
     (omega arith, placed-more _ _ _ _ (at .inv .1) (start .pre .rises) (c .before .loop-test .taken) (start .pre .within (at .i) (c .before .loop-test .taken)))
 
--- src/lib.rt:42:1
 same-length : tie.Need-same-length Inv-loop μ-loop
 same-length c = search needs
 
--- src/lib.rt:42:1
 returns : tie.Need-returns Inv-loop μ-loop
 returns c = (c .before .loop .inv .1 .long, placed-all _ _ _ _ (c .before .loop .inv .1) (omega (arith, c .loop-test .left, c .before .loop .inv .0)))
 

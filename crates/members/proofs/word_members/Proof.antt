@@ -1,20 +1,16 @@
 use borrow.Author.Needs.{needs}
-use Prim.Native.Nat.{ℕ, _+_, _^_, _<_}
-use mathlib.Core.List.{List, _∷_}
-use mathlib.Core.Path.{_≡_, ap, sym, _∙_}
+use Prim.Native.Nat.{_+_, _^_, _<_}
+use mathlib.Core.List.{_∷_}
+use mathlib.Core.Path.{_≡_, ap, _∙_}
 use native.Mathlib.Omega.{arith}
 use lib.Bits.{bitXor, xor-lt}
 use lib.Count.{trailingZeros, trailing-le}
-use lib.Pow.{pow-lt}
-use lib.ListN.{length, length-set}
-use lib.Seq.{length-sets}
+use lib.ListN.{length}
 use Rattle.put.proofs.Storing.{Storing, storing-all, storing-as, storing-one, storing-none, storing-end}
 use Rattle.members.specs.List.{bitsFrom}
 use Rattle.members.proofs.Selected.{bits-none, bits-next, lowBit, low-lt, low-bit-lt}
 use Rattle.members.proofs.word_members.Statement.{statement}
 use Rattle.members.proofs.word_members.Tie as tie
-use Rattle.members.proofs.word_members.Reads as reads
-use Rattle.members.proofs.word_members.Lts as lts
 
 abbrev Inv-loop : tie.InvT-loop
 Inv-loop word base from list₀ w₀ n₀ list w n = (w < 2 ^ 64) × Storing list₀ from (bitsFrom base word) list n (bitsFrom base w)
@@ -33,54 +29,42 @@ next-length : (c : tie.In-loop Inv-loop μ-loop)
     ≡ 1 + length (bitsFrom (c .before .before .args .base) (bitXor (c .before .loop .w) (lowBit (c .before .loop .w))))
 next-length c = omega (arith, ap length (next c))
 
--- src/lib.rt:19:5
 loop-holds : tie.Need-loop-holds Inv-loop μ-loop
 loop-holds c = (c .fits .word .fits, storing-all _ _ _)
 
--- src/lib.rt:20:17
 cast-z : tie.Need-cast-z Inv-loop μ-loop
 cast-z c = omega (arith, trailing-le 64 (c .before .loop .w))
 
--- src/lib.rt:21:20
 add-list : tie.Need-add-list Inv-loop μ-loop
 add-list c = omega (arith, trailing-le 64 (c .before .loop .w))
 
--- src/lib.rt:21:19
 cast-list : tie.Need-cast-list Inv-loop μ-loop
 cast-list c = omega (arith, trailing-le 64 (c .before .loop .w), c .before .before .pre .0)
 
--- src/lib.rt:21:9
 mul-list : tie.Need-mul-list Inv-loop μ-loop
 mul-list c = omega (arith, next-length c, c .before .loop .inv .1 .long, c .before .loop .inv .1 .count, c .before .before .pre .1)
 
--- src/lib.rt:21:9
 slice-write-list : tie.Need-slice-write-list Inv-loop μ-loop
 slice-write-list c = omega (arith, next-length c, c .before .loop .inv .1 .long, c .before .loop .inv .1 .count, c .before .before .pre .1)
 
--- src/lib.rt:22:9
 add-n : tie.Need-add-n Inv-loop μ-loop
 add-n c = omega (arith, next-length c, c .before .loop .inv .1 .count, c .before .before .pre .1)
 
--- src/lib.rt:23:18
 shl-w : tie.Need-shl-w Inv-loop μ-loop
 shl-w c = low-lt (c .before .before .args .base) (c .before .loop .w) (c .before .loop .inv .0) (c .loop-test .taken)
 
--- src/lib.rt:19:5
 loop-less : tie.Need-loop-less Inv-loop μ-loop
 loop-less c = omega (arith, next-length c)
 
--- src/lib.rt:19:5
 loop-again : tie.Need-loop-again Inv-loop μ-loop
 loop-again c = (
   xor-lt 64 _ _ (c .before .loop .inv .0) (low-bit-lt (c .before .before .args .base) (c .before .loop .w) (c .before .loop .inv .0) (c .loop-test .taken)),
   storing-one (storing-as (c .before .loop .inv .1) (next c)),
 )
 
--- src/lib.rt:12:1
 same-length : tie.Need-same-length Inv-loop μ-loop
 same-length c = search needs
 
--- src/lib.rt:12:1
 returns : tie.Need-returns Inv-loop μ-loop
 returns c =
     let at = c .before .loop in

@@ -1,6 +1,6 @@
 use borrow.Author.Needs.{needs}
-use Prim.Native.Nat.{ℕ, _+_, _-_, _*_, _≤_}
-use mathlib.Core.Path.{_≡_, ap, _∙_}
+use Prim.Native.Nat.{_-_, _*_, _≤_}
+use mathlib.Core.Path.{_∙_}
 use native.Mathlib.Omega.{arith}
 use lib.ListN.{length, getD, drop}
 use Rattle.file.specs.Layout.{netFrom}
@@ -11,10 +11,6 @@ use Rattle.put.proofs.Storing.{Storing, storing-all, storing-as, storing-part, 
 use Rattle.parts.proofs.Steps.{markings-next, markings-end}
 use Rattle.parts.proofs.write_markings.Statement.{statement}
 use Rattle.parts.proofs.write_markings.Tie as tie
-use Rattle.parts.proofs.write_markings.Reads as reads
-use Rattle.parts.proofs.write_markings.Lts as lts
-use Rattle.file.proofs.marking.Reads as marking-reads
-use Rattle.put.proofs.put32.Reads as put32-reads
 
 abbrev Inv-loop : tie.InvT-loop
 Inv-loop plan h ps buffer₀ i₀ buffer i =
@@ -26,14 +22,14 @@ abbrev μ-loop : tie.MeasureT-loop
 loop-holds : tie.Need-loop-holds Inv-loop μ-loop
 loop-holds c = (search needs, storing-all _ _ _)
 
-mul-marking : tie.Need-mul-marking Inv-loop μ-loop
-mul-marking c = search needs
+mul-p : tie.Need-mul-p Inv-loop μ-loop
+mul-p c = search needs
 
-shared-slice-read-marking : tie.Need-shared-slice-read-marking Inv-loop μ-loop
-shared-slice-read-marking c = search needs
+shared-slice-read-p : tie.Need-shared-slice-read-p Inv-loop μ-loop
+shared-slice-read-p c = search needs
 
-cast-marking : tie.Need-cast-marking Inv-loop μ-loop
-cast-marking c = omega (arith, c .shared-slice-known3 .given (c .before .before .loop .i))
+cast-p : tie.Need-cast-p Inv-loop μ-loop
+cast-p c = omega (arith, c .shared-slice-known3 .given (c .before .before .loop .i))
 
 marking-requires : tie.Need-marking-requires Inv-loop μ-loop
 marking-requires c κs = (c .before .before .before .before .before .before .pre .0, c .before .before .before .before .before .before .pre .1 .0 (c .before .before .loop .i) (c .before .loop-test .taken))
@@ -78,9 +74,9 @@ write-markings-spec =
     Inv-loop
     μ-loop
     loop-holds
-    mul-marking
-    shared-slice-read-marking
-    cast-marking
+    mul-p
+    shared-slice-read-p
+    cast-p
     marking-requires
     mul-put32
     put32-requires

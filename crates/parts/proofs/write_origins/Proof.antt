@@ -1,6 +1,6 @@
 use borrow.Author.Needs.{needs}
-use Prim.Native.Nat.{ℕ, _+_, _-_, _*_, _≤_}
-use mathlib.Core.Path.{_≡_, ap, _∙_}
+use Prim.Native.Nat.{_+_, _-_, _*_, _≤_}
+use mathlib.Core.Path.{_≡_}
 use native.Mathlib.Omega.{arith}
 use lib.ListN.{length, getD, drop}
 use Rattle.file.specs.Word.{bytes16}
@@ -10,9 +10,6 @@ use Rattle.put.proofs.Storing.{Storing, storing-all, storing-as, storing-from, 
 use Rattle.parts.proofs.Steps.{origins-next, origins-end}
 use Rattle.parts.proofs.write_origins.Statement.{statement}
 use Rattle.parts.proofs.write_origins.Tie as tie
-use Rattle.parts.proofs.write_origins.Reads as reads
-use Rattle.parts.proofs.write_origins.Lts as lts
-use Rattle.put.proofs.put16.Reads as put16-reads
 
 abbrev Inv-loop : tie.InvT-loop
 Inv-loop list start buffer₀ i₀ buffer i =

@@ -1,17 +1,12 @@
 use borrow.Author.Needs.{needs}
 use Prim.Native.Nat.{_+_}
-use mathlib.Core.List.{List, [], _∷_, _++_}
-use mathlib.Core.Path.{_≡_, refl, ap, _∙_}
+use mathlib.Core.List.{_++_}
 use native.Mathlib.Omega.{arith}
 use Rattle.file.specs.Word.{bytes16, bytes32}
 use Rattle.parts.specs.Trailer.{trailerFor}
 use Rattle.put.proofs.Sets.{sets-after}
 use Rattle.parts.proofs.write_trailer.Statement.{statement}
 use Rattle.parts.proofs.write_trailer.Tie as tie
-use Rattle.parts.proofs.write_trailer.Reads as reads
-use Rattle.parts.proofs.write_trailer.Lts as lts
-use Rattle.put.proofs.put16.Reads as put16-reads
-use Rattle.put.proofs.put32.Reads as put32-reads
 
 put32-requires : tie.Need-put32-requires
 put32-requires c κs = search needs

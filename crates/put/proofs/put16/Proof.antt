@@ -5,34 +5,25 @@ use lib.ListN.{length-set}
 use Rattle.file.specs.Word.{bytes16}
 use Rattle.put.proofs.put16.Statement.{statement}
 use Rattle.put.proofs.put16.Tie as tie
-use Rattle.put.proofs.put16.Reads as reads
-use Rattle.put.proofs.put16.Lts as lts
 
--- src/lib.rt:15:13
 cast-s : tie.Need-cast-s
 cast-s c = search needs
 
--- src/lib.rt:15:5
 slice-write-s : tie.Need-slice-write-s
 slice-write-s c = search needs
 
--- src/lib.rt:16:17
 cast-s-2 : tie.Need-cast-s-2
 cast-s-2 c = search needs
 
--- src/lib.rt:16:7
 add-s : tie.Need-add-s
 add-s c = search needs
 
--- src/lib.rt:16:5
 slice-write-s-2 : tie.Need-slice-write-s-2
 slice-write-s-2 c = simp length-set (omega arith)
 
--- src/lib.rt:11:1
 same-length : tie.Need-same-length
 same-length c = simp length-set
 
--- src/lib.rt:11:1
 returns : tie.Need-returns
 unfolding bytes16
 returns c = rw add-one

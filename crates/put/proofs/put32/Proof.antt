@@ -5,27 +5,19 @@ use Rattle.file.specs.Word.{bytes16, bytes32}
 use Rattle.put.proofs.Sets.{sets-after}
 use Rattle.put.proofs.put32.Statement.{statement}
 use Rattle.put.proofs.put32.Tie as tie
-use Rattle.put.proofs.put32.Reads as reads
-use Rattle.put.proofs.put32.Lts as lts
-use Rattle.put.proofs.put16.Reads as put16-reads
 
--- src/lib.rt:24:5
 put16-requires : tie.Need-put16-requires
 put16-requires c κs = search needs
 
--- src/lib.rt:25:14
 add-put16 : tie.Need-add-put16
 add-put16 c = search needs
 
--- src/lib.rt:25:5
 put16-requires-2 : tie.Need-put16-requires-2
 put16-requires-2 c κs = search needs
 
--- src/lib.rt:20:1
 same-length : tie.Need-same-length
 same-length c = search needs
 
--- src/lib.rt:20:1
 returns : tie.Need-returns
 unfolding bytes32 bytes16
 returns c =

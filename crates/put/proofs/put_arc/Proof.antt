@@ -9,43 +9,31 @@ use Rattle.file.specs.Writing.{arcBytes}
 use Rattle.put.proofs.Sets.{sets-after}
 use Rattle.put.proofs.put_arc.Statement.{statement}
 use Rattle.put.proofs.put_arc.Tie as tie
-use Rattle.put.proofs.put_arc.Reads as reads
-use Rattle.put.proofs.put_arc.Lts as lts
-use Rattle.put.proofs.put16.Reads as put16-reads
 
--- src/lib.rt:34:5
 put16-requires : tie.Need-put16-requires
 put16-requires c κs = search needs
 
--- src/lib.rt:35:14
 add-put16 : tie.Need-add-put16
 add-put16 c = search needs
 
--- src/lib.rt:35:5
 put16-requires-2 : tie.Need-put16-requires-2
 put16-requires-2 c κs = search needs
 
--- src/lib.rt:36:14
 add-put16-2 : tie.Need-add-put16-2
 add-put16-2 c = search needs
 
--- src/lib.rt:36:5
 put16-requires-3 : tie.Need-put16-requires-3
 put16-requires-3 c κs = search needs
 
--- src/lib.rt:37:14
 add-put16-3 : tie.Need-add-put16-3
 add-put16-3 c = search needs
 
--- src/lib.rt:37:5
 put16-requires-4 : tie.Need-put16-requires-4
 put16-requires-4 c κs = search needs
 
--- src/lib.rt:29:1
 same-length : tie.Need-same-length
 same-length c = search needs
 
--- src/lib.rt:29:1
 returns : tie.Need-returns
 unfolding arcBytes bytes16
 returns c =

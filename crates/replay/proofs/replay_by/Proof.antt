@@ -5,7 +5,7 @@ use Rattle.net.specs.Net.{Replay}
 use Rattle.file.specs.Word.{Bytes}
 use Rattle.promise.specs.Firing.{replayTold}
 use Rattle.starts.proofs.Reached.{tabled}
-use Rattle.replay.proofs.Listing.{list-short, list-known}
+use Rattle.lists.proofs.Passing.{list-short, list-known}
 use Rattle.replay.proofs.Loading.{marking-low, from-initial, ended}
 use borrow.Author.Needs.{needs}
 use Rattle.replay.proofs.replay_by.Statement.{statement}

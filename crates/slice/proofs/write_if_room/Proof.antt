@@ -1,6 +1,6 @@
 use borrow.Author.Needs.{needs}
-use Prim.Native.Nat.{ℕ, _+_, _*_, _≤_}
-use mathlib.Core.Path.{_≡_, refl, sym, ap, _∙_}
+use Prim.Native.Nat.{_+_, _*_, _≤_}
+use mathlib.Core.Path.{_≡_, ap, _∙_}
 use native.Mathlib.Omega.{arith}
 use lib.ListN.{length}
 use Rattle.net.specs.Slice.{restrict, keeping}
@@ -9,10 +9,6 @@ use Rattle.file.specs.Writing.{sliceBytes}
 use Rattle.slice.proofs.Laws.{runs-known, runs-are, few-arcs, file-length, no-room, room, kept-places, kept-transitions}
 use Rattle.slice.proofs.write_if_room.Statement.{statement}
 use Rattle.slice.proofs.write_if_room.Tie as tie
-use Rattle.slice.proofs.write_if_room.Reads as reads
-use Rattle.slice.proofs.write_if_room.Lts as lts
-use Rattle.between.proofs.count_arcs.Reads as count-arcs-reads
-use Rattle.slice.proofs.write_parts.Reads as write-parts-reads
 
 -- the slice's arcs, and the length of its file
 counted : (c : tie.After-count-arcs) → c .count-arcs .result ≡ length (restrict (c .before .before .before .before .before .before .before .args .ps .now) (c .before .before .before .before .before .before .before .args .ts .now) (netFrom (c .before .before .before .before .before .before .before .args .plan .now) (c .before .before .before .before .before .before .before .args .h) .arcs))
@@ -55,10 +51,10 @@ write-parts-requires c κs =
     (start .pre .0, (start .pre .1 .0, (start .pre .1 .1, (counted at, omega (arith, whole at, c .before .if1 .left)))))
 
 cast-places : tie.Need-cast-places
-cast-places c = omega (arith, c .before .before .before .before .before .before .before .before .before .before .before .before .pre .1 .0 .few-places, c .before .before .before .before .before .before .before .before .before .before .before .before .pre .0 .placed .places)
+cast-places c = omega (arith, c .before .before .before .before .before .before .before .before .before .before .before .before .pre .1 .0 .few-places, c .before .before .before .before .before .before .before .before .before .before .before .before .pre .1 .0 .few-transitions)
 
 cast-transitions : tie.Need-cast-transitions
-cast-transitions c = omega (arith, c .before .before .before .before .before .before .before .before .before .before .before .before .pre .1 .0 .few-transitions, c .before .before .before .before .before .before .before .before .before .before .before .before .pre .0 .placed .transitions)
+cast-transitions c = omega (arith, c .before .before .before .before .before .before .before .before .before .before .before .before .pre .1 .0 .few-places, c .before .before .before .before .before .before .before .before .before .before .before .before .pre .1 .0 .few-transitions)
 
 cast-bytes : tie.Need-cast-bytes
 cast-bytes c = omega (arith, few (c .before .before .before .before .before), c .before .before .before .before .before .before .before .before .before .before .before .before .pre .1 .0 .few-places, c .before .before .before .before .before .before .before .before .before .before .before .before .pre .1 .0 .few-transitions)

@@ -2,10 +2,6 @@ use borrow.Author.Needs.{needs}
 use native.Mathlib.Omega.{arith}
 use Rattle.slice.proofs.write_lists.Statement.{statement}
 use Rattle.slice.proofs.write_lists.Tie as tie
-use Rattle.slice.proofs.write_lists.Reads as reads
-use Rattle.slice.proofs.write_lists.Lts as lts
-use Rattle.members.proofs.positions.Reads as positions-reads
-use Rattle.slice.proofs.write_if_room.Reads as write-if-room-reads
 
 positions-requires : tie.Need-positions-requires
 positions-requires c κs =

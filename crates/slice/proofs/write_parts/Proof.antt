@@ -1,9 +1,8 @@
 use borrow.Author.Needs.{needs}
-use Prim.Native.Nat.{ℕ, _+_, _*_, _≤_}
-use mathlib.Core.Path.{_≡_, ap, _∙_}
+use Prim.Native.Nat.{_+_, _*_, _≤_}
+use mathlib.Core.Path.{_≡_, ap}
 use native.Mathlib.Omega.{arith}
 use lib.ListN.{length}
-use lib.Seq.{length-sets}
 use Rattle.net.specs.Slice.{restrict}
 use Rattle.file.specs.Layout.{netFrom}
 use Rattle.file.specs.Writing.{arcsBytes}
@@ -12,12 +11,6 @@ use Rattle.between.specs.Between.{keptRuns}
 use Rattle.slice.proofs.Laws.{runs-known, runs-are, file-length, parts-stored}
 use Rattle.slice.proofs.write_parts.Statement.{statement}
 use Rattle.slice.proofs.write_parts.Tie as tie
-use Rattle.slice.proofs.write_parts.Reads as reads
-use Rattle.slice.proofs.write_parts.Lts as lts
-use Rattle.between.proofs.write_arcs.Reads as write-arcs-reads
-use Rattle.parts.proofs.write_markings.Reads as write-markings-reads
-use Rattle.parts.proofs.write_origins.Reads as write-origins-reads
-use Rattle.parts.proofs.write_trailer.Reads as write-trailer-reads
 
 -- there is room for the parts
 size : (c : tie.Start) → 6 * length (c .args .ps .now) + 8 * c .args .arcs + 2 * length (c .args .ts .now) + 16 ≤ length (c .args .buffer .now)

@@ -1,19 +1,12 @@
 use borrow.Author.Needs.{needs}
-use Prim.Native.Nat.{ℕ}
-use mathlib.Core.Path.{_≡_, ap}
+use mathlib.Core.Path.{_≡_}
 use native.Mathlib.Omega.{arith}
-use lib.ListN.{length, take}
-use lib.Seq.{length-sets}
+use lib.ListN.{take}
 use Rattle.net.specs.Numbers.{selected}
 use Rattle.sets.specs.Member.{member}
 use Rattle.slice.proofs.Laws.{members-fit, count-fits, members-listed, listed-length, lists-kept, slice-kept}
 use Rattle.slice.proofs.write_sets.Statement.{statement}
 use Rattle.slice.proofs.write_sets.Tie as tie
-use Rattle.slice.proofs.write_sets.Reads as reads
-use Rattle.slice.proofs.write_sets.Lts as lts
-use Rattle.members.proofs.members.Reads as members-reads
-use Rattle.sets.proofs.count.Reads as count-reads
-use Rattle.slice.proofs.write_lists.Reads as write-lists-reads
 
 -- the kept places, and the kept transitions
 places-listed : (c : tie.After-members2) → take (c .before .before .before .before .before .before .before .before .before .before .count .result) (c .before .before .before .before .before .members .last .1 .0) ≡ selected (member (c .before .before .before .before .before .before .before .before .before .before .before .before .before .before .before .before .before .before .before .before .args .kept .places)) 0 (c .before .before .before .before .before .before .before .before .before .before .before .before .before .before .before .before .before .before .before .before .args .h .places)

@@ -6,10 +6,6 @@ use Rattle.starts.proofs.Reached.{tabled}
 use Rattle.slice.proofs.Laws.{all-zero}
 use Rattle.slice.proofs.write_small.Statement.{statement}
 use Rattle.slice.proofs.write_small.Tie as tie
-use Rattle.slice.proofs.write_small.Reads as reads
-use Rattle.slice.proofs.write_small.Lts as lts
-use Rattle.slice.proofs.write_sets.Reads as write-sets-reads
-use Rattle.starts.proofs.starts.Reads as starts-reads
 
 slice-aggregate-starts : tie.Need-slice-aggregate-starts
 slice-aggregate-starts c = search needs

@@ -1,0 +1,78 @@
+use mathlib.Core.Path.{ap, _∙_}
+use mathlib.Core.List.{List, _++_}
+use Prim.Native.Nat.{ℕ}
+use native.Mathlib.Omega.{arith}
+use lib.ListN.{length, drop}
+use Rattle.net.specs.Slice.{project}
+use Rattle.file.specs.Layout.{sliceFrom}
+use Rattle.projection.proofs.Outcomes.{origins-of, reached-by, projection-is, count-small, short-answer, short-output, whole-answer, whole-output}
+use borrow.Author.Needs.{needs}
+use Rattle.projection.proofs.project_by.Statement.{statement}
+use Rattle.projection.proofs.project_by.Tie as tie
+
+mul-own : tie.Need-mul-own
+mul-own c = search needs
+
+add-own : tie.Need-add-own
+add-own c = search needs
+
+own-requires : tie.Need-own-requires
+own-requires c κs = origins-of (c .before .before .before .before .before .before .before .pre .sound) (c .before .before .before .before .before .before .before .pre .slice)
+
+count-requires : tie.Need-count-requires
+count-requires c κs = reached-by (c .before .before .before .before .before .before .before .before .before .before .before .pre) (c .before .before .before .own .ensures .0)
+
+same-length : tie.Need-same-length
+same-length c = search needs
+
+returns : tie.Need-returns
+returns c =
+    let s = c .before .before .before .before .before .before .before .before .before .before .before .before .before .args .slice .now in
+    let h = c .before .before .before .before .before .before .before .before .before .before .before .before .before .args .h in
+    let list = c .before .before .before .before .before .before .before .before .before .before .before .before .before .args .list .now in
+    let same = projection-is s h list (c .before .before .before .before .before .before .before .before .before .before .before .before .before .pre) (c .before .before .before .before .before .own .ensures .0) (c .before .before .before .before .before .own .ensures .1) in
+    let n = c .before .count .ensures ∙ ap length same in
+    let P = project (sliceFrom s h) list in
+    let out = c .before .before .before .before .before .before .before .before .before .before .before .before .before .args .out .now in
+    (short-answer (length out) _ P n (c .if1 .taken), short-output (length out) _ P n (c .if1 .taken) out)
+
+write-requires : tie.Need-write-requires
+write-requires c κs = (reached-by (c .before .before .before .before .before .before .before .before .before .before .before .before .before .before .before .pre) (c .before .before .before .before .before .before .before .own .ensures .0), omega (arith, c .before .before .before .count .ensures, c .before .before .if1 .left))
+
+cast-number : tie.Need-cast-number
+cast-number c = omega (arith, count-small (c .before .before .before .before .before .before .before .before .before .before .before .before .before .before .before .before .before .before .args .slice .now) (c .before .before .before .before .before .before .before .before .before .before .before .before .before .before .before .before .before .before .args .h) (c .before .before .before .before .before .before .before .before .before .before .before .before .before .before .before .before .before .before .args .list .now) (c .before .before .before .before .before .before .before .before .before .before .before .before .before .before .before .before .before .before .pre) (c .before .before .before .before .before .before .before .before .before .before .own .ensures .0) (c .before .before .before .before .before .before .before .before .before .before .own .ensures .1) (c .before .before .before .before .before .before .count .ensures))
+
+same-length-2 : tie.Need-same-length-2
+same-length-2 c = search needs
+
+same-length-3 : tie.Need-same-length-3
+same-length-3 c = search needs
+
+returns-2 : tie.Need-returns-2
+returns-2 c =
+    let s = c .before .before .before .before .before .before .before .before .before .before .before .before .before .before .before .before .before .before .args .slice .now in
+    let h = c .before .before .before .before .before .before .before .before .before .before .before .before .before .before .before .before .before .before .args .h in
+    let list = c .before .before .before .before .before .before .before .before .before .before .before .before .before .before .before .before .before .before .args .list .now in
+    let same = projection-is s h list (c .before .before .before .before .before .before .before .before .before .before .before .before .before .before .before .before .before .before .pre) (c .before .before .before .before .before .before .before .before .before .before .own .ensures .0) (c .before .before .before .before .before .before .before .before .before .before .own .ensures .1) in
+    let n = c .before .before .before .before .before .before .count .ensures ∙ ap length same in
+    let P = project (sliceFrom s h) list in
+    let out = c .before .before .before .before .before .before .before .before .before .before .before .before .before .before .before .before .before .before .args .out .now in (
+      whole-answer (length out) _ P n (c .before .before .before .before .before .if1 .left),
+      whole-output (length out) _ P n (c .before .before .before .before .before .if1 .left) out _ (c .before .before .write .ensures ∙ ap (λ (p : List ℕ). p ++ drop (length p) out) same),
+    )
+
+pub project-by-spec : {M : Type 1} → statement M
+project-by-spec =
+    tie.close
+    (tie.spec
+    mul-own
+    add-own
+    own-requires
+    count-requires
+    same-length
+    returns
+    write-requires
+    cast-number
+    same-length-2
+    same-length-3
+    returns-2)

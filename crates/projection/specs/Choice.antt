@@ -1,0 +1,35 @@
+-- A projection by a table of own numbers: entry t is one more than the slice's number of t, or 0 where t is not among the origins.
+-- Assumes nothing.
+use Prim.Native.Nat.{ℕ, zero, suc, _<_, _≤_}
+use mathlib.Core.List.{List, [], _∷_, _++_}
+use mathlib.Core.Path.{_≡_}
+use lib.ListN.{length, getD, set}
+use Rattle.file.specs.Facts.{Sound}
+use Rattle.file.specs.declared.Header.{Header}
+
+-- the number that an entry stands for, where it stands for one
+abbrev pub chosen : ℕ → List ℕ
+chosen zero = []
+chosen (suc n) = n ∷ []
+
+-- the numbers that a list's entries stand for, in order
+unfoldable pub chosenBy : List ℕ → List ℕ → List ℕ
+chosenBy table [] = []
+chosenBy table (t ∷ ts) = chosen (getD table t 0) ++ chosenBy table ts
+
+-- the list with the number of an entry at place n
+abbrev pub placed : List ℕ → ℕ → ℕ → List ℕ
+placed out n zero = out
+placed out n (suc k) = set out n k
+
+-- the table reaches each listed number, and the list is short enough to count
+pub record Reached (table list : List ℕ) : Type 0 where
+  pub short : length list ≤ 65535
+  pub known : (i : ℕ) → i < length list → getD list i 0 < length table
+
+-- the slice was read, and the list is not refused: each number is below `long`
+pub record Given (s : List ℕ) (h : Header) (list : List ℕ) (long : ℕ) : Type 0 where
+  pub sound : Sound s h
+  pub slice : h .kind ≡ 1
+  pub short : length list ≤ 65535
+  pub known : (i : ℕ) → i < length list → getD list i 0 < long

@@ -1,0 +1,120 @@
+// Projection of a list of plan transitions to a slice's own numbers.
+ghost use mathlib.Core.Path.{_≡_};
+ghost use mathlib.Core.List.{_++_};
+ghost use Prim.Native.Nat.{ℕ, _+_, _*_, _<_, _≤_};
+ghost use lib.ListN.{length, getD, drop};
+ghost use Rattle.net.specs.Slice.{project as projectOf};
+ghost use Rattle.file.specs.Layout.{sliceFrom};
+ghost use Rattle.file.specs.Facts.{Sound};
+ghost use Rattle.promise.specs.Calls.{written};
+ghost use Rattle.promise.specs.Firing.{projectOr};
+ghost use Rattle.projection.specs.Told.{projectedNumbers, roomRefusal, heldBack};
+ghost use Rattle.projection.specs.Choice.{chosen, chosenBy, placed, Reached, Given};
+use file::Header;
+
+// How many numbers were written, or the number of a refusal.
+pub enum Projected {
+    Count(u32),
+    Refused(u32),
+}
+
+// How many numbers a transition with this entry gets: one, or none.
+fn share(entry: u16) -> usize
+    ensures { λ r. ⌜ (r ≡ length (chosen entry)) × (r ≤ 1) ⌝ }
+{
+    if entry == 0 {
+        return 0;
+    }
+    1
+}
+
+// How many of the listed transitions are among the origins.
+fn count(table: &[u16], list: &[u16]) -> usize
+    requires { ⌜ Reached (now table) (now list) ⌝ }
+    ensures { λ r. ⌜ r ≡ length (chosenBy (now (table .entry)) (now (list .entry))) ⌝ }
+{
+    let mut n: usize = 0;
+    let mut i: usize = 0;
+    while i < list.len() {
+        let t = list[i] as usize;
+        n += share(table[t]);
+        i += 1;
+    }
+    n
+}
+
+// Writes the number of an entry to place n, where it has one; the next place.
+fn put(out: &mut [u16], n: usize, entry: u16) -> usize
+    requires { ⌜ n + length (chosen entry) ≤ length (now out) ⌝ }
+    ensures next { λ r. ⌜ r ≡ n + length (chosen entry) ⌝ }
+    ensures output { λ _. ⌜ now (out .exit) ≡ placed (now (out .entry)) n entry ⌝ }
+{
+    if entry == 0 {
+        return n;
+    }
+    out[n] = entry - 1;
+    n + 1
+}
+
+// Writes the slice's number for each listed transition among the origins, in order.
+fn write(table: &[u16], list: &[u16], out: &mut [u16])
+    requires { ⌜ Reached (now table) (now list) ⌝ }
+    requires { ⌜ length (chosenBy (now table) (now list)) ≤ length (now out) ⌝ }
+    ensures { λ _. ⌜ now (out .exit) ≡ chosenBy (now (table .entry)) (now (list .entry)) ++ drop (length (chosenBy (now (table .entry)) (now (list .entry)))) (now (out .entry)) ⌝ }
+{
+    let mut n: usize = 0;
+    let mut i: usize = 0;
+    while i < list.len() {
+        let t = list[i] as usize;
+        let next = put(out, n, table[t]);
+        n = next;
+        i += 1;
+    }
+}
+
+// Projects a list that is not refused, by a table that reaches each of its numbers.
+fn project_by(
+    slice: &[u8],
+    h: Header,
+    list: &[u16],
+    table: &mut [u16],
+    out: &mut [u16],
+) -> Projected
+    requires { ⌜ Given (now slice) h (now list) (length (now table)) ⌝ }
+    ensures answer { λ r. ⌜ projectedNumbers r ≡ projectOr (roomRefusal (length (now (out .entry))) (projectOf (sliceFrom (now (slice .entry)) h) (now (list .entry)))) (length (projectOf (sliceFrom (now (slice .entry)) h) (now (list .entry)))) ⌝ }
+    ensures output { λ _. ⌜ now (out .exit) ≡ written (roomRefusal (length (now (out .entry))) (projectOf (sliceFrom (now (slice .entry)) h) (now (list .entry)))) (projectOf (sliceFrom (now (slice .entry)) h) (now (list .entry))) (now (out .entry)) ⌝ }
+{
+    own::own(slice, h.originstart + 2 * h.places, h.transitions, table);
+    let n = count(table, list);
+    if out.len() < n {
+        return Projected::Refused(13);
+    }
+    write(table, list, out);
+    let number = n as u32;
+    Projected::Count(number)
+}
+
+// The slice's number for each listed transition among its origins, in order; the entries of `out` past those are kept.
+// `transitions` is the plan's number of transitions.
+pub fn project(
+    transitions: usize,
+    slice: &[u8],
+    h: Header,
+    list: &[u16],
+    out: &mut [u16],
+) -> Projected
+    requires { ⌜ Sound (now slice) h × (h .kind ≡ 1) × (transitions ≤ 1024) ⌝ }
+    ensures answer { λ r. ⌜ projectedNumbers r ≡ projectOr (heldBack transitions (now (list .entry)) (length (now (out .entry))) (projectOf (sliceFrom (now (slice .entry)) h) (now (list .entry)))) (length (projectOf (sliceFrom (now (slice .entry)) h) (now (list .entry)))) ⌝ }
+    ensures output { λ _. ⌜ now (out .exit) ≡ written (heldBack transitions (now (list .entry)) (length (now (out .entry))) (projectOf (sliceFrom (now (slice .entry)) h) (now (list .entry)))) (projectOf (sliceFrom (now (slice .entry)) h) (now (list .entry))) (now (out .entry)) ⌝ }
+{
+    let listed = lists::refusal(transitions, list);
+    if listed != 0 {
+        return Projected::Refused(listed);
+    }
+    if transitions <= 64 {
+        let mut table: [u16; 64] = [0; 64];
+        return project_by(slice, h, list, &mut table, out);
+    }
+    let mut table: [u16; 1024] = [0; 1024];
+    project_by(slice, h, list, &mut table, out)
+}
