@@ -203,6 +203,22 @@ static void checks(void)
     expect("rule 3, place", number, 0);
 }
 
+static void projections(void)
+{
+    const uint16_t list[] = {3, 0, 1, 2}, unknown[] = {0, 4};
+    uint16_t out[3] = {7, 7, 7};
+    uint32_t count = 9;
+    expect("3,0,1,2", nesfoal_project(plan, 108, cut, 78, list, 4, out, 3, &count), 0);
+    expect("3,0,1,2, count", count, 2);
+    expect("3,0,1,2, numbers", out[0] == 0 && out[1] == 1 && out[2] == 7, 1);
+    out[0] = 7;
+    expect("one entry short", nesfoal_project(plan, 108, cut, 78, list, 4, out, 1, &count), 13);
+    expect("one entry short, untouched", out[0], 7);
+    expect("an unknown transition", nesfoal_project(plan, 108, cut, 78, unknown, 2, out, 3, &count), 12);
+    expect("the empty list", nesfoal_project(plan, 108, cut, 78, NULL, 0, NULL, 0, &count), 0);
+    expect("a plan is no slice", nesfoal_project(plan, 108, plan, 108, list, 4, out, 3, &count), 3);
+}
+
 int main(void)
 {
     effects();
@@ -210,6 +226,7 @@ int main(void)
     replays();
     cuts();
     checks();
+    projections();
     printf("%u passed, %u failed\n", passed, failed);
     return failed != 0;
 }
