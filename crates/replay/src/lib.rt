@@ -68,7 +68,7 @@ fn give(file: &[u8], start: usize, from: usize, to: usize, marking: &mut [u64])
     }
 }
 
-// The number of arcs whose slot is below k.
+// The number of arcs whose slot is below k: inputs of t have slot 2t, outputs 2t + 1.
 fn entry(table: &[u16], k: usize) -> usize
     requires { ⌜ k < length (now table) ⌝ }
     ensures { λ r. ⌜ r ≡ getD (now (table .entry)) k 0 ⌝ }

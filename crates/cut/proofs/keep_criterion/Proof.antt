@@ -34,7 +34,9 @@ wide-requires c κs = search needs
 
 -- src/lib.rt:34:9
 added-requires : tie.Need-added-requires Inv-loop μ-loop
-added-requires c κs = number-below _ _ (c .before .before .before .before .before .pre) (c .before .before .before .loop .i) (c .wide .result) (c .before .before .loop-test .taken) (c .wide .ensures)
+added-requires c κs =
+    let small = number-below _ _ (c .before .before .before .before .before .pre) (c .before .before .before .loop .i) (c .wide .result) (c .before .before .loop-test .taken) (c .wide .ensures) in
+    omega (arith, small)
 
 -- src/lib.rt:35:9
 add-i : tie.Need-add-i Inv-loop μ-loop

@@ -22,47 +22,47 @@ bytes : (c : tie.After-grow) → Bytes (c .before .before .before .before .befor
 unfolding Bytes
 bytes c = λ i. omega (arith, c .before .before .before .before .before .before .before .before .before .before .before .before .before .before .before .before .before .before .before .before .before .shared-slice-known .given i)
 
--- src/lib.rt:83:61
+-- src/lib.rt:99:61
 slice-aggregate-starts : tie.Need-slice-aggregate-starts
 slice-aggregate-starts c = search needs
 
--- src/lib.rt:83:5
+-- src/lib.rt:99:5
 starts-requires : tie.Need-starts-requires
 starts-requires c κs = let start = c .before .before .before in tabled _ (start .args .h) 2049 (start .pre .0) (omega (arith, start .pre .0 .placed .transitions))
 
--- src/lib.rt:84:9
+-- src/lib.rt:100:9
 limit-of-requires : tie.Need-limit-of-requires
 limit-of-requires c κs = search needs
 
--- src/lib.rt:86:22
+-- src/lib.rt:102:22
 slice-aggregate-lower : tie.Need-slice-aggregate-lower
 slice-aggregate-lower c = search needs
 
--- src/lib.rt:86:5
+-- src/lib.rt:102:5
 lower-requires : tie.Need-lower-requires
 lower-requires c κs = λ q m. let start = c .before .before .before .before .before .before .before in omega (arith, known _ _ (start .pre .1) q m, start .pre .0 .placed .places)
 
--- src/lib.rt:90:27
+-- src/lib.rt:106:27
 slice-aggregate-index : tie.Need-slice-aggregate-index
 slice-aggregate-index c = search needs
 
--- src/lib.rt:90:35
+-- src/lib.rt:106:35
 slice-aggregate-index-2 : tie.Need-slice-aggregate-index-2
 slice-aggregate-index-2 c = search needs
 
--- src/lib.rt:90:43
+-- src/lib.rt:106:43
 slice-aggregate-index-3 : tie.Need-slice-aggregate-index-3
 slice-aggregate-index-3 c = search needs
 
--- src/lib.rt:90:56
+-- src/lib.rt:106:56
 slice-aggregate-index-4 : tie.Need-slice-aggregate-index-4
 slice-aggregate-index-4 c = search needs
 
--- src/lib.rt:90:67
+-- src/lib.rt:106:67
 slice-aggregate-index-5 : tie.Need-slice-aggregate-index-5
 slice-aggregate-index-5 c = search needs
 
--- src/lib.rt:90:5
+-- src/lib.rt:106:5
 index-requires : tie.Need-index-requires
 index-requires c κs =
     let start = c .before .before .before .before .before .before .before .before .before .before .before .before .before .before in
@@ -82,19 +82,19 @@ index-requires c κs =
       (all-same 1024 1073741824, all-zero 1024),
     )
 
--- src/lib.rt:91:30
+-- src/lib.rt:107:30
 slice-aggregate-grow : tie.Need-slice-aggregate-grow
 slice-aggregate-grow c = search needs
 
--- src/lib.rt:91:38
+-- src/lib.rt:107:38
 slice-aggregate-grow-2 : tie.Need-slice-aggregate-grow-2
 slice-aggregate-grow-2 c = search needs
 
--- src/lib.rt:91:45
+-- src/lib.rt:107:45
 slice-aggregate-grow-3 : tie.Need-slice-aggregate-grow-3
 slice-aggregate-grow-3 c = search needs
 
--- src/lib.rt:91:5
+-- src/lib.rt:107:5
 grow-requires : tie.Need-grow-requires
 grow-requires c κs =
     let start = c .before .before .before .before .before .before .before .before .before .before .before .before .before .before .before .before .before .before .before .before .before in
@@ -108,7 +108,7 @@ grow-requires c κs =
       known _ _ (start .pre .1),
     )
 
--- src/lib.rt:77:1
+-- src/lib.rt:93:1
 returns : tie.Need-returns
 returns c =
     let start = c .before .before .before .before .before .before .before .before .before .before .before .before .before .before .before .before .before .before .before .before .before .before in

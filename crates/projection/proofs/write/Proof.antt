@@ -1,3 +1,4 @@
+-- The numbers of the entries passed stand first, then what was lent (`Written`). Assumes nothing.
 use Prim.Native.Nat.{_-_}
 use native.Mathlib.Omega.{arith}
 use lib.ListN.{length}

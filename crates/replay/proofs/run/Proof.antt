@@ -1,3 +1,5 @@
+-- Outer loop: the marking after k firings, from which the rest of the list replays as the whole list does from the start (`Underway`).
+-- Inner loop: every place has enough for the input arcs passed (`Covered`). Assumes nothing.
 use Rattle.replay.specs.Steps.{needAt}
 use Prim.Native.Nat.{_*_, _+_, _-_}
 use mathlib.Core.Path.{ap, sym, _∙_}
