@@ -1,0 +1,203 @@
+//! The nets that are timed, each with a criterion, its safety cut and a list that fires.
+
+use nesfoal_tests::cut::{kept, Cut};
+use nesfoal_tests::gen::{to_bytes, Draft, DraftArc};
+use nesfoal_tests::net::{Kind, Net, MAX_LIST};
+use nesfoal_tests::read::read;
+use nesfoal_tests::replay::{fire, initial};
+use nesfoal_tests::rng::Rng;
+use nesfoal_tests::write::slice_bytes;
+
+/// What the calls get: one net.
+pub struct Input {
+    pub name: String,
+    pub plan: Vec<u8>,
+    pub q: Vec<u16>,
+    pub q_bytes: Vec<u8>,
+    /// The safety cut of the plan for the criterion.
+    pub slice: Vec<u8>,
+    /// Firings of the plan that all fire.
+    pub list: Vec<u16>,
+    /// An arc's place and transition.
+    pub place: u16,
+    pub transition: u16,
+    /// Places, transitions and arcs of the plan and of the slice.
+    pub counts: [[usize; 3]; 2],
+}
+
+impl Input {
+    fn new(name: &str, draft: Draft, q: Option<u16>, firings: usize) -> Input {
+        let plan = draft.bytes();
+        let net = read(&plan, Some(Kind::Plan)).expect("a good plan");
+        // Without a place told: the first one whose safety cut keeps half of the places at least.
+        let large = |q: &u16| 2 * kept(&net, Cut::Safety, &[*q]).place_count() >= net.places();
+        let q = vec![q.or_else(|| (0..net.places() as u16).find(large)).expect("a large cut")];
+        let slice = slice_bytes(&net, &kept(&net, Cut::Safety, &q));
+        let slice_net = read(&slice, Some(Kind::Slice)).expect("a good slice");
+        let counts = [&net, &slice_net].map(|n| [n.places(), n.transitions(), n.arcs.len()]);
+        let middle = net.arcs[net.arcs.len() / 2];
+        let list = firing_list(&net, firings);
+        Input {
+            name: name.into(),
+            plan,
+            q_bytes: to_bytes(&q),
+            q,
+            slice,
+            list,
+            place: middle.place,
+            transition: middle.transition,
+            counts,
+        }
+    }
+
+    pub fn describe(&self) -> String {
+        let [[p, t, a], [kept_p, kept_t, kept_a]] = self.counts;
+        let (name, q, bytes, firings) = (&self.name, self.q[0], self.plan.len(), self.list.len());
+        format!(
+            "{name}: {p} places, {t} transitions, {a} arcs, {bytes} bytes; safety cut for place {q}: {kept_p}, {kept_t}, \
+             {kept_a}, {} bytes; {firings} firings",
+            self.slice.len()
+        )
+    }
+}
+
+/// So many firings: each time a random transition, or the next one that is enabled. Fewer if none is.
+fn firing_list(net: &Net, firings: usize) -> Vec<u16> {
+    let mut rng = Rng::new(5);
+    let mut marking = initial(net);
+    let count = net.transitions();
+    let mut list = Vec::with_capacity(firings);
+    while list.len() < firings {
+        let first = rng.below(count);
+        let fired = (0..count).map(|i| (first + i) % count).find(|&t| fire(net, t, &mut marking).is_ok());
+        match fired {
+            Some(t) => list.push(t as u16),
+            None => break,
+        }
+    }
+    list
+}
+
+/// The six nets.
+pub fn six() -> Vec<Input> {
+    vec![small(2, 5), random(100, 11), random(1_000, 11), chain(1_024), wide(1_024), readers_writers(22)]
+}
+
+/// Random nets of one size, so many that the branches of none are learnt by heart when they are taken in turn.
+pub fn many_random(size: usize) -> Vec<Input> {
+    let mut many: Vec<Input> = (11..27).map(|seed| random(size, seed)).collect();
+    many[0].name = format!("{} random {size}", many.len());
+    many
+}
+
+/// Paper 01's worked example, with so many tokens waiting and so many firings.
+pub fn small(waiting: u32, firings: usize) -> Input {
+    let arcs = [
+        (0, 0, 0, 1),
+        (0, 0, 1, 1),
+        (0, 1, 2, 1),
+        (1, 0, 2, 1),
+        (1, 1, 1, 1),
+        (1, 1, 3, 1),
+        (2, 0, 3, 2),
+        (2, 1, 4, 1),
+        (3, 0, 0, 1),
+    ];
+    let arcs = arcs.iter().map(|&(t, d, p, w)| DraftArc::new(t, d, p, w)).collect();
+    let draft = Draft::plan(vec![waiting, 1, 0, 0, 0], 4, arcs);
+    let mut input = Input::new("small", draft, Some(2), firings);
+    if waiting == 2 {
+        input.list = vec![0, 1, 0, 1, 2];
+    } else {
+        input.name = "small, refilled".into();
+    }
+    input
+}
+
+/// So many places and transitions, four arcs for each on average: transition, direction and place at random.
+pub fn random(size: usize, seed: u64) -> Input {
+    let mut rng = Rng::new(seed);
+    let mut keys: Vec<(usize, u8, usize)> = Vec::new();
+    while keys.len() < 4 * size {
+        while keys.len() < 4 * size {
+            keys.push((rng.below(size), rng.below(2) as u8, rng.below(size)));
+        }
+        keys.sort();
+        keys.dedup();
+    }
+    let arcs = keys.iter().map(|&(t, d, p)| DraftArc::new(t, d, p, rng.range(1, 2) as u16)).collect();
+    let marking = (0..size).map(|_| rng.range(50, 500) as u32).collect();
+    Input::new(&format!("random {size}"), Draft::plan(marking, size, arcs), None, MAX_LIST)
+}
+
+/// A chain of places, numbered backwards: transition t moves a token from place t + 1 to place t.
+pub fn chain(places: usize) -> Input {
+    let mut arcs = Vec::new();
+    for t in 0..places - 1 {
+        arcs.push(DraftArc::new(t, 0, t + 1, 1));
+        arcs.push(DraftArc::new(t, 1, t, 1));
+    }
+    let mut marking = vec![0; places];
+    // A token makes places - 1 moves.
+    marking[places - 1] = (2 * MAX_LIST / (places - 1)) as u32;
+    Input::new(&format!("chain {places}"), Draft::plan(marking, places - 1, arcs), Some(0), MAX_LIST)
+}
+
+/// One transition with an arc from and to every place; it raises three of four places and reads the fourth.
+pub fn wide(places: usize) -> Input {
+    let ins = (0..places).map(|p| DraftArc::new(0, 0, p, 1));
+    let outs = (0..places).map(|p| DraftArc::new(0, 1, p, if p % 4 == 0 { 1 } else { 2 }));
+    let draft = Draft::plan(vec![1; places], 1, ins.chain(outs).collect());
+    Input::new(&format!("wide {}", 2 * places), draft, Some(1), MAX_LIST)
+}
+
+/// Rakow's readers and writers: n readers, n writers, a counter of the reading ones and a place for a writing one.
+pub fn readers_writers(n: usize) -> Input {
+    let (start, counter, writing) = (0, 1, n + 2);
+    let (reader, writer) = (n + 3, 3 * n + 3);
+    let mut arcs = vec![DraftArc::new(0, 0, start, 1), DraftArc::new(0, 1, counter, 1)];
+    let mut t = 1;
+    // A transition and its reverse: from the two places to the two others and back.
+    let mut pair = |from: [usize; 2], to: [usize; 2]| {
+        for (takes, gives) in [(from, to), (to, from)] {
+            takes.iter().for_each(|&p| arcs.push(DraftArc::new(t, 0, p, 1)));
+            gives.iter().for_each(|&p| arcs.push(DraftArc::new(t, 1, p, 1)));
+            t += 1;
+        }
+    };
+    for i in 0..n {
+        let (idle, active) = (reader + 2 * i, reader + 2 * i + 1);
+        for j in 0..n {
+            pair([counter + j, idle], [counter + j + 1, active]);
+        }
+        let (idle, active) = (writer + 2 * i, writer + 2 * i + 1);
+        pair([counter, idle], [writing, active]);
+    }
+    let mut marking = vec![0; 5 * n + 3];
+    marking[start] = 1;
+    (0..2 * n).for_each(|i| marking[reader + 2 * i] = 1);
+    Input::new(&format!("rw({n})"), Draft::plan(marking, t, arcs), Some(counter as u16), MAX_LIST)
+}
+
+#[cfg(test)]
+mod tests {
+    use super::*;
+
+    #[test]
+    fn readers_writers_are_as_published() {
+        let published = nesfoal_tests::published::nets();
+        let net = published.iter().find(|n| n.name == "rakow-rw-6").unwrap();
+        assert_eq!(readers_writers(6).plan, net.plan);
+        assert_eq!(readers_writers(22).counts[0], [113, 1_013, 4_050]);
+    }
+
+    #[test]
+    fn nets_are_of_the_size_told() {
+        let counts: Vec<[usize; 3]> = six().iter().map(|n| n.counts[0]).collect();
+        let wide = [1_024, 1, 2_048];
+        assert_eq!(counts[..3], [[5, 4, 9], [100, 100, 400], [1_000, 1_000, 4_000]]);
+        assert_eq!(counts[3..], [[1_024, 1_023, 2_046], wide, [113, 1_013, 4_050]]);
+        assert!(six()[1..].iter().all(|n| n.list.len() == MAX_LIST));
+        assert_eq!(small(2, 5).plan.len(), 108);
+    }
+}

@@ -1,0 +1,224 @@
+//! The two cuts: kept sets by a worklist over linked rows, and the slice written from them.
+
+use super::bytes::*;
+use super::criterion;
+use super::read::*;
+
+const LEFT_OUT: u16 = 0xFFFF;
+
+/// The rows of a net. For each place the last arc, counted from 1, that lowers it and the last that raises it. For each
+/// arc, also from 1: the arc before it in its row (16 bits), its transition (16), and that transition's first arc (16).
+#[derive(Clone, Copy)]
+struct Rows {
+    heads: *mut u16,
+    links: *mut u64,
+}
+
+/// What is kept so far, a byte for each, and the kept places that are still to be gone through.
+#[derive(Clone, Copy)]
+struct Kept {
+    places: *mut u8,
+    transitions: *mut u8,
+    pending: *mut u16,
+}
+
+/// Safety, or branching.
+#[inline(always)]
+pub fn cut<const SAFETY: bool>(plan: &[u8], q: &[u16], slice: &mut [u8], results: [&mut u32; 3]) -> u32 {
+    let [length, places, transitions] = results;
+    *length = 0;
+    *places = 0;
+    *transitions = 0;
+    let mut heads = raw::<u16, { 2 * PLACES }>();
+    let mut links = raw::<u64, { ARCS + 1 }>();
+    let rows = Rows { heads: heads.as_mut_ptr().cast(), links: links.as_mut_ptr().cast() };
+    // SAFETY: numbers are below the limits once read; tables are cleared as far as the net goes.
+    unsafe {
+        let read = read_by(plan, PLAN, |h| {
+            rows.heads.write_bytes(0, 2 * h.places);
+            *rows.links = u64::MAX;
+            rows_of(h.arcs_at, h.arcs, room(h), rows)
+        });
+        let h = match read {
+            Ok(h) => h,
+            Err(refusal) => return refusal,
+        };
+        let refusal = criterion::refusal(q.as_ptr().cast(), q.len(), h.places);
+        if refusal != 0 {
+            return refusal;
+        }
+        let mut kept_places = raw::<u8, PLACES>();
+        let mut kept_transitions = raw::<u8, TRANSITIONS>();
+        let mut pending = raw::<u16, { PLACES + 1 }>();
+        let kept = Kept {
+            places: kept_places.as_mut_ptr().cast(),
+            transitions: kept_transitions.as_mut_ptr().cast(),
+            pending: pending.as_mut_ptr().cast(),
+        };
+        kept.places.write_bytes(0, h.places);
+        kept.transitions.write_bytes(0, h.transitions);
+        keep::<SAFETY>(&h, rows, q, kept);
+        write(&h, kept, slice, [length, places, transitions])
+    }
+}
+
+/// Checks the arcs and links the rows.
+#[inline(never)]
+unsafe fn rows_of(at: *const u8, count: usize, room: u64, rows: Rows) -> u32 {
+    let (mut last, mut first) = (usize::MAX, 0);
+    each_arc(at, count, room, |j, arc| {
+        let (t, d, p) = (transition(arc), direction(arc), place(arc));
+        first = if t == last { first } else { j };
+        last = t;
+        let lowering = rows.heads.add(2 * p);
+        let before = *rows.links.add(usize::from(*lowering));
+        let link = |head: *mut u16| {
+            *rows.links.add(j + 1) = u64::from(*head) | (t as u64) << 16 | (first as u64) << 32;
+            *head = j as u16 + 1;
+        };
+        if (before >> 16) as u16 != t as u16 {
+            link(lowering.add(d));
+        } else {
+            // Both ways: only the difference counts.
+            let taken = weight(get64(at.add(8 * usize::from(*lowering) - 8)));
+            if weight(arc) >= taken {
+                *lowering = before as u16;
+            }
+            if weight(arc) > taken {
+                link(lowering.add(1));
+            }
+        }
+    })
+}
+
+/// Keeps what the cut keeps.
+#[inline(never)]
+unsafe fn keep<const SAFETY: bool>(h: &Header, rows: Rows, q: &[u16], kept: Kept) {
+    let (arcs_at, arcs) = (h.arcs_at, h.arcs);
+    let mut count = 0;
+    let follow = |head: *const u16, mut count: usize| {
+        let mut j = usize::from(*head);
+        while j != 0 {
+            let link = *rows.links.add(j);
+            j = (link & 0xFFFF) as usize;
+            let t = link >> 16 & 0xFFFF;
+            let known = kept.transitions.add(t as usize);
+            if *known != 0 {
+                continue;
+            }
+            *known = 1;
+            // The input places, new ones pending.
+            let mut i = (link >> 32 & 0xFFFF) as usize;
+            while i < arcs {
+                let arc = get64(arcs_at.add(8 * i));
+                if arc & 0x1_FFFF != t {
+                    break;
+                }
+                let p = place(arc);
+                let known = kept.places.add(p);
+                *kept.pending.add(count) = p as u16;
+                count += usize::from(*known == 0);
+                *known = 1;
+                i += 1;
+            }
+        }
+        count
+    };
+    for &p in q {
+        *kept.places.add(usize::from(p)) = 1;
+    }
+    for &p in q {
+        // In the safety cut what raises a place of Q changes it too, so Q need not be pending.
+        count = follow(rows.heads.add(2 * usize::from(p)), count);
+        count = follow(rows.heads.add(2 * usize::from(p) + 1), count);
+    }
+    while count > 0 {
+        count -= 1;
+        let p = usize::from(*kept.pending.add(count));
+        if !SAFETY {
+            count = follow(rows.heads.add(2 * p), count);
+        }
+        count = follow(rows.heads.add(2 * p + 1), count);
+    }
+}
+
+/// The kept numbers, rising, and each one's own number; returns their count.
+#[inline(always)]
+unsafe fn renumber(kept: *const u8, count: usize, origins: *mut u16, own: *mut u16) -> usize {
+    let mut k = 0;
+    for n in 0..count {
+        let stays = *kept.add(n) != 0;
+        *origins.add(k) = n as u16;
+        *own.add(n) = if stays { k as u16 } else { LEFT_OUT };
+        k += usize::from(stays);
+    }
+    k
+}
+
+/// Writes the slice of the kept sets, or refuses with 13.
+#[inline(always)]
+unsafe fn write(h: &Header, kept: Kept, slice: &mut [u8], results: [&mut u32; 3]) -> u32 {
+    let mut place_origins = raw::<u16, { PLACES + 1 }>();
+    let mut transition_origins = raw::<u16, { TRANSITIONS + 1 }>();
+    let mut own_places = raw::<u16, PLACES>();
+    let mut own_transitions = raw::<u16, TRANSITIONS>();
+    let place_origins = place_origins.as_mut_ptr().cast::<u16>();
+    let transition_origins = transition_origins.as_mut_ptr().cast::<u16>();
+    let own_places = own_places.as_mut_ptr().cast::<u16>();
+    let own_transitions = own_transitions.as_mut_ptr().cast::<u16>();
+    let p_count = renumber(kept.places, h.places, place_origins, own_places);
+    let t_count = renumber(kept.transitions, h.transitions, transition_origins, own_transitions);
+
+    // An exact count is needed only where the buffer could be too short.
+    let rest = 6 * p_count + 2 * t_count + 16;
+    if slice.len() < rest + 8 * h.arcs {
+        let mut count = 0;
+        for j in 0..h.arcs {
+            let arc = h.arc(j);
+            count += usize::from(*kept.places.add(place(arc)) & *kept.transitions.add(transition(arc)));
+        }
+        if slice.len() < rest + 8 * count {
+            return 13;
+        }
+    }
+
+    let to = slice.as_mut_ptr();
+    for i in 0..p_count {
+        put32(to.add(4 * i), h.marking(usize::from(*place_origins.add(i))));
+    }
+    let first = to.add(4 * p_count);
+    let mut at = write_arcs(h.arcs_at, h.arcs, own_places, own_transitions, first);
+    let arcs = (at as usize - first as usize) / 8;
+    at.copy_from_nonoverlapping(place_origins.cast(), 2 * p_count);
+    at = at.add(2 * p_count);
+    at.copy_from_nonoverlapping(transition_origins.cast(), 2 * t_count);
+    at = at.add(2 * t_count);
+    let body = 6 * p_count + 2 * t_count + 8 * arcs;
+    put64(at, body as u64 | (p_count as u64) << 32 | (t_count as u64) << 48);
+    put64(at.add(8), arcs as u64 | 0x4C4C_4542_0101 << 16);
+    let [length, places, transitions] = results;
+    *length = body as u32 + 16;
+    *places = p_count as u32;
+    *transitions = t_count as u32;
+    0
+}
+
+/// Writes the kept arcs; returns where they end. Each arc is written: one that is left out is written over by the next
+/// one or by what follows the arcs, 16 bytes at least.
+#[inline(never)]
+unsafe fn write_arcs(
+    from: *const u8,
+    count: usize,
+    places: *const u16,
+    transitions: *const u16,
+    to: *mut u8,
+) -> *mut u8 {
+    let mut at = to;
+    for j in 0..count {
+        let arc = get64(from.add(8 * j));
+        let (p, t) = (*places.add(place(arc)), *transitions.add(transition(arc)));
+        put64(at, arc & 0xFFFF_0000_FFFF_0000 | u64::from(t) | u64::from(p) << 32);
+        at = at.add(8 * usize::from((p != LEFT_OUT) & (t != LEFT_OUT)));
+    }
+    at
+}

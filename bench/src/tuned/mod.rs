@@ -1,0 +1,22 @@
+//! The slicer's calls in Rust, written for speed: what the proved library is timed against.
+//!
+//! Linear algorithms; an arc is one 64-bit word; tables of starts and rows linked by number; sets of bits; all
+//! tables on the stack and cleared only as far as the net goes; no bounds checks (every index is below a limit
+//! that reading has checked). Answers, refusals and lent buffers are those of paper 01.
+
+mod arcs;
+mod bytes;
+mod c;
+mod check;
+mod criterion;
+mod cut;
+mod effect;
+mod list;
+mod project;
+mod read;
+mod replay;
+mod starts;
+#[cfg(feature = "vectors")]
+mod vectors;
+
+pub use c::{arcs, branching, check, effect, project, replay, safety, verdict};

@@ -1,0 +1,86 @@
+//! Replay of a list of firings.
+
+use super::bytes::*;
+use super::list;
+use super::read::*;
+use super::starts;
+
+#[inline(always)]
+pub fn replay(file: &[u8], numbers: &[u16], marking: &mut [u64], index: &mut u32, short: &mut u32) -> u32 {
+    *index = 0;
+    *short = 0;
+    let mut table = raw::<u16, { TRANSITIONS + 1 }>();
+    let mut moves = raw::<i32, ARCS>();
+    let table = table.as_mut_ptr().cast::<u16>();
+    let moves = moves.as_mut_ptr().cast::<i32>();
+    // SAFETY: numbers are below the limits once read; the table is cleared as far as the transitions go.
+    unsafe {
+        let read = read_by(file, EITHER, |h| {
+            table.write_bytes(0, h.transitions + 1);
+            moves_of(h.arcs_at, h.arcs, room(h), table, moves)
+        });
+        let h = match read {
+            Ok(h) => h,
+            Err(refusal) => return refusal,
+        };
+        let refusal = list::refusal(numbers, h.transitions);
+        if refusal != 0 {
+            return refusal;
+        }
+        if marking.len() < h.places {
+            return 13;
+        }
+        starts::fill(table, h.transitions + 1);
+        let tokens = marking.as_mut_ptr().cast::<i64>();
+        for p in 0..h.places {
+            *tokens.add(p) = i64::from(h.marking(p));
+        }
+        for (i, &t) in numbers.iter().enumerate() {
+            let from = usize::from(*table.add(usize::from(t)));
+            let to = usize::from(*table.add(usize::from(t) + 1));
+            // Takes come first; a place that goes below 0 shows in the sign.
+            let mut signs = 0;
+            for j in from..to {
+                let m = *moves.add(j);
+                let at = tokens.add((m & 1023) as usize);
+                let now = *at + i64::from(m >> 10);
+                *at = now;
+                signs |= now;
+            }
+            if signs < 0 {
+                for j in from..to {
+                    let m = *moves.add(j);
+                    *tokens.add((m & 1023) as usize) -= i64::from(m >> 10);
+                }
+                *index = i as u32;
+                *short = lowest_short(moves.add(from), to - from, tokens);
+                return 100;
+            }
+        }
+        0
+    }
+}
+
+/// Checks the arcs; makes a move of each, its place and above it the tokens that it adds, and the table of ends.
+#[inline(never)]
+unsafe fn moves_of(at: *const u8, count: usize, room: u64, table: *mut u16, moves: *mut i32) -> u32 {
+    each_arc(at, count, room, |j, arc| {
+        *table.add(transition(arc) + 1) = j as u16 + 1;
+        let tokens = weight(arc) as i32;
+        let adds = if direction(arc) == 1 { tokens } else { -tokens };
+        *moves.add(j) = adds << 10 | place(arc) as i32;
+    })
+}
+
+/// The first of the moves that takes more than there is; there is one.
+#[cold]
+unsafe fn lowest_short(moves: *const i32, count: usize, tokens: *const i64) -> u32 {
+    for j in 0..count {
+        let m = *moves.add(j);
+        let p = (m & 1023) as usize;
+        if *tokens.add(p) + i64::from(m >> 10) < 0 {
+            return p as u32;
+        }
+    }
+    0
+}
