@@ -1,11 +1,10 @@
 // arcs PLAN SLICE plan|slice TRANSITION
-use crate::input;
-use crate::refusal;
-use crate::steps;
 use file::Due;
 use file::Reading;
+use pages::help;
+use pages::refusal;
+use pages::steps;
 use terminal::args;
-use terminal::files;
 use terminal::say;
 
 fn name(inslice: bool) {
@@ -67,7 +66,7 @@ fn turned_back(plan: &[u8], slice: &[u8], inslice: bool, transition: u16) -> boo
     !known(plan, Due::Plan, inslice, transition)
 }
 
-pub fn answer<'a>(plan: &'a [u8], slice: &'a [u8], inslice: bool, transition: u16) {
+fn of<'a>(plan: &'a [u8], slice: &'a [u8], inslice: bool, transition: u16) {
     let run = nesfoal::arcs::arcs(plan, slice, inslice, transition);
     if run.len() != 0 {
         found(run, inslice, transition);
@@ -79,36 +78,16 @@ pub fn answer<'a>(plan: &'a [u8], slice: &'a [u8], inslice: bool, transition: u1
     found(run, inslice, transition);
 }
 
-fn with_plan(plan: &[u8], inslice: bool, transition: u16) {
-    let mut slice = input::room();
-    let l = files::load(3, &mut slice);
-    if !l.good {
-        return;
-    }
-    let n = l.length;
-    answer(plan, &slice[..n], inslice, transition);
-}
-
-fn load(inslice: bool, transition: u16) {
-    let mut plan = input::room();
-    let l = files::load(2, &mut plan);
-    if !l.good {
-        return;
-    }
-    let n = l.length;
-    with_plan(&plan[..n], inslice, transition);
-}
-
-pub fn run() {
+pub fn answer<'a>(plan: &'a [u8], slice: &'a [u8], numbers: &[u16]) {
     let inslice = args::is(4, b"slice");
     let inplan = args::is(4, b"plan");
-    if (os::arg_count() != 6) | (inslice == inplan) {
-        say::usage(b"arcs PLAN SLICE plan|slice TRANSITION");
+    if inslice == inplan {
+        help::usage(8);
         return;
     }
-    let transition = args::number(5);
-    if !transition.good {
+    if numbers.len() != 1 {
+        help::usage(8);
         return;
     }
-    load(inslice, transition.value);
+    of(plan, slice, inslice, numbers[0]);
 }

@@ -1,6 +1,11 @@
 // demo: the small kerb of paper 01.
+use crate::cuts;
 use crate::effect;
-use crate::show;
+use crate::projects;
+use crate::replays;
+use crate::verdict;
+use pages::show;
+use slice::Cut;
 use terminal::say;
 
 fn command(t: &[u8]) {
@@ -18,13 +23,52 @@ fn looks(plan: &[u8]) {
     command(b"show small-kerb.plan");
     show::answer(plan);
     command(b"effect small-kerb.plan 3 2");
-    effect::answer(plan, 3, 2);
-    command(b"effect small-kerb.plan 0 1");
-    effect::answer(plan, 0, 1);
+    effect::of(plan, 3, 2);
+}
+
+fn checked(plan: &[u8], slice: &[u8]) {
+    command(b"show kerb.slice");
+    show::answer(slice);
+    command(b"check small-kerb.plan kerb.slice 2");
+    verdict::answer(plan, slice, &[2]);
+}
+
+fn replayed(plan: &[u8], slice: &[u8]) {
+    command(b"replay small-kerb.plan 3 0 1");
+    replays::answer(plan, &[3, 0, 1]);
+    command(b"project small-kerb.plan kerb.slice 3 0 1");
+    projects::answer(plan, slice, &[3, 0, 1]);
+    command(b"replay kerb.slice 0 1");
+    replays::answer(slice, &[0, 1]);
+}
+
+fn sliced(plan: &[u8], slice: &[u8]) {
+    checked(plan, slice);
+    replayed(plan, slice);
+}
+
+fn rest(plan: &[u8], buffer: &[u8], length: u32) {
+    let end = io::count(length as isize, buffer);
+    sliced(plan, &buffer[..end]);
+}
+
+fn cut(plan: &[u8], buffer: &mut [u8]) {
+    command(b"safety small-kerb.plan kerb.slice 2");
+    let c = nesfoal::cuts::safety(plan, &[2], buffer);
+    let Cut::Written(n, p, t) = c else {
+        return;
+    };
+    say::text(b"written kerb.slice");
+    cuts::counts(n, p, t);
+    rest(plan, buffer, n);
 }
 
 pub fn run() {
-    say::text(b"demo: a small kerb with places 0 waiting, 1 bay free, 2 in bay, 3 left, 4 bell\n");
+    say::text(
+        b"demo: a small kerb with places 0 waiting, 1 bay free, 2 in bay, 3 left, 4 bell; no file is read or written\n",
+    );
     let plan = kerb();
     looks(&plan);
+    let mut buffer = [0u8; 65536];
+    cut(&plan, &mut buffer);
 }

@@ -1,9 +1,7 @@
 // effect FILE PLACE TRANSITION
-use crate::input;
-use crate::refusal;
 use nesfoal::effect::Change;
-use terminal::args;
-use terminal::files;
+use pages::help;
+use pages::refusal;
 use terminal::say;
 
 fn refused(n: u32, place: u16, transition: u16) {
@@ -21,14 +19,11 @@ fn refused(n: u32, place: u16, transition: u16) {
 fn changed(by: i32, place: u16, transition: u16) {
     say::text(b"effect ");
     say::signed(by);
-    say::text(b" of transition ");
-    say::short(transition);
-    say::text(b" on place ");
-    say::short(place);
-    say::text(b"\n");
+    say::between(b" of transition ", transition as usize, b" on place ");
+    say::between(b"", place as usize, b"\n");
 }
 
-pub fn answer(file: &[u8], place: u16, transition: u16) {
+pub fn of(file: &[u8], place: u16, transition: u16) {
     let c = nesfoal::effect::effect(file, place, transition);
     match c {
         Change::By(n) => changed(n, place, transition),
@@ -36,28 +31,10 @@ pub fn answer(file: &[u8], place: u16, transition: u16) {
     }
 }
 
-fn load(place: u16, transition: u16) {
-    let mut file = input::room();
-    let l = files::load(2, &mut file);
-    if !l.good {
+pub fn answer(file: &[u8], numbers: &[u16]) {
+    if numbers.len() != 2 {
+        help::usage(3);
         return;
     }
-    let n = l.length;
-    answer(&file[..n], place, transition);
-}
-
-pub fn run() {
-    if os::arg_count() != 5 {
-        say::usage(b"effect FILE PLACE TRANSITION");
-        return;
-    }
-    let place = args::number(3);
-    if !place.good {
-        return;
-    }
-    let transition = args::number(4);
-    if !transition.good {
-        return;
-    }
-    load(place.value, transition.value);
+    of(file, numbers[0], numbers[1]);
 }

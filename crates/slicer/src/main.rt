@@ -1,54 +1,101 @@
 // The program: what planners, dispatchers and engineers ask of plans and slices. Every verdict is a call of crate nesfoal.
 mod arcs;
+mod cuts;
 mod demo;
-mod dot;
 mod effect;
-mod help;
 mod input;
-mod picture;
-mod refusal;
-mod show;
-mod steps;
+mod projects;
+mod replays;
+mod verbs;
+mod verdict;
 
+use pages::dot;
+use pages::help;
+use pages::show;
 use terminal::args;
-use terminal::say;
+use terminal::files;
+use terminal::lists;
 
-// The verbs that look.
-fn looked() -> bool {
-    if args::is(1, b"show") {
-        show::run();
-        return true;
+// The answers to questions on one file.
+fn one(verb: u8, file: &[u8], list: &[u16]) {
+    match verb {
+        1 => show::answer(file),
+        2 => dot::one(file),
+        3 => effect::answer(file, list),
+        4 => replays::answer(file, list),
+        5 => cuts::answer(file, list, false),
+        _ => cuts::answer(file, list, true),
     }
-    if args::is(1, b"dot") {
-        dot::run();
-        return true;
-    }
-    if args::is(1, b"effect") {
-        effect::run();
-        return true;
-    }
-    if args::is(1, b"arcs") {
-        arcs::run();
-        return true;
-    }
-    false
 }
 
-fn unknown() {
-    say::text(b"usage: nesfoal VERB ..; nesfoal help lists the verbs\n");
+// The answers to questions on a plan and a slice.
+fn two<'a>(verb: u8, plan: &'a [u8], slice: &'a [u8], list: &[u16]) {
+    match verb {
+        7 => dot::two(plan, slice, list),
+        8 => arcs::answer(plan, slice, list),
+        9 => verdict::answer(plan, slice, list),
+        _ => projects::answer(plan, slice, list),
+    }
+}
+
+fn with_slice<'a>(verb: u8, plan: &'a [u8], slice: &'a [u8]) {
+    let mut list = input::list_room();
+    let l = lists::load(verbs::list_at(verb), &mut list);
+    if !l.good {
+        return;
+    }
+    let n = l.length;
+    two(verb, plan, slice, &list[..n]);
+}
+
+fn with_plan(verb: u8, plan: &[u8]) {
+    let mut slice = input::room();
+    let l = files::load(3, &mut slice);
+    if !l.good {
+        return;
+    }
+    let n = l.length;
+    with_slice(verb, plan, &slice[..n]);
+}
+
+fn with_file(verb: u8, file: &[u8]) {
+    let mut list = input::list_room();
+    let l = lists::load(verbs::list_at(verb), &mut list);
+    if !l.good {
+        return;
+    }
+    let n = l.length;
+    one(verb, file, &list[..n]);
+}
+
+// Reads what the verb asks about, and answers.
+fn asked(verb: u8) {
+    let mut file = input::room();
+    let l = files::load(2, &mut file);
+    if !l.good {
+        return;
+    }
+    let n = l.length;
+    if verb < 7 {
+        with_file(verb, &file[..n]);
+        return;
+    }
+    with_plan(verb, &file[..n]);
 }
 
 fn main() {
     if args::is(1, b"help") {
-        help::run();
+        help::page();
         return;
     }
     if args::is(1, b"demo") {
         demo::run();
         return;
     }
-    if looked() {
+    let verb = verbs::given();
+    if verbs::fits(verb) {
+        asked(verb);
         return;
     }
-    unknown();
+    help::usage(verb);
 }

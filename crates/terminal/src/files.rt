@@ -76,3 +76,85 @@ pub fn load(i: usize, to: &mut [u8]) -> Loaded
     }
     read(&path[..n], to)
 }
+
+// Puts a dot and six X after the first n bytes of a name, and answers how many bytes that is; 0 where they do not fit.
+fn beside(name: &mut [u8], n: usize) -> usize
+    ensures { λ r. ⌜ Counts r (now (name .exit)) ⌝ }
+{
+    if 4088 < n {
+        return 0;
+    }
+    if name.len() < 4096 {
+        return 0;
+    }
+    name[n] = b'.';
+    name[n + 1] = b'X';
+    name[n + 2] = b'X';
+    name[n + 3] = b'X';
+    name[n + 4] = b'X';
+    name[n + 5] = b'X';
+    name[n + 6] = b'X';
+    n + 7
+}
+
+// Writes all of a new file, for everyone to read, and has it kept by the disk.
+fn fill(fd: i32, bytes: &[u8]) -> bool {
+    if !io::write_all(fd, bytes) {
+        return false;
+    }
+    if libc::fchmod(fd, 0o644) != 0 {
+        return false;
+    }
+    libc::fsync(fd) == 0
+}
+
+// Says why, and removes the file beside.
+fn given_up(temporary: &[u8], path: &[u8]) -> bool {
+    failed(path);
+    os::unlink(temporary);
+    false
+}
+
+// Fills the file beside, then gives it the name.
+fn renamed(fd: i32, bytes: &[u8], temporary: &[u8], path: &[u8]) -> bool {
+    if !fill(fd, bytes) {
+        libc::close(fd);
+        return given_up(temporary, path);
+    }
+    if libc::close(fd) != 0 {
+        return given_up(temporary, path);
+    }
+    if os::rename(temporary, path) != 0 {
+        return given_up(temporary, path);
+    }
+    true
+}
+
+// Makes the file beside, under a name that ends in six X.
+fn replace(path: &[u8], bytes: &[u8], temporary: &mut [u8]) -> bool {
+    let fd = os::create_temp(temporary);
+    if fd < 0 {
+        failed(path);
+        return false;
+    }
+    renamed(fd, bytes, temporary, path)
+}
+
+fn save_as(i: usize, path: &[u8], bytes: &[u8]) -> bool {
+    let mut name = io::buffer();
+    let n = os::arg(i, &mut name);
+    let end = beside(&mut name, n);
+    replace(path, bytes, &mut name[..end])
+}
+
+// Writes the file that argument i names, whole or not at all: beside it, then renamed. Where that fails, a line says why,
+// and a file of that name stays as it was.
+pub fn save(i: usize, bytes: &[u8]) -> bool {
+    let mut path = io::buffer();
+    let n = os::arg(i, &mut path);
+    if os::errno() != 0 {
+        failed(b"the file's name");
+        return false;
+    }
+    save_as(i, &path[..n], bytes)
+}

@@ -26,6 +26,13 @@ pub fn signed(n: i32) {
     number(n as u64);
 }
 
+// A number between two texts.
+pub fn between(before: &[u8], n: usize, after: &[u8]) {
+    text(before);
+    count(n);
+    text(after);
+}
+
 // `1 place`, `5 places`.
 pub fn counted(n: usize, thing: &[u8]) {
     count(n);
