@@ -4,11 +4,11 @@ ghost use Prim.Native.Nat.{_+_, _*_, _≤_};
 ghost use lib.ListN.{length};
 ghost use Rattle.file.specs.Facts.{Sound};
 use crate::picture;
-use crate::refusal;
 use file::Due;
 use file::Header;
 use file::Reading;
 use terminal::say;
+use words::refusal;
 
 // Gives number i the shade s.
 fn set(shades: &mut [u8; 1024], i: usize, s: u8) {

@@ -2,12 +2,12 @@
 ghost use mathlib.Core.Path.{_≡_};
 ghost use Prim.Native.Nat.{_<_};
 ghost use Rattle.file.specs.Facts.{Sound};
-use crate::refusal;
-use crate::steps;
 use file::Due;
 use file::Header;
 use file::Reading;
 use terminal::say;
+use words::refusal;
+use words::steps;
 
 fn kind(h: Header) {
     if h.kind == 1 {

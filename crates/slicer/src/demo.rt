@@ -1,9 +1,9 @@
 // demo: the small kerb of paper 01.
-use crate::cuts;
 use crate::effect;
 use crate::projects;
 use crate::replays;
 use crate::verdict;
+use answers::cuts;
 use pages::show;
 use slice::Cut;
 use terminal::say;

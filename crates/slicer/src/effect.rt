@@ -1,33 +1,13 @@
 // effect FILE PLACE TRANSITION
+use answers::effect;
 use nesfoal::effect::Change;
-use pages::help;
-use pages::refusal;
-use terminal::say;
-
-fn refused(n: u32, place: u16, transition: u16) {
-    if n == 10 {
-        refusal::unknown(n, b"place", place);
-        return;
-    }
-    if n == 12 {
-        refusal::unknown(n, b"transition", transition);
-        return;
-    }
-    refusal::one(n, b"file");
-}
-
-fn changed(by: i32, place: u16, transition: u16) {
-    say::text(b"effect ");
-    say::signed(by);
-    say::between(b" of transition ", transition as usize, b" on place ");
-    say::between(b"", place as usize, b"\n");
-}
+use words::help;
 
 pub fn of(file: &[u8], place: u16, transition: u16) {
     let c = nesfoal::effect::effect(file, place, transition);
     match c {
-        Change::By(n) => changed(n, place, transition),
-        Change::Refused(n) => refused(n, place, transition),
+        Change::By(n) => effect::changed(n, place, transition),
+        Change::Refused(n) => effect::refused(n, place, transition),
     }
 }
 

@@ -3,18 +3,18 @@ mod arcs;
 mod cuts;
 mod demo;
 mod effect;
-mod input;
 mod projects;
 mod replays;
-mod verbs;
 mod verdict;
 
+use answers::input;
+use answers::verbs;
 use pages::dot;
-use pages::help;
 use pages::show;
 use terminal::args;
 use terminal::files;
 use terminal::lists;
+use words::help;
 
 // The answers to questions on one file.
 fn one(verb: u8, file: &[u8], list: &[u16]) {

@@ -1,62 +1,14 @@
 // replay FILE LIST
-use crate::input;
-use file::Due;
-use file::Reading;
-use pages::refusal;
+use answers::replays;
 use replay::Outcome;
-use terminal::say;
-
-fn entry(marking: &[u64; 1024], p: usize) -> u64 {
-    if p < 1024 {
-        return marking[p];
-    }
-    0
-}
-
-fn tokens(marking: &[u64; 1024], p: usize) {
-    say::text(b" ");
-    say::number(entry(marking, p));
-}
-
-// The tokens of each of the `count` places.
-fn marking_of(marking: &[u64; 1024], count: usize) {
-    let mut p = 0;
-    while p < count {
-        tokens(marking, p);
-        p += 1;
-    }
-}
-
-fn places(file: &[u8]) -> usize {
-    let whole = file::read(file, Due::Either);
-    let Reading::Whole(h) = whole else {
-        return 0;
-    };
-    h.places
-}
-
-fn fired(count: usize, marking: &[u64; 1024], places: usize) {
-    say::text(b"fired ");
-    say::counted(count, b"transition");
-    say::text(b", ending");
-    marking_of(marking, places);
-    say::text(b"\n");
-}
-
-fn stuck(list: &[u16], index: u32, place: u32) {
-    let i = index as usize;
-    let t = input::at(list, i);
-    say::between(b"stuck at index ", i, b": transition ");
-    say::between(b"", t as usize, b", place ");
-    say::between(b"", place as usize, b" is short\n");
-}
+use words::refusal;
 
 pub fn answer(file: &[u8], list: &[u16]) {
     let mut marking = [0u64; 1024];
     let o = nesfoal::replays::replay(file, list, &mut marking);
     match o {
-        Outcome::Fired => fired(list.len(), &marking, places(file)),
-        Outcome::Stuck(i, p) => stuck(list, i, p),
+        Outcome::Fired => replays::fired(list.len(), &marking, replays::places(file)),
+        Outcome::Stuck(i, p) => replays::stuck(list, i, p),
         Outcome::Refused(n) => refusal::one(n, b"file"),
     }
 }

@@ -1,7 +1,7 @@
 // check PLAN SLICE Q..
-use pages::refusal;
-use pages::rules;
 use terminal::say;
+use words::refusal;
+use words::rules;
 
 pub fn answer(plan: &[u8], slice: &[u8], criterion: &[u16]) {
     let v = nesfoal::verdict::check(plan, slice, criterion);

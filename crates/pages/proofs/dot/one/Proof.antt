@@ -9,7 +9,7 @@ use Rattle.pages.proofs.dot.one.Lts as lts
 use Rattle.file.proofs.number.Reads as number-reads
 use Rattle.file.proofs.read.Reads as read-reads
 use Rattle.pages.proofs.picture.whole.Reads as whole-reads
-use Rattle.pages.proofs.refusal.one.Reads as one-reads
+use Rattle.words.proofs.refusal.one.Reads as one-reads
 
 -- what is known of the file from here on
 open-at : (c : tie.After-whole) → Opened Either (c .before .before .before .before .args .file .now) (c .whole .given .0 .0)

@@ -10,7 +10,7 @@ use Rattle.pages.proofs.dot.two.Lts as lts
 use Rattle.file.proofs.number.Reads as number-reads
 use Rattle.file.proofs.read.Reads as read-reads
 use Rattle.pages.proofs.dot.drawn.Reads as drawn-reads
-use Rattle.pages.proofs.refusal.one.Reads as one-reads
+use Rattle.words.proofs.refusal.one.Reads as one-reads
 
 -- what is known of the two files from here on
 plan-at : (c : tie.After-first) → Opened due.Plan (c .before .before .before .before .before .before .args .plan .now) (c .first .given .0 .0)

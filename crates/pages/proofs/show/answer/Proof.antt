@@ -8,7 +8,7 @@ use Rattle.pages.proofs.show.answer.Reads as reads
 use Rattle.pages.proofs.show.answer.Lts as lts
 use Rattle.file.proofs.number.Reads as number-reads
 use Rattle.file.proofs.read.Reads as read-reads
-use Rattle.pages.proofs.refusal.one.Reads as one-reads
+use Rattle.words.proofs.refusal.one.Reads as one-reads
 use Rattle.pages.proofs.show.lines.Reads as lines-reads
 
 -- what is known of the file from here on

@@ -1,10 +1,10 @@
 use Prim.Native.Nat.{_-_}
 use borrow.Author.Needs.{needs}
-use Rattle.slicer.proofs.replays.marking_of.Statement.{statement}
-use Rattle.slicer.proofs.replays.marking_of.Tie as tie
-use Rattle.slicer.proofs.replays.marking_of.Reads as reads
-use Rattle.slicer.proofs.replays.marking_of.Lts as lts
-use Rattle.slicer.proofs.replays.tokens.Reads as tokens-reads
+use Rattle.answers.proofs.replays.marking_of.Statement.{statement}
+use Rattle.answers.proofs.replays.marking_of.Tie as tie
+use Rattle.answers.proofs.replays.marking_of.Reads as reads
+use Rattle.answers.proofs.replays.marking_of.Lts as lts
+use Rattle.answers.proofs.replays.tokens.Reads as tokens-reads
 
 abbrev Inv-loop : tie.InvT-loop
 Inv-loop marking count p₀ p = Unit {0}

@@ -1,11 +1,11 @@
 use Prim.Native.Nat.{_≤_}
 use lib.ListN.{length}
 use borrow.Author.Needs.{needs}
-use Rattle.pages.proofs.steps.steps.Statement.{statement}
-use Rattle.pages.proofs.steps.steps.Tie as tie
-use Rattle.pages.proofs.steps.steps.Reads as reads
-use Rattle.pages.proofs.steps.steps.Lts as lts
-use Rattle.pages.proofs.steps.step_at.Reads as step-at-reads
+use Rattle.words.proofs.steps.steps.Statement.{statement}
+use Rattle.words.proofs.steps.steps.Tie as tie
+use Rattle.words.proofs.steps.steps.Reads as reads
+use Rattle.words.proofs.steps.steps.Lts as lts
+use Rattle.words.proofs.steps.step_at.Reads as step-at-reads
 
 abbrev Inv-loop : tie.InvT-loop
 Inv-loop run left₀ left = left ≤ length run

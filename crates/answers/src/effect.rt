@@ -1,0 +1,22 @@
+// effect: by how much, or why not.
+use terminal::say;
+use words::refusal;
+
+pub fn refused(n: u32, place: u16, transition: u16) {
+    if n == 10 {
+        refusal::unknown(n, b"place", place);
+        return;
+    }
+    if n == 12 {
+        refusal::unknown(n, b"transition", transition);
+        return;
+    }
+    refusal::one(n, b"file");
+}
+
+pub fn changed(by: i32, place: u16, transition: u16) {
+    say::text(b"effect ");
+    say::signed(by);
+    say::between(b" of transition ", transition as usize, b" on place ");
+    say::between(b"", place as usize, b"\n");
+}
