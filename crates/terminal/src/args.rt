@@ -1,67 +1,6 @@
 // Words and numbers of the command line.
-ghost use mathlib.Core.Path.{_≡_};
-ghost use Prim.Native.Nat.{_≤_};
-ghost use lib.ListN.{length};
-ghost use Rattle.terminal.specs.Decimal.{more, valueFrom};
 use crate::say;
-
-// A number from 0 to 65,535, or none.
-pub struct Value {
-    pub good: bool,
-    pub value: u16,
-}
-
-// The number so far with one more digit; 65,536 where that is no number from 0 to 65,535.
-fn more(n: usize, b: u8) -> usize
-    requires { ⌜ n ≤ 65536 ⌝ }
-    ensures { λ r. ⌜ (r ≡ more n b) × (r ≤ 65536) ⌝ }
-{
-    let next = 10 * n + b as usize;
-    if b < 48 {
-        return 65536;
-    }
-    if 57 < b {
-        return 65536;
-    }
-    if 65583 < next {
-        return 65536;
-    }
-    next - 48
-}
-
-// The value of decimal digits; 65,536 where they are none or the value does not fit.
-pub fn value_of(digits: &[u8]) -> usize
-    ensures { λ r. ⌜ (r ≡ valueFrom 0 (now (digits .entry))) × (r ≤ 65536) ⌝ }
-{
-    let mut sum: usize = 0;
-    let mut i = 0;
-    while i < digits.len() {
-        sum = more(sum, digits[i]);
-        i += 1;
-    }
-    sum
-}
-
-// The number that the text is.
-fn parsed(digits: &[u8]) -> Value {
-    let sum = value_of(digits);
-    if digits.len() == 0 {
-        return Value {
-            good: false,
-            value: 0,
-        };
-    }
-    if sum <= 65535 {
-        return Value {
-            good: true,
-            value: sum as u16,
-        };
-    }
-    Value {
-        good: false,
-        value: 0,
-    }
-}
+use numerals::Value;
 
 fn no_number(t: &[u8]) {
     say::text(b"error: '");
@@ -73,7 +12,7 @@ fn no_number(t: &[u8]) {
 pub fn number(i: usize) -> Value {
     let mut buf = io::buffer();
     let n = os::arg(i, &mut buf);
-    let r = parsed(&buf[..n]);
+    let r = numerals::parsed(&buf[..n]);
     if !r.good {
         no_number(&buf[..n]);
     }

@@ -36,29 +36,6 @@ fn numbers(from: usize, to: &mut [u16]) -> Loaded
     }
 }
 
-// Two bytes as a number, low byte first.
-fn pair(low: u8, high: u8) -> u16 {
-    low as u16 + 256 * (high as u16)
-}
-
-// Each two bytes as a number, as many as `to` takes.
-fn pairs(bytes: &[u8], to: &mut [u16]) -> usize
-    ensures { λ r. ⌜ Counts r (now (to .exit)) ⌝ }
-{
-    let mut left = bytes.len();
-    let mut k = 0;
-    while k < to.len() {
-        if left < 2 {
-            return k;
-        }
-        let at = bytes.len() - left;
-        to[k] = pair(bytes[at], bytes[at + 1]);
-        left -= 2;
-        k += 1;
-    }
-    k
-}
-
 fn odd(path: &[u8]) {
     say::text(b"error: ");
     say::text(path);
@@ -72,7 +49,7 @@ fn from_file(path: &[u8], to: &mut [u16]) -> Loaded
     let mut bytes = [0u8; 131072];
     let l = files::read(path, &mut bytes);
     let n = l.length;
-    let length = pairs(&bytes[..n], to);
+    let length = numerals::pairs(&bytes[..n], to);
     if !l.good {
         return Loaded {
             good: false,

@@ -4,11 +4,11 @@ use native.Mathlib.Omega.{arith}
 use lib.ListN.{length, length-set}
 use Rattle.io.proofs.Counting.{counts}
 use borrow.Author.Needs.{needs}
-use Rattle.terminal.proofs.lists.pairs.Statement.{statement}
-use Rattle.terminal.proofs.lists.pairs.Tie as tie
-use Rattle.terminal.proofs.lists.pairs.Reads as reads
-use Rattle.terminal.proofs.lists.pairs.Lts as lts
-use Rattle.terminal.proofs.lists.pair.Reads as pair-reads
+use Rattle.numerals.proofs.pairs.Statement.{statement}
+use Rattle.numerals.proofs.pairs.Tie as tie
+use Rattle.numerals.proofs.pairs.Reads as reads
+use Rattle.numerals.proofs.pairs.Lts as lts
+use Rattle.numerals.proofs.pair.Reads as pair-reads
 
 abbrev Inv-loop : tie.InvT-loop
 Inv-loop bytes to₀ left₀ k₀ to left k = (k ≤ length to) × (length to ≡ length to₀) × (left ≤ length bytes)

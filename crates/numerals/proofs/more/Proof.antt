@@ -1,10 +1,10 @@
 use native.Mathlib.Omega.{arith}
 use borrow.Author.Tests.{lt-ltb, le-ltb}
 use borrow.Author.Needs.{needs}
-use Rattle.terminal.proofs.args.more.Statement.{statement}
-use Rattle.terminal.proofs.args.more.Tie as tie
-use Rattle.terminal.proofs.args.more.Reads as reads
-use Rattle.terminal.proofs.args.more.Lts as lts
+use Rattle.numerals.proofs.more.Statement.{statement}
+use Rattle.numerals.proofs.more.Tie as tie
+use Rattle.numerals.proofs.more.Reads as reads
+use Rattle.numerals.proofs.more.Lts as lts
 
 -- src/args.rt:19:16
 mul-next : tie.Need-mul-next

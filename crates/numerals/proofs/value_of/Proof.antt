@@ -7,9 +7,9 @@ use native.Mathlib.Omega.{arith}
 use native.Mathlib.Numerals.{add-one}
 use lib.ListN.{length, drop, getD, drop-of-length-le}
 use lib.Seq.{drop-cons}
-use Rattle.terminal.specs.Decimal.{more, valueFrom}
-use Rattle.terminal.proofs.args.value_of.Statement.{statement}
-use Rattle.terminal.proofs.args.value_of.Tie as tie
+use Rattle.numerals.specs.Decimal.{more, valueFrom}
+use Rattle.numerals.proofs.value_of.Statement.{statement}
+use Rattle.numerals.proofs.value_of.Tie as tie
 
 value-next : (s : List ℕ) (n i m : ℕ) → i < length s → m ≡ more n (getD s i 0) → valueFrom n (drop i s) ≡ valueFrom 0 s
     → valueFrom m (drop (i + 1) s) ≡ valueFrom 0 s
