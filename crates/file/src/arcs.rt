@@ -5,6 +5,7 @@ ghost use lib.ListN.{length};
 ghost use Rattle.file.specs.Facts.{ArcSmall, ArcWord, arcOf, arcUnfit};
 ghost use Rattle.file.specs.Layout.{arcAt};
 ghost use Rattle.file.specs.Refusal.{arcsRefusal, key};
+use crate::sweep::all_good;
 use crate::word::get32;
 use net::Arc;
 
@@ -52,13 +53,7 @@ fn order(a: Arc) -> usize
 }
 
 // Checks `count` arcs from `start` on, one by one: 0, or the number of the first rule broken.
-pub(crate) fn refusal(
-    file: &[u8],
-    places: usize,
-    transitions: usize,
-    start: usize,
-    count: usize,
-) -> u32
+fn first_refusal(file: &[u8], places: usize, transitions: usize, start: usize, count: usize) -> u32
     requires { ⌜ start + 8 * count ≤ length (now file) ⌝ }
     ensures { λ r. ⌜ r ≡ arcsRefusal (now (file .entry)) places transitions start 0 count ⌝ }
 {
@@ -80,4 +75,22 @@ pub(crate) fn refusal(
         left -= 1;
     }
     0
+}
+
+// The same; good arcs are gone through in pairs, and one by one only where there is a bad one.
+pub(crate) fn refusal(
+    file: &[u8],
+    places: usize,
+    transitions: usize,
+    start: usize,
+    count: usize,
+) -> u32
+    requires { ⌜ start + 8 * count ≤ length (now file) ⌝ }
+    requires { ⌜ (places ≤ 1024) × (transitions ≤ 1024) ⌝ }
+    ensures { λ r. ⌜ r ≡ arcsRefusal (now (file .entry)) places transitions start 0 count ⌝ }
+{
+    if all_good(file, places, transitions, start, count) {
+        return 0;
+    }
+    first_refusal(file, places, transitions, start, count)
 }

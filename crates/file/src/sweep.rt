@@ -1,0 +1,81 @@
+// Good arcs, gone through in pairs: all limits by one sum, the order by one product.
+ghost use mathlib.Core.Path.{_≡_};
+ghost use mathlib.Core.Bool.{true};
+ghost use Prim.Native.Nat.{_+_, _*_, _<_, _≤_};
+ghost use lib.ListN.{length};
+ghost use Rattle.file.specs.Sweep.{Narrow, bothFit, marksOf, roomOf, sweepKey};
+ghost use Rattle.file.specs.Refusal.{arcsRefusal};
+use crate::arcs::word;
+
+// What is added to an arc's number: it raises the highest bit of a field at its limit or above, and of a weight above 0.
+fn room(places: usize, transitions: usize) -> usize
+    requires { ⌜ (places ≤ 1024) × (transitions ≤ 1024) ⌝ }
+    ensures { λ r. ⌜ r ≡ roomOf places transitions ⌝ }
+{
+    32768 - transitions + 2147352576 + 4294967296 * (32768 - places) + 9223090561878065152
+}
+
+// A field that is out of range shows in its highest bit.
+fn marks(w: usize, room: usize) -> usize
+    ensures { λ r. ⌜ r ≡ marksOf room w ⌝ }
+{
+    std::num::wrapping_add_usize(w, room) | w
+}
+
+// Are both arcs in range?
+fn fit(w: usize, v: usize, room: usize) -> bool
+    ensures { λ r. ⌜ r ≡ bothFit room w v ⌝ }
+{
+    let a = marks(w, room);
+    let b = marks(v, room);
+    ((a | b) & 0x800080008000 == 0) & (0x8000000000000000 <= a & b)
+}
+
+// Orders arcs that are in range by transition, direction and place. The sum becomes one product.
+fn sweep_key(x: usize) -> usize
+    requires { ⌜ Narrow x ⌝ }
+    ensures { λ r. ⌜ (r ≡ sweepKey x) × (r < 9223372036854775808) ⌝ }
+{
+    (x << 52) + (x << 35) + (x << 9)
+}
+
+// Is each of `count` arcs from `start` on in range, and above the one before?
+pub(crate) fn all_good(
+    file: &[u8],
+    places: usize,
+    transitions: usize,
+    start: usize,
+    count: usize,
+) -> bool
+    requires { ⌜ start + 8 * count ≤ length (now file) ⌝ }
+    requires { ⌜ (places ≤ 1024) × (transitions ≤ 1024) ⌝ }
+    ensures { λ r. ⌜ (r ≡ true → arcsRefusal (now (file .entry)) places transitions start 0 count ≡ 0) ⌝ }
+{
+    let room = room(places, transitions);
+    let mut at = start;
+    let mut least: usize = 0;
+    let mut left = count;
+    while 1 < left {
+        let w = word(file, at);
+        let v = word(file, at + 8);
+        if !fit(w, v, room) {
+            return false;
+        }
+        let first = sweep_key(w % 281474976710656);
+        let second = sweep_key(v % 281474976710656);
+        if (first < least) | (second <= first) {
+            return false;
+        }
+        least = second + 1;
+        at += 16;
+        left -= 2;
+    }
+    if left == 0 {
+        return true;
+    }
+    let w = word(file, at);
+    if !fit(w, w, room) {
+        return false;
+    }
+    least <= sweep_key(w % 281474976710656)
+}
