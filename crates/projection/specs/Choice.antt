@@ -1,9 +1,9 @@
 -- A projection by a table of own numbers: entry t is one more than the slice's number of t, or 0 where t is not among the origins.
 -- Assumes nothing.
-use Prim.Native.Nat.{ℕ, zero, suc, _<_, _≤_}
+use Prim.Native.Nat.{ℕ, zero, suc, _-_, _<_, _≤_}
 use mathlib.Core.List.{List, [], _∷_, _++_}
 use mathlib.Core.Path.{_≡_}
-use lib.ListN.{length, getD, set}
+use lib.ListN.{length, getD, take}
 use Rattle.file.specs.Facts.{Sound}
 use Rattle.file.specs.declared.Header.{Header}
 
@@ -17,15 +17,16 @@ unfoldable pub chosenBy : List ℕ → List ℕ → List ℕ
 chosenBy table [] = []
 chosenBy table (t ∷ ts) = chosen (getD table t 0) ++ chosenBy table ts
 
--- the list with the number of an entry at place n
-abbrev pub placed : List ℕ → ℕ → ℕ → List ℕ
-placed out n zero = out
-placed out n (suc k) = set out n k
-
 -- the table reaches each listed number, and the list is short enough to count
 pub record Reached (table list : List ℕ) : Type 0 where
   pub short : length list ≤ 65535
   pub known : (i : ℕ) → i < length list → getD list i 0 < length table
+
+-- the first `end` of the list's numbers are all that entries stand for, and the last of them is one
+pub record Last (table list : List ℕ) (end : ℕ) : Type 0 where
+  pub within : end ≤ length list
+  pub whole : chosenBy table (take end list) ≡ chosenBy table list
+  pub chosen : 0 < end → getD table (getD list (end - 1) 0) 0 ≡ 0 → ⊥
 
 -- the slice was read, and the list is not refused: each number is below `long`
 pub record Given (s : List ℕ) (h : Header) (list : List ℕ) (long : ℕ) : Type 0 where

@@ -3,13 +3,14 @@ ghost use mathlib.Core.Path.{_≡_};
 ghost use mathlib.Core.List.{_++_};
 ghost use Prim.Native.Nat.{ℕ, _+_, _*_, _<_, _≤_};
 ghost use lib.ListN.{length, getD, drop};
+ghost use lib.Dec.{ltb};
 ghost use Rattle.net.specs.Slice.{project as projectOf};
 ghost use Rattle.file.specs.Layout.{sliceFrom};
 ghost use Rattle.file.specs.Facts.{Sound};
 ghost use Rattle.promise.specs.Calls.{written};
 ghost use Rattle.promise.specs.Firing.{projectOr};
 ghost use Rattle.projection.specs.Told.{projectedNumbers, roomRefusal, heldBack};
-ghost use Rattle.projection.specs.Choice.{chosen, chosenBy, placed, Reached, Given};
+ghost use Rattle.projection.specs.Choice.{chosen, chosenBy, Reached, Last, Given};
 use file::Header;
 
 // How many numbers were written, or the number of a refusal.
@@ -43,33 +44,52 @@ fn count(table: &[u16], list: &[u16]) -> usize
     n
 }
 
-// Writes the number of an entry to place n, where it has one; the next place.
-fn put(out: &mut [u16], n: usize, entry: u16) -> usize
-    requires { ⌜ n + length (chosen entry) ≤ length (now out) ⌝ }
-    ensures next { λ r. ⌜ r ≡ n + length (chosen entry) ⌝ }
-    ensures output { λ _. ⌜ now (out .exit) ≡ placed (now (out .entry)) n entry ⌝ }
+// Are there fewer than so many entries for the projection? It is counted only where the list itself is longer.
+fn lacks(table: &[u16], list: &[u16], room: usize) -> bool
+    requires { ⌜ Reached (now table) (now list) ⌝ }
+    ensures { λ r. ⌜ r ≡ ltb room (length (chosenBy (now (table .entry)) (now (list .entry)))) ⌝ }
 {
-    if entry == 0 {
-        return n;
+    if list.len() <= room {
+        return false;
     }
-    out[n] = entry - 1;
-    n + 1
+    room < count(table, list)
 }
 
-// Writes the slice's number for each listed transition among the origins, in order.
-fn write(table: &[u16], list: &[u16], out: &mut [u16])
+// One past the last of the listed transitions that is among the origins.
+fn last_chosen(table: &[u16], list: &[u16]) -> usize
+    requires { ⌜ Reached (now table) (now list) ⌝ }
+    ensures { λ r. ⌜ Last (now (table .entry)) (now (list .entry)) r ⌝ }
+{
+    let mut end = list.len();
+    while 0 < end {
+        let t = list[end - 1] as usize;
+        if table[t] != 0 {
+            return end;
+        }
+        end -= 1;
+    }
+    0
+}
+
+// Writes the slice's number for each listed transition among the origins, in order, and counts them.
+// An entry is written for each transition; one that is dropped is written over, since the last one is kept.
+fn write(table: &[u16], list: &[u16], out: &mut [u16]) -> usize
     requires { ⌜ Reached (now table) (now list) ⌝ }
     requires { ⌜ length (chosenBy (now table) (now list)) ≤ length (now out) ⌝ }
-    ensures { λ _. ⌜ now (out .exit) ≡ chosenBy (now (table .entry)) (now (list .entry)) ++ drop (length (chosenBy (now (table .entry)) (now (list .entry)))) (now (out .entry)) ⌝ }
+    ensures count { λ r. ⌜ r ≡ length (chosenBy (now (table .entry)) (now (list .entry))) ⌝ }
+    ensures output { λ _. ⌜ now (out .exit) ≡ chosenBy (now (table .entry)) (now (list .entry)) ++ drop (length (chosenBy (now (table .entry)) (now (list .entry)))) (now (out .entry)) ⌝ }
 {
+    let end = last_chosen(table, list);
     let mut n: usize = 0;
     let mut i: usize = 0;
-    while i < list.len() {
+    while i < end {
         let t = list[i] as usize;
-        let next = put(out, n, table[t]);
-        n = next;
+        let entry = table[t];
+        out[n] = std::num::wrapping_sub_u16(entry, 1);
+        n += share(entry);
         i += 1;
     }
+    n
 }
 
 // Projects a list that is not refused, by a table that reaches each of its numbers.
@@ -85,11 +105,10 @@ fn project_by(
     ensures output { λ _. ⌜ now (out .exit) ≡ written (roomRefusal (length (now (out .entry))) (projectOf (sliceFrom (now (slice .entry)) h) (now (list .entry)))) (projectOf (sliceFrom (now (slice .entry)) h) (now (list .entry))) (now (out .entry)) ⌝ }
 {
     own::own(slice, h.originstart + 2 * h.places, h.transitions, table);
-    let n = count(table, list);
-    if out.len() < n {
+    if lacks(table, list, out.len()) {
         return Projected::Refused(13);
     }
-    write(table, list, out);
+    let n = write(table, list, out);
     let number = n as u32;
     Projected::Count(number)
 }

@@ -1,7 +1,9 @@
-use mathlib.Core.Path.{ap, _∙_}
+use mathlib.Core.Path.{ap, sym, _∙_}
 use mathlib.Core.List.{List, _++_}
-use Prim.Native.Nat.{ℕ}
+use Prim.Native.Nat.{ℕ, _≤_}
 use native.Mathlib.Omega.{arith}
+use borrow.Author.Tests.{ltb-true, ltb-false}
+use lib.Dec.{ltb}
 use lib.ListN.{length, drop}
 use Rattle.net.specs.Slice.{project}
 use Rattle.file.specs.Layout.{sliceFrom}
@@ -19,8 +21,8 @@ add-own c = search needs
 own-requires : tie.Need-own-requires
 own-requires c κs = origins-of (c .before .before .before .before .before .before .before .pre .sound) (c .before .before .before .before .before .before .before .pre .slice)
 
-count-requires : tie.Need-count-requires
-count-requires c κs = reached-by (c .before .before .before .before .before .before .before .before .before .before .before .pre) (c .before .before .before .own .ensures .0)
+lacks-requires : tie.Need-lacks-requires
+lacks-requires c κs = reached-by (c .before .before .before .before .before .before .before .before .before .before .before .pre) (c .before .before .before .own .ensures .0)
 
 same-length : tie.Need-same-length
 same-length c = search needs
@@ -31,16 +33,17 @@ returns c =
     let h = c .before .before .before .before .before .before .before .before .before .before .before .before .before .args .h in
     let list = c .before .before .before .before .before .before .before .before .before .before .before .before .before .args .list .now in
     let same = projection-is s h list (c .before .before .before .before .before .before .before .before .before .before .before .before .before .pre) (c .before .before .before .before .before .own .ensures .0) (c .before .before .before .before .before .own .ensures .1) in
-    let n = c .before .count .ensures ∙ ap length same in
+    let n = ap length same in
+    let short = ltb-true _ _ (sym (c .before .lacks .ensures) ∙ c .if1 .taken) in
     let P = project (sliceFrom s h) list in
     let out = c .before .before .before .before .before .before .before .before .before .before .before .before .before .args .out .now in
-    (short-answer (length out) _ P n (c .if1 .taken), short-output (length out) _ P n (c .if1 .taken) out)
+    (short-answer (length out) _ P n short, short-output (length out) _ P n short out)
 
 write-requires : tie.Need-write-requires
-write-requires c κs = (reached-by (c .before .before .before .before .before .before .before .before .before .before .before .before .before .before .before .pre) (c .before .before .before .before .before .before .before .own .ensures .0), omega (arith, c .before .before .before .count .ensures, c .before .before .if1 .left))
+write-requires c κs = (reached-by (c .before .before .before .before .before .before .before .before .before .before .before .before .before .before .before .pre) (c .before .before .before .before .before .before .before .own .ensures .0), ltb-false _ _ (sym (c .before .before .before .lacks .ensures) ∙ c .before .before .if1 .left))
 
 cast-number : tie.Need-cast-number
-cast-number c = omega (arith, count-small (c .before .before .before .before .before .before .before .before .before .before .before .before .before .before .before .before .before .before .args .slice .now) (c .before .before .before .before .before .before .before .before .before .before .before .before .before .before .before .before .before .before .args .h) (c .before .before .before .before .before .before .before .before .before .before .before .before .before .before .before .before .before .before .args .list .now) (c .before .before .before .before .before .before .before .before .before .before .before .before .before .before .before .before .before .before .pre) (c .before .before .before .before .before .before .before .before .before .before .own .ensures .0) (c .before .before .before .before .before .before .before .before .before .before .own .ensures .1) (c .before .before .before .before .before .before .count .ensures))
+cast-number c = omega (arith, count-small (c .before .before .before .before .before .before .before .before .before .before .before .before .before .before .before .before .before .before .args .slice .now) (c .before .before .before .before .before .before .before .before .before .before .before .before .before .before .before .before .before .before .args .h) (c .before .before .before .before .before .before .before .before .before .before .before .before .before .before .before .before .before .before .args .list .now) (c .before .before .before .before .before .before .before .before .before .before .before .before .before .before .before .before .before .before .pre) (c .before .before .before .before .before .before .before .before .before .before .own .ensures .0) (c .before .before .before .before .before .before .before .before .before .before .own .ensures .1) (c .before .before .write .ensures .0))
 
 same-length-2 : tie.Need-same-length-2
 same-length-2 c = search needs
@@ -54,11 +57,12 @@ returns-2 c =
     let h = c .before .before .before .before .before .before .before .before .before .before .before .before .before .before .before .before .before .before .args .h in
     let list = c .before .before .before .before .before .before .before .before .before .before .before .before .before .before .before .before .before .before .args .list .now in
     let same = projection-is s h list (c .before .before .before .before .before .before .before .before .before .before .before .before .before .before .before .before .before .before .pre) (c .before .before .before .before .before .before .before .before .before .before .own .ensures .0) (c .before .before .before .before .before .before .before .before .before .before .own .ensures .1) in
-    let n = c .before .before .before .before .before .before .count .ensures ∙ ap length same in
+    let n = c .before .before .write .ensures .0 ∙ ap length same in
     let P = project (sliceFrom s h) list in
-    let out = c .before .before .before .before .before .before .before .before .before .before .before .before .before .before .before .before .before .before .args .out .now in (
-      whole-answer (length out) _ P n (c .before .before .before .before .before .if1 .left),
-      whole-output (length out) _ P n (c .before .before .before .before .before .if1 .left) out _ (c .before .before .write .ensures ∙ ap (λ (p : List ℕ). p ++ drop (length p) out) same),
+    let out = c .before .before .before .before .before .before .before .before .before .before .before .before .before .before .before .before .before .before .args .out .now in
+    let room : c .before .before .write .result ≤ length out = omega (arith, n, ltb-false (length out) (length P) (ap (λ (p : List ℕ). ltb (length out) (length p)) (sym same) ∙ sym (c .before .before .before .before .before .before .lacks .ensures) ∙ c .before .before .before .before .before .if1 .left)) in (
+      whole-answer (length out) _ P n room,
+      whole-output (length out) _ P n room out _ (c .before .before .write .ensures .1 ∙ ap (λ (p : List ℕ). p ++ drop (length p) out) same),
     )
 
 pub project-by-spec : {M : Type 1} → statement M
@@ -68,7 +72,7 @@ project-by-spec =
     mul-own
     add-own
     own-requires
-    count-requires
+    lacks-requires
     same-length
     returns
     write-requires
