@@ -4,4 +4,5 @@ pub mod Marks
 pub mod Opening
 pub mod Rising
 pub mod RoundTrip
+pub mod Rows
 pub mod Words
