@@ -1,4 +1,4 @@
-//! The library's calls, as include/nesfoal.h has them, on lent memory.
+//! The library's calls (include/nesfoal.rs) on lent memory.
 //! Each works on copies of what it is to read, so that a change there is seen.
 
 #![allow(unused_imports)]
@@ -9,87 +9,9 @@ use nesfoal_tests::cases::*;
 #[allow(dead_code)]
 const UNSET: u32 = 0xDEAD_BEEF;
 
-#[link(name = "nesfoal", kind = "static")]
-extern "C" {
-    #[cfg(feature = "effect")]
-    fn nesfoal_effect(file: *const u8, file_len: usize, place: u16, transition: u16, effect: *mut i32) -> u32;
-    #[cfg(feature = "arcs")]
-    fn nesfoal_arcs(
-        plan: *const u8,
-        plan_len: usize,
-        slice: *const u8,
-        slice_len: usize,
-        of_slice: bool,
-        transition: u16,
-        start: *mut u32,
-    ) -> u32;
-    #[cfg(feature = "replay")]
-    fn nesfoal_replay(
-        file: *const u8,
-        file_len: usize,
-        list: *const u16,
-        list_len: usize,
-        marking: *mut u64,
-        marking_len: usize,
-        index: *mut u32,
-        place: *mut u32,
-    ) -> u32;
-    #[cfg(feature = "safety")]
-    fn nesfoal_safety(
-        plan: *const u8,
-        plan_len: usize,
-        q: *const u16,
-        q_len: usize,
-        slice: *mut u8,
-        slice_len: usize,
-        length: *mut u32,
-        places: *mut u32,
-        transitions: *mut u32,
-    ) -> u32;
-    #[cfg(feature = "branching")]
-    fn nesfoal_branching(
-        plan: *const u8,
-        plan_len: usize,
-        q: *const u16,
-        q_len: usize,
-        slice: *mut u8,
-        slice_len: usize,
-        length: *mut u32,
-        places: *mut u32,
-        transitions: *mut u32,
-    ) -> u32;
-    #[cfg(feature = "project")]
-    fn nesfoal_project(
-        plan: *const u8,
-        plan_len: usize,
-        slice: *const u8,
-        slice_len: usize,
-        list: *const u16,
-        list_len: usize,
-        out: *mut u16,
-        out_len: usize,
-        count: *mut u32,
-    ) -> u32;
-    #[cfg(feature = "check")]
-    fn nesfoal_check(
-        plan: *const u8,
-        plan_len: usize,
-        slice: *const u8,
-        slice_len: usize,
-        q_bytes: *const u8,
-        q_len: usize,
-    ) -> u32;
-    #[cfg(feature = "check")]
-    fn nesfoal_verdict(
-        plan: *const u8,
-        plan_len: usize,
-        slice: *const u8,
-        slice_len: usize,
-        q: *const u16,
-        q_len: usize,
-        number: *mut u32,
-    ) -> u32;
-}
+#[path = "../../../../include/nesfoal.rs"]
+mod nesfoal;
+use nesfoal::*;
 
 #[cfg(feature = "effect")]
 pub fn effect(case: &EffectCase) -> Answer {
