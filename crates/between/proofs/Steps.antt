@@ -1,91 +1,71 @@
 -- One turn of each loop over arcs. Assumes nothing.
 use Prim.Native.Nat.{ℕ, suc, _+_, _-_, _*_, _≤_, _<_}
-use mathlib.Core.List.{List, [], _∷_, _++_, append-assoc, append-nil}
+use mathlib.Core.List.{List, [], _∷_, _++_, append-assoc}
 use mathlib.Core.Path.{_≡_, refl, sym, ap, _∙_}
-use native.Mathlib.Numerals.{add-one}
 use native.Mathlib.Omega.{arith}
-use lib.ListN.{length, getD, drop, length-append}
-use lib.Seq.{drop-cons, drop-length}
+use lib.ListN.{length, getD, length-append}
 use Rattle.net.specs.declared.Arc.{Arc}
 use Rattle.file.specs.Layout.{arcAt, arcsFrom}
 use Rattle.file.specs.Writing.{arcBytes, arcsBytes}
 use Rattle.file.proofs.Laws.{arcs-cons, arcs-none}
-use Rattle.between.specs.Between.{keptArc, keptRun, arcsAt, runAt, keptRuns}
+use Rattle.between.specs.Between.{renumbered, keptArc, keptArcs}
 
-pub bytes-append : (l m : List Arc) → arcsBytes (l ++ m) ≡ arcsBytes l ++ arcsBytes m
+bytes-append : (l m : List Arc) → arcsBytes (l ++ m) ≡ arcsBytes l ++ arcsBytes m
 unfolding arcsBytes
 bytes-append [] m = refl
 bytes-append (a ∷ l) m = ap (λ (r : List ℕ). arcBytes a ++ r) (bytes-append l m) ∙ sym (append-assoc (arcBytes a) (arcsBytes l) (arcsBytes m))
 
--- an arc whose place is not kept, and one whose place is
-module _ (i entry : ℕ) (a : Arc) where
-  pub arc-none : entry ≡ 0 → keptArc i entry a ≡ []
+-- an arc whose transition is not kept, one whose place is not, and one that is kept
+module _ (t p : ℕ) (a : Arc) where
+  pub arc-no-transition : t ≡ 0 → keptArc t p a ≡ []
   unfolding keptArc
-  arc-none e = rw e
+  arc-no-transition e = rw e
 
-  pub arc-one : (entry ≡ 0 → ⊥) → keptArc i entry a ≡ record { transition = i; direction = a .direction; place = entry - 1; weight = a .weight } ∷ []
+  pub arc-no-place : (t ≡ 0 → ⊥) → p ≡ 0 → keptArc t p a ≡ []
   unfolding keptArc
-  arc-one h = let e : entry ≡ suc (entry - 1) = omega (arith, h) in ap (λ (x : ℕ). keptArc i x a) e
+  arc-no-place h e = let one : t ≡ suc (t - 1) = omega (arith, h) in ap (λ (x : ℕ). keptArc x p a) one ∙ rw e
 
-  pub arc-none-bytes : entry ≡ 0 → arcsBytes (keptArc i entry a) ≡ []
-  unfolding arcsBytes
-  arc-none-bytes e = ap arcsBytes (arc-none e)
+  pub arc-kept : (t ≡ 0 → ⊥) → (p ≡ 0 → ⊥) → keptArc t p a ≡ renumbered t p a ∷ []
+  unfolding keptArc
+  arc-kept h k =
+      let one : t ≡ suc (t - 1) = omega (arith, h) in
+      let two : p ≡ suc (p - 1) = omega (arith, k) in
+      λ i. keptArc (one i) (two i) a
 
-  pub arc-one-bytes : (entry ≡ 0 → ⊥) → arcsBytes (keptArc i entry a) ≡ arcBytes (record { transition = i; direction = a .direction; place = entry - 1; weight = a .weight })
-  unfolding arcsBytes
-  arc-one-bytes h = ap arcsBytes (arc-one h) ∙ append-nil _
+-- the arcs from number j on
+abbrev pub arcsAt : List ℕ → ℕ → ℕ → ℕ → List Arc
+arcsAt s start j n = arcsFrom s (start + 8 * j) (n - j)
 
--- the next arc of a run
-module _ (s : List ℕ) (start : ℕ) (own : List ℕ) (number j to : ℕ) (a : Arc) (e : a ≡ arcAt s (start + 8 * j)) (h : j < to) where
-  pub run-next : keptRun own number (arcsAt s start j to) ≡ keptArc number (getD own (a .place) 0) a ++ keptRun own number (arcsAt s start (j + 1) to)
-  unfolding keptRun
-  run-next =
-      let next : start + 8 * j + 8 ≡ start + 8 * (j + 1) = omega arith in
-      let less : to - j - 1 ≡ to - (j + 1) = omega arith in
-      let same = sym e in
-      ap (keptRun own number) (arcs-cons s (start + 8 * j) (to - j) (omega arith))
-      ∙ (λ i. keptArc number (getD own (same i .place) 0) (same i) ++ keptRun own number (arcsFrom s (next i) (less i)))
+pub arcs-all : (s : List ℕ) (start n : ℕ) → arcsFrom s start n ≡ arcsAt s start 0 n
+arcs-all s start n = let e : start ≡ start + 8 * 0 = omega arith in let d : n ≡ n - 0 = omega arith in λ i. arcsFrom s (e i) (d i)
 
-  pub run-bytes : arcsBytes (keptRun own number (arcsAt s start j to)) ≡ arcsBytes (keptArc number (getD own (a .place) 0) a) ++ arcsBytes (keptRun own number (arcsAt s start (j + 1) to))
-  run-bytes = ap arcsBytes run-next ∙ bytes-append (keptArc number (getD own (a .place) 0) a) (keptRun own number (arcsAt s start (j + 1) to))
+module _ (s : List ℕ) (start : ℕ) (P T : List ℕ) (j n : ℕ) where
+  module _ (a : Arc) (e : a ≡ arcAt s (start + 8 * j)) (h : j < n) where
+    abbrev here : List Arc
+    here = keptArc (getD T (a .transition) 0) (getD P (a .place) 0) a
 
-  pub run-size : length (arcsBytes (keptRun own number (arcsAt s start j to))) ≡ length (arcsBytes (keptArc number (getD own (a .place) 0) a)) + length (arcsBytes (keptRun own number (arcsAt s start (j + 1) to)))
-  run-size = ap length run-bytes ∙ length-append (arcsBytes (keptArc number (getD own (a .place) 0) a)) (arcsBytes (keptRun own number (arcsAt s start (j + 1) to)))
+    abbrev rest : List Arc
+    rest = keptArcs P T (arcsAt s start (j + 1) n)
 
-  pub run-count : length (keptRun own number (arcsAt s start j to)) ≡ length (keptArc number (getD own (a .place) 0) a) + length (keptRun own number (arcsAt s start (j + 1) to))
-  run-count = ap length run-next ∙ length-append (keptArc number (getD own (a .place) 0) a) (keptRun own number (arcsAt s start (j + 1) to))
+    next : keptArcs P T (arcsAt s start j n) ≡ here ++ rest
+    unfolding keptArcs
+    next =
+        let after : start + 8 * j + 8 ≡ start + 8 * (j + 1) = omega arith in
+        let less : n - j - 1 ≡ n - (j + 1) = omega arith in
+        let same = sym e in
+        ap (keptArcs P T) (arcs-cons s (start + 8 * j) (n - j) (omega arith))
+        ∙ (λ i. keptArc (getD T (same i .transition) 0) (getD P (same i .place) 0) (same i) ++ keptArcs P T (arcsFrom s (after i) (less i)))
 
-pub run-end : (s : List ℕ) (start : ℕ) (own : List ℕ) (number j to : ℕ) → to ≤ j → keptRun own number (arcsAt s start j to) ≡ []
-unfolding keptRun
-run-end s start own number j to h = rw (arcs-none s (start + 8 * j) (to - j) (omega arith), keptRun)
+    pub next-bytes : arcsBytes (keptArcs P T (arcsAt s start j n)) ≡ arcsBytes here ++ arcsBytes rest
+    next-bytes = ap arcsBytes next ∙ bytes-append here rest
 
-pub run-end-bytes : (s : List ℕ) (start : ℕ) (own : List ℕ) (number j to : ℕ) → to ≤ j → arcsBytes (keptRun own number (arcsAt s start j to)) ≡ []
+    pub next-count : length (keptArcs P T (arcsAt s start j n)) ≡ length here + length rest
+    next-count = ap length next ∙ length-append here rest
+
+  pub none-left : n ≤ j → keptArcs P T (arcsAt s start j n) ≡ []
+  unfolding keptArcs
+  none-left h = rw (arcs-none s (start + 8 * j) (n - j) (omega arith), keptArcs)
+
+pub no-bytes : {l : List Arc} → l ≡ [] → arcsBytes l ≡ []
 unfolding arcsBytes
-run-end-bytes s start own number j to h = ap arcsBytes (run-end s start own number j to h)
-
--- the next transition
-module _ (s : List ℕ) (start : ℕ) (own table ts : List ℕ) (i : ℕ) where
-  pub runs-next : i < length ts
-      → keptRuns s start own table i (drop i ts) ≡ keptRun own i (runAt s start table (getD ts i 0)) ++ keptRuns s start own table (i + 1) (drop (i + 1) ts)
-  unfolding keptRuns
-  runs-next h = rw (drop-cons ts i 0 h, keptRuns, add-one i)
-
-  pub runs-bytes : i < length ts
-      → arcsBytes (keptRuns s start own table i (drop i ts)) ≡ arcsBytes (keptRun own i (runAt s start table (getD ts i 0))) ++ arcsBytes (keptRuns s start own table (i + 1) (drop (i + 1) ts))
-  runs-bytes h = ap arcsBytes (runs-next h) ∙ bytes-append (keptRun own i (runAt s start table (getD ts i 0))) (keptRuns s start own table (i + 1) (drop (i + 1) ts))
-
-  pub runs-size : i < length ts
-      → length (arcsBytes (keptRuns s start own table i (drop i ts))) ≡ length (arcsBytes (keptRun own i (runAt s start table (getD ts i 0)))) + length (arcsBytes (keptRuns s start own table (i + 1) (drop (i + 1) ts)))
-  runs-size h = ap length (runs-bytes h) ∙ length-append (arcsBytes (keptRun own i (runAt s start table (getD ts i 0)))) (arcsBytes (keptRuns s start own table (i + 1) (drop (i + 1) ts)))
-
-  pub runs-count : i < length ts
-      → length (keptRuns s start own table i (drop i ts)) ≡ length (keptRun own i (runAt s start table (getD ts i 0))) + length (keptRuns s start own table (i + 1) (drop (i + 1) ts))
-  runs-count h = ap length (runs-next h) ∙ length-append (keptRun own i (runAt s start table (getD ts i 0))) (keptRuns s start own table (i + 1) (drop (i + 1) ts))
-
-  pub runs-end : i ≡ length ts → keptRuns s start own table i (drop i ts) ≡ []
-  unfolding keptRuns
-  runs-end e = ap (λ (k : ℕ). keptRuns s start own table i (drop k ts)) e ∙ ap (keptRuns s start own table i) (drop-length ts)
-
-  pub runs-end-bytes : i ≡ length ts → arcsBytes (keptRuns s start own table i (drop i ts)) ≡ []
-  unfolding arcsBytes
-  runs-end-bytes e = ap arcsBytes (runs-end e)
+no-bytes e = ap arcsBytes e

@@ -1,44 +1,38 @@
--- "every plan arc between" kept places and transitions (document 01, "The two cuts"), as a program finds them that goes through the runs of the kept transitions.
--- `own` is the table of the kept places' new numbers, `table` that of the starts of the transitions' arcs.
+-- "every plan arc between" kept places and transitions (document 01, "The two cuts"), as a program finds them that goes through the plan's arcs.
+-- `places` and `transitions` are the tables of the new numbers: one more than it at a kept number, 0 elsewhere.
 -- Assumes nothing.
 use Prim.Native.Nat.{ℕ, zero, suc, _+_, _-_, _*_, _≤_, _<_}
 use mathlib.Core.List.{List, [], _∷_, _++_}
+use mathlib.Core.Path.{_≡_}
 use lib.ListN.{length, getD}
+use lib.Seq.{sets}
 use Rattle.net.specs.declared.Arc.{Arc}
-use Rattle.file.specs.Layout.{arcAt, arcsFrom}
+use Rattle.file.specs.Layout.{arcAt}
 
--- an arc of the transition with the new number i: nothing where its place is not kept, and the entry is 0
+-- an arc by the new numbers of its transition and its place
+abbrev pub renumbered : ℕ → ℕ → Arc → Arc
+renumbered t p a = record { transition = t - 1; direction = a .direction; place = p - 1; weight = a .weight }
+
+-- nothing where one of the two is not kept, and its entry is 0
 unfoldable pub keptArc : ℕ → ℕ → Arc → List Arc
-keptArc i zero a = []
-keptArc i (suc p) a = record { transition = i; direction = a .direction; place = p; weight = a .weight } ∷ []
+keptArc zero p a = []
+keptArc (suc t) zero a = []
+keptArc (suc t) (suc p) a = record { transition = t; direction = a .direction; place = p; weight = a .weight } ∷ []
 
--- the arcs of that transition
-unfoldable pub keptRun : List ℕ → ℕ → List Arc → List Arc
-keptRun own i [] = []
-keptRun own i (a ∷ rest) = keptArc i (getD own (a .place) 0) a ++ keptRun own i rest
+-- the kept ones of a list of arcs
+unfoldable pub keptArcs : List ℕ → List ℕ → List Arc → List Arc
+keptArcs places transitions [] = []
+keptArcs places transitions (a ∷ rest) = keptArc (getD transitions (a .transition) 0) (getD places (a .place) 0) a ++ keptArcs places transitions rest
 
--- the arcs `from` to `to` of those that start at `start`
-abbrev pub arcsAt : List ℕ → ℕ → ℕ → ℕ → List Arc
-arcsAt s start from to = arcsFrom s (start + 8 * from) (to - from)
+-- `count` arcs stand in the file from `start` on, and each has an entry for its place and one for its transition
+pub record Arcs (s : List ℕ) (start count : ℕ) (places transitions : List ℕ) : Type 0 where
+  pub few : count ≤ 4096
+  pub fit : start + 8 * count ≤ length s
+  pub places-known : (j : ℕ) → j < count → arcAt s (start + 8 * j) .place < length places
+  pub transitions-known : (j : ℕ) → j < count → arcAt s (start + 8 * j) .transition < length transitions
 
--- the arcs of the plan's transition t
-abbrev pub runAt : List ℕ → ℕ → List ℕ → ℕ → List Arc
-runAt s start table t = arcsAt s start (getD table (2 * t) 0) (getD table (2 * t + 2) 0)
-
--- the arcs of a list of kept transitions, of which the first has the new number i
-unfoldable pub keptRuns : List ℕ → ℕ → List ℕ → List ℕ → ℕ → List ℕ → List Arc
-keptRuns s start own table i [] = []
-keptRuns s start own table i (t ∷ ts) = keptRun own i (runAt s start table t) ++ keptRuns s start own table (suc i) ts
-
--- the arcs `from` to `to` stand in the file, and each has an entry for its place
-pub record Run (s : List ℕ) (start from to : ℕ) (own : List ℕ) : Type 0 where
-  pub order : from ≤ to
-  pub few : to ≤ 4096
-  pub fit : start + 8 * to ≤ length s
-  pub places : (j : ℕ) → j < to → arcAt s (start + 8 * j) .place < length own
-
--- each transition of the list has such a run
-pub record Runs (s : List ℕ) (start : ℕ) (own table ts : List ℕ) : Type 0 where
-  pub short : length ts ≤ 1024
-  pub reach : (i : ℕ) → i < length ts → 2 * getD ts i 0 + 2 < length table
-  pub runs : (i : ℕ) → i < length ts → Run s start (getD table (2 * getD ts i 0) 0) (getD table (2 * getD ts i 0 + 2) 0) own
+-- the list `all` stands in the buffer from `first` to `end`, once what follows it, eight bytes or more, is written too
+pub record ArcsWritten (entry : List ℕ) (first : ℕ) (all exit : List ℕ) (end : ℕ) : Type 0 where
+  pub long : length exit ≡ length entry
+  pub count : end ≡ first + length all
+  pub same : (rest : List ℕ) → 8 ≤ length rest → sets exit end rest ≡ sets entry first (all ++ rest)

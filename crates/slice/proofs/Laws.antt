@@ -1,7 +1,7 @@
 -- From the parts of a slice file to the file, its length and the answer. Assumes nothing.
-use Prim.Native.Nat.{ℕ, zero, suc, _+_, _*_, _≤_, _<_}
+use Prim.Native.Nat.{ℕ, zero, suc, _+_, _-_, _*_, _/_, _≤_, _<_}
 use mathlib.Core.Bool.{true, _&&_}
-use mathlib.Core.List.{List, [], _∷_, _++_}
+use mathlib.Core.List.{List, [], _∷_, _++_, append-assoc}
 use mathlib.Core.Path.{_≡_, refl, sym, ap, subst, subst⁻¹, _∙_}
 use native.Mathlib.Omega.{arith}
 use lib.ListN.{length, getD, take, replicate, length-append}
@@ -12,8 +12,8 @@ use Rattle.net.specs.Net.{Net}
 use Rattle.net.specs.Slice.{Slice, restrict, keeping}
 use Rattle.net.specs.declared.Arc.{Arc}
 use Rattle.net.proofs.Numbers.{by-cases, among-at, below-passes, selected-rises, length-selected}
-use Rattle.file.specs.Facts.{Sound}
-use Rattle.file.specs.Layout.{arcAt, netFrom}
+use Rattle.file.specs.Facts.{ArcGood, Sound}
+use Rattle.file.specs.Layout.{arcAt, arcsFrom, netFrom}
 use Rattle.file.specs.Word.{bytes16, bytes32}
 use Rattle.file.specs.Writing.{arcsBytes, originsBytes, sliceBody, trailerBytes, sliceBytes}
 use Rattle.file.specs.declared.Header.{Header}
@@ -21,8 +21,8 @@ use Rattle.file.proofs.Bytes.{length-origins, length-arcs}
 use Rattle.promise.proofs.Cuts.{length-arcsFrom}
 use Rattle.promise.proofs.Writer.{markingsOf, cut-bytes}
 use Rattle.starts.proofs.Reached.{range-at}
-use Rattle.between.specs.Between.{Runs, keptRuns}
-use Rattle.between.proofs.Restricted.{split-rises, runs-restricted}
+use Rattle.between.specs.Between.{keptArcs, Arcs, ArcsWritten}
+use Rattle.between.proofs.Restricted.{arcs-restricted}
 use Rattle.parts.specs.Trailer.{trailerFor}
 use Rattle.parts.proofs.Steps.{length-markingsOf}
 use Rattle.put.proofs.Sets.{sets-after, sets-first, take-sets}
@@ -83,33 +83,21 @@ pub slice-kept : (s : List ℕ) (h : Header) (kept : KeptSets) (ps ts entry exit
 unfolding keptSlice
 slice-kept s h kept ps ts entry exit r e f = subst (λ (S : Slice). Answers S entry exit r) (λ i. keeping (netFrom s h) (e i) (f i))
 
--- the runs of the kept transitions
-module _ (s : List ℕ) (h : Header) (sound : Sound s h) (ps ts own table : List ℕ) (lists : Lists h ps ts) (tables : Tables s h ps own table) where
-  place-entry : (j : ℕ) → j < h .arcs → arcAt s (h .arcstart + 8 * j) .place < length own
-  place-entry j l = omega (arith, range-at (h .places) (h .transitions) s (h .arcstart) (h .arcs) j (sound .arcs) l .place, tables .reach)
+-- the plan's arcs, by the tables of the new numbers
+module _ (s : List ℕ) (h : Header) (sound : Sound s h) (ps ts places transitions : List ℕ) (tables : Tables h ps ts places transitions) where
+  good : (j : ℕ) → j < h .arcs → ArcGood (h .places) (h .transitions) (arcAt s (h .arcstart + 8 * j))
+  good j l = range-at (h .places) (h .transitions) s (h .arcstart) (h .arcs) j (sound .arcs) l
 
-  pub runs-known : Runs s (h .arcstart) own table ts
-  runs-known = record {
-    short = lists .few-transitions;
-    reach = λ i l. omega (arith, lists .transitions-known i l, tables .starts .long);
-    runs = λ i l.
-        let t = getD ts i 0 in
-        let k = lists .transitions-known i l in
-        let a = tables .starts .splits (2 * t) (omega arith) in
-        let b = tables .starts .splits (2 * t + 2) (omega arith) in
-        record {
-          order = split-rises s (h .arcstart) (h .arcs) (2 * t) _ (2 * t + 2) _ a b (omega arith);
-          few = omega (arith, b .within, sound .placed .arcs);
-          fit = omega (arith, b .within, sound .placed .arcsFit, sound .placed .originsFit);
-          places = λ j q. place-entry j (omega (arith, b .within));
-        };
+  pub arcs-known : Arcs s (h .arcstart) (h .arcs) places transitions
+  arcs-known = record {
+    few = sound .placed .arcs;
+    fit = omega (arith, sound .placed .arcsFit, sound .placed .originsFit);
+    places-known = λ j l. omega (arith, good j l .place, tables .places-reach);
+    transitions-known = λ j l. omega (arith, good j l .transition, tables .transitions-reach);
   }
 
-  pub runs-are : keptRuns s (h .arcstart) own table 0 ts ≡ restrict ps ts (netFrom s h .arcs)
-  runs-are =
-      runs-restricted s (h .arcstart) (h .arcs) (h .transitions) own table ps ts (tables .starts .splits)
-      (λ j l. range-at (h .places) (h .transitions) s (h .arcstart) (h .arcs) j (sound .arcs) l .direction)
-      place-entry (tables .owns) (lists .transitions-rise) (lists .transitions-known)
+  pub arcs-are : keptArcs places transitions (arcsFrom s (h .arcstart) (h .arcs)) ≡ restrict ps ts (netFrom s h .arcs)
+  arcs-are = arcs-restricted ps ts places transitions s (tables .places-own) (tables .transitions-own) (h .arcstart) (h .arcs) arcs-known
 
 restrict-length : (ps ts : List ℕ) (l : List Arc) → length (restrict ps ts l) ≤ length l
 unfolding restrict
@@ -119,8 +107,8 @@ restrict-length ps ts (a ∷ l) =
     (λ e. rw (e, restrict) (omega (arith, restrict-length ps ts l)))
     (λ e. rw (e, restrict) (omega (arith, restrict-length ps ts l)))
 
-pub few-arcs : (s : List ℕ) (h : Header) (ps ts : List ℕ) → Sound s h → length (restrict ps ts (netFrom s h .arcs)) ≤ 4096
-few-arcs s h ps ts sound = omega (arith, restrict-length ps ts (netFrom s h .arcs), length-arcsFrom s (h .arcstart) (h .arcs), sound .placed .arcs)
+pub few-arcs : (s : List ℕ) (h : Header) (ps ts : List ℕ) → length (restrict ps ts (netFrom s h .arcs)) ≤ h .arcs
+few-arcs s h ps ts = omega (arith, restrict-length ps ts (netFrom s h .arcs), length-arcsFrom s (h .arcstart) (h .arcs))
 
 module _ (N : Net) (ps ts : List ℕ) where
   abbrev M : List ℕ
@@ -169,23 +157,28 @@ module _ (N : Net) (ps ts : List ℕ) where
   kept-transitions = refl
 
   -- the parts stored one after the other are the file
-  pub parts-stored : (found : List Arc) (arcs : ℕ) (s b₁ b₂ b₃ b₄ b₅ : List ℕ) → found ≡ restrict ps ts (N .arcs) → arcs ≡ length (restrict ps ts (N .arcs))
+  pub parts-stored : (found : List Arc) (middle : ℕ) (s b₁ b₂ b₃ b₄ b₅ : List ℕ) → found ≡ restrict ps ts (N .arcs)
       → b₁ ≡ sets s 0 (markingsOf (N .marking) ps)
-      → b₂ ≡ sets b₁ (4 * length ps) (arcsBytes found)
-      → b₃ ≡ sets b₂ (4 * length ps + 8 * arcs) (originsBytes ps)
-      → b₄ ≡ sets b₃ (4 * length ps + 8 * arcs + 2 * length ps) (originsBytes ts)
-      → b₅ ≡ sets b₄ (4 * length ps + 8 * arcs + 2 * length ps + 2 * length ts) (trailerFor (4 * length ps + 8 * arcs + 2 * length ps + 2 * length ts) (length ps) (length ts) arcs)
+      → ArcsWritten b₁ (4 * length ps) (arcsBytes found) b₂ middle
+      → b₃ ≡ sets b₂ middle (originsBytes ps)
+      → b₄ ≡ sets b₃ (middle + 2 * length ps) (originsBytes ts)
+      → b₅ ≡ sets b₄ (middle + 2 * length ps + 2 * length ts) (trailerFor (middle + 2 * length ps + 2 * length ts) (length ps) (length ts) ((middle - 4 * length ps) / 8))
       → b₅ ≡ sets s 0 (sliceBytes (keeping N ps ts))
-  parts-stored found arcs s b₁ b₂ b₃ b₄ b₅ same count e₁ e₂ e₃ e₄ e₅ =
+  parts-stored found middle s b₁ b₂ b₃ b₄ b₅ same e₁ w e₃ e₄ e₅ =
       let P = originsBytes ps in
       let T = originsBytes ts in
-      let here₂ : b₂ ≡ sets b₁ (4 * length ps) A = e₂ ∙ ap (λ (l : List Arc). sets b₁ (4 * length ps) (arcsBytes l)) same in
-      let here₅ : b₅ ≡ sets b₄ (body arcs) (trailerBytes (keeping N ps ts)) = e₅ ∙ ap (λ (k : ℕ). sets b₄ (body arcs) (trailerFor (body k) (length ps) (length ts) k)) count ∙ ap (sets b₄ (body arcs)) (sym trailer-is) in
-      let to₂ = sets-after M A s 0 (4 * length ps) e₁ here₂ (omega (arith, length-1)) in
-      let to₃ = sets-after (M ++ A) P s 0 (4 * length ps + 8 * arcs) to₂ e₃ (omega (arith, length-2)) in
-      let to₄ = sets-after (M ++ A ++ P) T s 0 (4 * length ps + 8 * arcs + 2 * length ps) to₃ e₄ (omega (arith, length-3)) in
-      sets-after (M ++ A ++ P ++ T) (trailerBytes (keeping N ps ts)) s 0 (body arcs) to₄ here₅ (omega (arith, length-4))
-      ∙ ap (sets s 0) (sym (cut-bytes N ps ts))
+      let R = trailerBytes (keeping N ps ts) in
+      let end : ℕ = middle + 2 * length ps + 2 * length ts in
+      let at : middle ≡ 4 * length ps + 8 * n = omega (arith, w .count, length-arcs found, ap length same) in
+      let count : (middle - 4 * length ps) / 8 ≡ n = omega (arith, at) in
+      let whole : end ≡ body n = omega (arith, at) in
+      let here₅ : b₅ ≡ sets b₄ end R = e₅ ∙ (λ i. sets b₄ end (trailerFor (whole i) (length ps) (length ts) (count i))) ∙ ap (sets b₄ end) (sym trailer-is) in
+      let to₄ = sets-after P T b₂ middle (middle + 2 * length ps) e₃ e₄ (omega (arith, length-origins ps)) in
+      let to₅ = sets-after (P ++ T) R b₂ middle end to₄ here₅ (omega (arith, length-append P T, length-origins ps, length-origins ts)) in
+      let from : b₅ ≡ sets b₁ (4 * length ps) (A ++ (P ++ T ++ R)) =
+      to₅ ∙ w .same (P ++ T ++ R) (omega (arith, length-append (P ++ T) R, length-trailer)) ∙ ap (λ (l : List Arc). sets b₁ (4 * length ps) (arcsBytes l ++ (P ++ T ++ R))) same in
+      let regroup : M ++ (A ++ (P ++ T ++ R)) ≡ M ++ A ++ P ++ T ++ R = simp append-assoc in
+      sets-after M (A ++ (P ++ T ++ R)) s 0 (4 * length ps) e₁ from (omega (arith, length-1)) ∙ ap (sets s 0) (regroup ∙ sym (cut-bytes N ps ts))
 
 -- the answers
 module _ (S : Slice) (entry : List ℕ) where

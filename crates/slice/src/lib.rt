@@ -3,13 +3,13 @@ ghost use mathlib.Core.Path.{_≡_};
 ghost use Prim.Native.Nat.{_<_, _≤_};
 ghost use lib.ListN.{length};
 ghost use lib.Seq.{sets};
-ghost use Rattle.net.specs.Slice.{keeping, restrict};
+ghost use Rattle.net.specs.Slice.{keeping};
 ghost use Rattle.file.specs.Facts.{Sound};
 ghost use Rattle.file.specs.Layout.{netFrom};
 ghost use Rattle.file.specs.Writing.{sliceBytes};
 ghost use Rattle.promise.specs.Calls.{cutAnswer, written};
 ghost use Rattle.slice.specs.Kept.{cutNumbers, keptSlice, roomRefusal, Answers, Within};
-ghost use Rattle.slice.specs.Parts.{Cleared, Lists, Starts, Tables};
+ghost use Rattle.slice.specs.Parts.{Cleared, Lists, Tables};
 use file::Header;
 use sets::KeptSets;
 
@@ -19,80 +19,78 @@ pub enum Cut {
     Refused(u32),
 }
 
-// Writes the parts of the file one after the other.
+// Writes the file: its parts one after the other.
 fn write_parts(
     plan: &[u8],
     h: Header,
     ps: &[u16],
     ts: &[u16],
-    own: &[u16],
-    table: &[u16],
-    arcs: usize,
+    places: &[u16],
+    transitions: &[u16],
     buffer: &mut [u8],
-)
+) -> Cut
     requires { ⌜ Sound (now plan) h ⌝ }
     requires { ⌜ Lists h (now ps) (now ts) ⌝ }
-    requires { ⌜ Tables (now plan) h (now ps) (now own) (now table) ⌝ }
-    requires { ⌜ arcs ≡ length (restrict (now ps) (now ts) (netFrom (now plan) h .arcs)) ⌝ }
+    requires { ⌜ Tables h (now ps) (now ts) (now places) (now transitions) ⌝ }
     requires { ⌜ length (sliceBytes (keeping (netFrom (now plan) h) (now ps) (now ts))) ≤ length (now buffer) ⌝ }
-    ensures { λ _. ⌜ now (buffer .exit) ≡ sets (now (buffer .entry)) 0 (sliceBytes (keeping (netFrom (now (plan .entry)) h) (now (ps .entry)) (now (ts .entry)))) ⌝ }
+    ensures { λ r. ⌜ Answers (keeping (netFrom (now (plan .entry)) h) (now (ps .entry)) (now (ts .entry))) (now (buffer .entry)) (now (buffer .exit)) r ⌝ }
 {
     let start = 4 * ps.len();
-    let middle = start + 8 * arcs;
+    parts::write_markings(plan, h, ps, buffer);
+    let middle = between::write_arcs(plan, h.arcstart, h.arcs, places, transitions, start, buffer);
     let end = middle + 2 * ps.len();
     let body = end + 2 * ts.len();
-    parts::write_markings(plan, h, ps, buffer);
-    between::write_arcs(plan, h.arcstart, ts, own, table, start, buffer);
     parts::write_origins(ps, middle, buffer);
     parts::write_origins(ts, end, buffer);
-    parts::write_trailer(ps.len(), ts.len(), arcs, body, buffer);
+    parts::write_trailer(ps.len(), ts.len(), (middle - start) / 8, body, buffer);
+    let bytes = (body + 16) as u32;
+    Cut::Written(bytes, ps.len() as u32, ts.len() as u32)
 }
 
-// Writes the file where the buffer has room for it.
+// Writes the file where the buffer has room for it. Arcs are counted only where all of the plan's would not fit.
 fn write_if_room(
     plan: &[u8],
     h: Header,
     ps: &[u16],
     ts: &[u16],
-    own: &[u16],
-    table: &[u16],
+    places: &[u16],
+    transitions: &[u16],
     buffer: &mut [u8],
 ) -> Cut
     requires { ⌜ Sound (now plan) h ⌝ }
     requires { ⌜ Lists h (now ps) (now ts) ⌝ }
-    requires { ⌜ Tables (now plan) h (now ps) (now own) (now table) ⌝ }
+    requires { ⌜ Tables h (now ps) (now ts) (now places) (now transitions) ⌝ }
     ensures { λ r. ⌜ Answers (keeping (netFrom (now (plan .entry)) h) (now (ps .entry)) (now (ts .entry))) (now (buffer .entry)) (now (buffer .exit)) r ⌝ }
 {
-    let arcs = between::count_arcs(plan, h.arcstart, ts, own, table);
-    let length = 6 * ps.len() + 8 * arcs + 2 * ts.len() + 16;
-    if buffer.len() < length {
+    let rest = 6 * ps.len() + 2 * ts.len() + 16;
+    if rest + 8 * h.arcs <= buffer.len() {
+        return write_parts(plan, h, ps, ts, places, transitions, buffer);
+    }
+    let arcs = between::count_arcs(plan, h.arcstart, h.arcs, places, transitions);
+    if buffer.len() < rest + 8 * arcs {
         return Cut::Refused(13);
     }
-    write_parts(plan, h, ps, ts, own, table, arcs, buffer);
-    let places = ps.len() as u32;
-    let transitions = ts.len() as u32;
-    let bytes = length as u32;
-    Cut::Written(bytes, places, transitions)
+    write_parts(plan, h, ps, ts, places, transitions, buffer)
 }
 
-// The same, once the table of the places' new numbers is made.
+// The same, once the tables of the new numbers are made.
 fn write_lists(
     plan: &[u8],
     h: Header,
     ps: &[u16],
     ts: &[u16],
-    own: &mut [u16],
-    table: &[u16],
+    places: &mut [u16],
+    transitions: &mut [u16],
     buffer: &mut [u8],
 ) -> Cut
     requires { ⌜ Sound (now plan) h ⌝ }
     requires { ⌜ Lists h (now ps) (now ts) ⌝ }
-    requires { ⌜ Cleared h (now own) ⌝ }
-    requires { ⌜ Starts (now plan) h (now table) ⌝ }
+    requires { ⌜ Cleared (h .places) (now places) × Cleared (h .transitions) (now transitions) ⌝ }
     ensures { λ r. ⌜ Answers (keeping (netFrom (now (plan .entry)) h) (now (ps .entry)) (now (ts .entry))) (now (buffer .entry)) (now (buffer .exit)) r ⌝ }
 {
-    members::positions(ps, own);
-    write_if_room(plan, h, ps, ts, own, table, buffer)
+    members::positions(ps, places);
+    members::positions(ts, transitions);
+    write_if_room(plan, h, ps, ts, places, transitions, buffer)
 }
 
 // The same, once the kept numbers are listed.
@@ -102,24 +100,23 @@ fn write_sets(
     kept: KeptSets,
     ps: &mut [u16],
     ts: &mut [u16],
-    own: &mut [u16],
-    table: &[u16],
+    places: &mut [u16],
+    transitions: &mut [u16],
     buffer: &mut [u8],
 ) -> Cut
     requires { ⌜ Sound (now plan) h ⌝ }
     requires { ⌜ Within kept h ⌝ }
     requires { ⌜ (h .places ≤ length (now ps)) × (h .transitions ≤ length (now ts)) ⌝ }
-    requires { ⌜ Cleared h (now own) ⌝ }
-    requires { ⌜ Starts (now plan) h (now table) ⌝ }
+    requires { ⌜ Cleared (h .places) (now places) × Cleared (h .transitions) (now transitions) ⌝ }
     ensures { λ r. ⌜ Answers (keptSlice (now (plan .entry)) h kept) (now (buffer .entry)) (now (buffer .exit)) r ⌝ }
 {
-    let places = kept.places;
-    let transitions = kept.transitions;
-    let np = sets::count(&places);
-    let nt = sets::count(&transitions);
-    members::members(&places, ps);
-    members::members(&transitions, ts);
-    write_lists(plan, h, &ps[..np], &ts[..nt], own, table, buffer)
+    let kept_places = kept.places;
+    let kept_transitions = kept.transitions;
+    let np = sets::count(&kept_places);
+    let nt = sets::count(&kept_transitions);
+    members::members(&kept_places, ps);
+    members::members(&kept_transitions, ts);
+    write_lists(plan, h, &ps[..np], &ts[..nt], places, transitions, buffer)
 }
 
 // With tables for 64 places and transitions.
@@ -131,10 +128,18 @@ fn write_small(plan: &[u8], h: Header, kept: KeptSets, buffer: &mut [u8]) -> Cut
 {
     let mut ps = [0u16; 64];
     let mut ts = [0u16; 64];
-    let mut own = [0u16; 64];
-    let mut table = [0u16; 129];
-    starts::starts(plan, h.arcstart, h.arcs, h.transitions, &mut table);
-    write_sets(plan, h, kept, &mut ps, &mut ts, &mut own, &table, buffer)
+    let mut places = [0u16; 64];
+    let mut transitions = [0u16; 64];
+    write_sets(
+        plan,
+        h,
+        kept,
+        &mut ps,
+        &mut ts,
+        &mut places,
+        &mut transitions,
+        buffer,
+    )
 }
 
 // With tables for 1,024 places and transitions.
@@ -145,10 +150,18 @@ fn write_large(plan: &[u8], h: Header, kept: KeptSets, buffer: &mut [u8]) -> Cut
 {
     let mut ps = [0u16; 1024];
     let mut ts = [0u16; 1024];
-    let mut own = [0u16; 1024];
-    let mut table = [0u16; 2049];
-    starts::starts(plan, h.arcstart, h.arcs, h.transitions, &mut table);
-    write_sets(plan, h, kept, &mut ps, &mut ts, &mut own, &table, buffer)
+    let mut places = [0u16; 1024];
+    let mut transitions = [0u16; 1024];
+    write_sets(
+        plan,
+        h,
+        kept,
+        &mut ps,
+        &mut ts,
+        &mut places,
+        &mut transitions,
+        buffer,
+    )
 }
 
 // Writes the slice of a plan that has the kept places and transitions, where the buffer has room for its file.

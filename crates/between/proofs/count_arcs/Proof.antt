@@ -1,90 +1,81 @@
 use borrow.Author.Needs.{needs}
 use Prim.Native.Nat.{_+_, _-_, _*_, _≤_, _<_}
+use mathlib.Core.List.{List}
 use mathlib.Core.Path.{_≡_, ap}
 use native.Mathlib.Omega.{arith}
-use lib.ListN.{length, getD, drop}
-use Rattle.between.specs.Between.{keptRuns}
-use Rattle.between.proofs.Steps.{runs-count, runs-end}
+use lib.ListN.{length}
+use Rattle.net.specs.declared.Arc.{Arc}
+use Rattle.file.specs.Layout.{arcsFrom}
+use Rattle.between.specs.Between.{keptArcs}
+use Rattle.between.proofs.Steps.{arcsAt, arcs-all, next-count, none-left}
 use Rattle.between.proofs.count_arcs.Statement.{statement}
 use Rattle.between.proofs.count_arcs.Tie as tie
 
 abbrev Inv-loop : tie.InvT-loop
-Inv-loop plan start ts own table total₀ i₀ total i =
-    (i ≤ length ts) × (total ≤ 4096 * i) × (total + length (keptRuns plan start own table i (drop i ts)) ≡ length (keptRuns plan start own table 0 ts))
+Inv-loop plan start count places transitions total₀ j₀ total j =
+    (j ≤ count) × (total ≤ j) × (total + length (keptArcs places transitions (arcsAt plan start j count)) ≡ length (keptArcs places transitions (arcsFrom plan start count)))
 
 abbrev μ-loop : tie.MeasureT-loop
-μ-loop plan start ts own table total₀ i₀ total i = length ts - i
+μ-loop plan start count places transitions total₀ j₀ total j = count - j
 
--- the table has both entries of the transition
-reach : (c : tie.In-loop Inv-loop μ-loop) → 2 * getD (c .before .before .before .before .before .before .args .ts .now) (c .before .loop .i) 0 + 2 < length (c .before .before .before .before .before .before .args .table .now)
-reach c = c .before .before .before .before .before .before .pre .reach (c .before .loop .i) (c .loop-test .taken)
+-- the arc's transition and its place have entries
+transition-known : (c : tie.After-arc Inv-loop μ-loop) → c .arc .result .transition < length (c .before .before .before .before .before .before .args .transitions .now)
+transition-known c = omega (arith, ap (λ (a : Arc). a .transition) (c .arc .ensures .0), c .before .before .before .before .before .before .pre .transitions-known (c .before .before .loop .j) (c .before .loop-test .taken))
+
+place-known : (c : tie.After-arc Inv-loop μ-loop) → c .arc .result .place < length (c .before .before .before .before .before .before .args .places .now)
+place-known c = omega (arith, ap (λ (a : Arc). a .place) (c .arc .ensures .0), c .before .before .before .before .before .before .pre .places-known (c .before .before .loop .j) (c .before .loop-test .taken))
 
 loop-holds : tie.Need-loop-holds Inv-loop μ-loop
-loop-holds c = (search needs, search needs, omega arith)
+loop-holds c = (omega arith, omega arith, omega (arith, ap (λ (l : List Arc). length (keptArcs (c .before .before .before .args .places .now) (c .before .before .before .args .transitions .now) l)) (arcs-all (c .before .before .before .args .plan .now) (c .before .before .before .args .start) (c .before .before .before .args .count))))
 
-mul-t : tie.Need-mul-t Inv-loop μ-loop
-mul-t c = search needs
+mul-arc : tie.Need-mul-arc Inv-loop μ-loop
+mul-arc c = search needs
 
-shared-slice-read-t : tie.Need-shared-slice-read-t Inv-loop μ-loop
-shared-slice-read-t c = search needs
+add-arc : tie.Need-add-arc Inv-loop μ-loop
+add-arc c = search needs
 
-cast-t : tie.Need-cast-t Inv-loop μ-loop
-cast-t c = omega (arith, c .shared-slice-known5 .given (c .before .before .loop .i))
+arc-requires : tie.Need-arc-requires Inv-loop μ-loop
+arc-requires c κs = search needs
 
-mul-from : tie.Need-mul-from Inv-loop μ-loop
-mul-from c = omega (arith, reach (c .before))
+mul-one-if-kept : tie.Need-mul-one-if-kept Inv-loop μ-loop
+mul-one-if-kept c = omega (arith, transition-known c)
 
-mul-from-2 : tie.Need-mul-from-2 Inv-loop μ-loop
-mul-from-2 c = omega (arith, reach (c .before))
+shared-slice-read-one-if-kept : tie.Need-shared-slice-read-one-if-kept Inv-loop μ-loop
+shared-slice-read-one-if-kept c = transition-known (c .before)
 
-shared-slice-read-from : tie.Need-shared-slice-read-from Inv-loop μ-loop
-shared-slice-read-from c = omega (arith, reach (c .before .before))
+mul-one-if-kept-2 : tie.Need-mul-one-if-kept-2 Inv-loop μ-loop
+mul-one-if-kept-2 c = omega (arith, place-known (c .before))
 
-cast-from : tie.Need-cast-from Inv-loop μ-loop
-cast-from c = omega (arith, c .shared-slice-known6 .given (2 * getD (c .before .before .before .before .before .before .before .before .args .ts .now) (c .before .before .before .loop .i) 0))
+shared-slice-read-one-if-kept-2 : tie.Need-shared-slice-read-one-if-kept-2 Inv-loop μ-loop
+shared-slice-read-one-if-kept-2 c = place-known (c .before .before)
 
-mul-to : tie.Need-mul-to Inv-loop μ-loop
-mul-to c = omega (arith, reach (c .before .before))
-
-add-to : tie.Need-add-to Inv-loop μ-loop
-add-to c = omega (arith, reach (c .before .before))
-
-mul-to-2 : tie.Need-mul-to-2 Inv-loop μ-loop
-mul-to-2 c = omega (arith, reach (c .before .before))
-
-shared-slice-read-to : tie.Need-shared-slice-read-to Inv-loop μ-loop
-shared-slice-read-to c = omega (arith, reach (c .before .before .before))
-
-cast-to : tie.Need-cast-to Inv-loop μ-loop
-cast-to c = omega (arith, c .shared-slice-known7 .given (2 * getD (c .before .before .before .before .before .before .before .before .before .args .ts .now) (c .before .before .before .before .loop .i) 0 + 2))
-
-count-run-requires : tie.Need-count-run-requires Inv-loop μ-loop
-count-run-requires c κs = c .before .before .before .before .before .before .before .before .before .pre .runs (c .before .before .before .before .loop .i) (c .before .before .before .loop-test .taken)
+one-if-kept-requires : tie.Need-one-if-kept-requires Inv-loop μ-loop
+one-if-kept-requires c κs = search needs
 
 add-total : tie.Need-add-total Inv-loop μ-loop
-add-total c = omega (arith, c .count-run .ensures .0, c .before .before .before .before .before .loop .inv .1, c .before .before .before .before .before .before .before .before .before .before .pre .short, c .before .before .before .before .loop-test .taken)
+add-total c = search needs
 
-add-i : tie.Need-add-i Inv-loop μ-loop
-add-i c = search needs
+add-j : tie.Need-add-j Inv-loop μ-loop
+add-j c = search needs
 
 loop-less : tie.Need-loop-less Inv-loop μ-loop
 loop-less c = search needs
 
 loop-again : tie.Need-loop-again Inv-loop μ-loop
 loop-again c =
-    let start = c .before .before .before .before .before .before .before .before .before .before in
+    let start = c .before .before .before .before .before .before .before .before .before in
     let at = c .before .before .before .before .before .loop in
-    let next = runs-count (start .args .plan .now) (start .args .start) (start .args .own .now) (start .args .table .now) (start .args .ts .now) (at .i) (c .before .before .before .before .loop-test .taken) in (
+    let arc = c .before .before .before .arc in (
       omega arith,
-      omega (arith, c .count-run .ensures .0, at .inv .1),
-      omega (arith, c .count-run .ensures .1 (at .i), at .inv .2, next),
+      omega (arith, c .one-if-kept .ensures .0, at .inv .1),
+      omega (arith, at .inv .2, c .one-if-kept .ensures .1 (arc .result), next-count (start .args .plan .now) (start .args .start) (start .args .places .now) (start .args .transitions .now) (at .j) (start .args .count) (arc .result) (arc .ensures .0) (c .before .before .before .before .loop-test .taken)),
     )
 
 returns : tie.Need-returns Inv-loop μ-loop
 returns c =
-    let start = c .before .before .before .before .before .before in
+    let start = c .before .before .before .before .before in
     let at = c .before .loop in
-    omega (arith, at .inv .2, ap length (runs-end (start .args .plan .now) (start .args .start) (start .args .own .now) (start .args .table .now) (start .args .ts .now) (at .i) (omega (arith, at .inv .0, c .loop-test .left))))
+    omega (arith, at .inv .2, ap length (none-left (start .args .plan .now) (start .args .start) (start .args .places .now) (start .args .transitions .now) (at .j) (start .args .count) (c .loop-test .left)))
 
 pub count-arcs-spec : {M : Type 1} → statement M
 count-arcs-spec =
@@ -93,21 +84,16 @@ count-arcs-spec =
     Inv-loop
     μ-loop
     loop-holds
-    mul-t
-    shared-slice-read-t
-    cast-t
-    mul-from
-    mul-from-2
-    shared-slice-read-from
-    cast-from
-    mul-to
-    add-to
-    mul-to-2
-    shared-slice-read-to
-    cast-to
-    count-run-requires
+    mul-arc
+    add-arc
+    arc-requires
+    mul-one-if-kept
+    shared-slice-read-one-if-kept
+    mul-one-if-kept-2
+    shared-slice-read-one-if-kept-2
+    one-if-kept-requires
     add-total
-    add-i
+    add-j
     loop-less
     loop-again
     returns)

@@ -1,28 +1,30 @@
 use borrow.Author.Needs.{needs}
+use Prim.Native.Nat.{_*_}
 use mathlib.Core.Path.{_≡_, ap, _∙_}
 use native.Mathlib.Omega.{arith}
 use lib.ListN.{length}
-use Rattle.file.specs.Writing.{arcsBytes}
-use Rattle.file.proofs.Bytes.{length-arc}
-use Rattle.between.specs.Between.{keptArc}
-use Rattle.between.proofs.Steps.{arc-none-bytes, arc-one-bytes}
+use lib.Seq.{sets}
+use Rattle.net.specs.declared.Arc.{Arc}
+use Rattle.file.specs.Writing.{arcBytes}
+use Rattle.file.proofs.Bytes.{length-arcs}
+use Rattle.between.specs.Between.{renumbered, keptArc}
 use Rattle.between.proofs.write_arc.Statement.{statement}
 use Rattle.between.proofs.write_arc.Tie as tie
 
--- an arc is written
-eight : (c : tie.Else1) → length (arcsBytes (keptArc (c .before .before .args .number) (c .before .before .args .entry) (c .before .before .args .a))) ≡ 8
-eight c = ap length (arc-one-bytes (c .before .before .args .number) (c .before .before .args .entry) (c .before .before .args .a) (c .if1 .left)) ∙ length-arc _
+number-of-requires : tie.Need-number-of-requires
+number-of-requires c κs = search needs
 
-returns : tie.Need-returns
-returns c =
-    let e = arc-none-bytes (c .before .before .args .number) (c .before .before .args .entry) (c .before .before .args .a) (c .if1 .taken) in
-    (omega (arith, ap length e), rw e)
-
-sub-place : tie.Need-sub-place
-sub-place c = search needs
+number-of-requires-2 : tie.Need-number-of-requires-2
+number-of-requires-2 c κs = search needs
 
 put-arc-requires : tie.Need-put-arc-requires
-put-arc-requires c κs = (omega (arith, eight (c .before), c .before .before .before .pre .1), c .before .before .before .pre .0)
+put-arc-requires c κs = search needs
+
+one-if-kept-requires : tie.Need-one-if-kept-requires
+one-if-kept-requires c κs = search needs
+
+mul-result : tie.Need-mul-result
+mul-result c = search needs
 
 add-result : tie.Need-add-result
 add-result c = search needs
@@ -30,12 +32,27 @@ add-result c = search needs
 same-length : tie.Need-same-length
 same-length c = search needs
 
-returns-2 : tie.Need-returns-2
-returns-2 c =
-    let at = c .before .before .before .before in
-    let args = at .before .before .args in
-    (omega (arith, eight at), c .before .before .put-arc .ensures ∙ rw (arc-one-bytes (args .number) (args .entry) (args .a) (at .if1 .left)))
+returns : tie.Need-returns
+returns c =
+    let start = c .before .before .before .before .before .before .before .before in
+    let a = start .args .a in
+    let t = start .args .transition in
+    let p = start .args .place in
+    let kept : Arc = record { transition = c .before .before .before .before .before .before .number-of .result; direction = a .direction; place = c .before .before .before .before .before .number-of2 .result; weight = a .weight } in
+    let same : kept ≡ renumbered t p a = λ i. record { transition = c .before .before .before .before .before .before .number-of .ensures i; direction = a .direction; place = c .before .before .before .before .before .number-of2 .ensures i; weight = a .weight } in (
+      omega (arith, length-arcs (keptArc t p a), c .one-if-kept .ensures .1 a),
+      c .before .before .before .put-arc .ensures ∙ ap (λ (b : Arc). sets (start .args .buffer .now) (start .args .at) (arcBytes b)) same,
+    )
 
 pub write-arc-spec : {M : Type 1} → statement M
 write-arc-spec =
-    tie.close (tie.spec returns sub-place put-arc-requires add-result same-length returns-2)
+    tie.close
+    (tie.spec
+    number-of-requires
+    number-of-requires-2
+    put-arc-requires
+    one-if-kept-requires
+    mul-result
+    add-result
+    same-length
+    returns)

@@ -41,9 +41,9 @@ slice-aggregate-write-lists-2 c = listed-length _ _ (c .before .before .before .
 
 write-lists-requires : tie.Need-write-lists-requires
 write-lists-requires c κs =
-    let start = c .before .before .before .before .before .before .before .before .before .before .before .before .before .before .before .before .before .before .before .before .before .before .before .before .before .before in
-    let at = c .before .before .before .before .before .before in
-    (start .pre .0, (lists-kept _ _ (start .pre .1 .0) (start .pre .0 .placed .places) (start .pre .0 .placed .transitions) _ _ (places-listed at) (transitions-listed at), (start .pre .1 .1 .1 .0, start .pre .1 .1 .1 .1)))
+    let start = c .before .before .before .before .before .before .before .before .before .before .before .before .before .before .before .before .before .before .before .before .before .before .before .before .before .before .before in
+    let at = c .before .before .before .before .before .before .before in
+    (start .pre .0, (lists-kept _ _ (start .pre .1 .0) (start .pre .0 .placed .places) (start .pre .0 .placed .transitions) _ _ (places-listed at) (transitions-listed at), start .pre .1 .1 .1))
 
 same-length : tie.Need-same-length
 same-length c = search needs
@@ -57,10 +57,13 @@ same-length-3 c = search needs
 same-length-4 : tie.Need-same-length-4
 same-length-4 c = search needs
 
+same-length-5 : tie.Need-same-length-5
+same-length-5 c = search needs
+
 returns : tie.Need-returns
 returns c =
-    let at = c .before .before .before .before .before .before .before .before .before .before .before in
-    slice-kept _ _ _ _ _ _ _ _ (places-listed at) (transitions-listed at) (c .before .before .before .before .write-lists .ensures)
+    let at = c .before .before .before .before .before .before .before .before .before .before .before .before .before .before in
+    slice-kept _ _ _ _ _ _ _ _ (places-listed at) (transitions-listed at) (c .before .before .before .before .before .before .write-lists .ensures)
 
 pub write-sets-spec : {M : Type 1} → statement M
 write-sets-spec =
@@ -79,4 +82,5 @@ write-sets-spec =
     same-length-2
     same-length-3
     same-length-4
+    same-length-5
     returns)
