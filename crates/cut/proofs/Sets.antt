@@ -14,14 +14,14 @@ use Rattle.net.proofs.Numbers.{holds, fails}
 use Rattle.net.proofs.Worklist.{Searching, search-start, search-done}
 use Rattle.file.specs.Facts.{Sound}
 use Rattle.file.specs.declared.Header.{Header}
-use Rattle.starts.specs.Table.{choose, Split}
-use Rattle.index.specs.Rows.{Rows, Starts}
+use Rattle.starts.specs.Table.{choose}
+use Rattle.index.specs.Rows.{Rows}
 use Rattle.sets.specs.Member.{bit, member}
 use Rattle.sets.specs.declared.KeptSets.{KeptSets}
 use Rattle.sets.proofs.Bits.{bit-zero}
 use Rattle.search.specs.Search.{At, Grows, Closed, Inside, Links}
 use Rattle.cut.specs.Kept.{growthOf, Kept}
-use Rattle.cut.specs.Limits.{limitOf, Below, Lowered, Started, Grown}
+use Rattle.cut.specs.Limits.{limitOf, Below, Lowered, Started, Grown, Floors}
 
 -- a set of sixteen words has no member from 1,024 on
 member-beyond : (w : List ℕ) → length w ≡ 16 → (k : ℕ) → 1024 ≤ k → member w k ≡ false
@@ -66,7 +66,7 @@ module _ (s : List ℕ) (h : Header) (Q head next : List ℕ) (b : Below (h .pla
             transitions-below = λ t m. transition-below G known (last .R-kept t (holds (member R t) m));
           }
 
--- ---- the arrays that `kept` makes
+-- ---- the arrays that are lent
 
 pub all-zero : (n p : ℕ) → _≡_ {A = ℕ} (getD {A = ℕ} (replicate n 0) p 0) 0
 all-zero zero p = refl
@@ -76,16 +76,15 @@ all-zero (suc n) (suc p) = all-zero n p
 pub all-same : (n v p : ℕ) → p < length (replicate n v) → getD (replicate n v) p 0 ≡ v
 all-same n v p l = getD-replicate n p v 0 (subst (λ (k : ℕ). p < k) (length-replicate n v) l)
 
-pub starts-of : (s : List ℕ) (h : Header) (table : List ℕ) → Sound s h → length table ≡ 2049 → ((k : ℕ) → k ≤ 2 * h .transitions → Split s (h .arcstart) (h .arcs) k (getD table k 0)) → Starts s h table
-starts-of s h table sound l x = record { long = omega (arith, sound .placed .transitions); splits = x }
+pub floors-same : (n floor : ℕ) (all : Bool) → floor ≡ limitOf all → Floors all (replicate n floor)
+floors-same n floor all e p l = all-same n floor p l ∙ e
 
 pub links-of : (draws : ℕ → ℕ → Bool) (s : List ℕ) (h : Header) (head next : List ℕ) → Rows draws s (h .arcstart) (h .places) (h .arcs) head next → h .places ≤ length head → h .arcs ≤ length next → Links h head next
 links-of draws s h head next x a b = record { head-long = a; next-long = b; heads = λ p l. x .heads p l .within; nexts = λ j l. x .nexts j l .within }
 
 -- the limits after the criterion's were lowered
-pub limits-of : (n floor : ℕ) (all : Bool) (Q limit : List ℕ) → floor ≡ limitOf all → Lowered Q (replicate n floor) limit → (p : ℕ) → p < n → getD limit p 0 ≡ choose (among p Q) 0 (limitOf all)
-limits-of n floor all Q limit e x p l =
-    x .at p (subst (λ (k : ℕ). p < k) (sym (length-replicate n floor)) l) ∙ ap (choose (among p Q) 0) (getD-replicate n p floor 0 l ∙ e)
+pub limits-of : (all : Bool) (Q floors limit : List ℕ) → Floors all floors → Lowered Q floors limit → (p : ℕ) → p < length floors → getD limit p 0 ≡ choose (among p Q) 0 (limitOf all)
+limits-of all Q floors limit e x p l = x .at p l ∙ ap (choose (among p Q) 0) (e p l)
 
 pub same-criterion : (all : Bool) (N : Net) (Q : List ℕ) → growthOf all N Q .criterion ≡ Q
 same-criterion true N Q = unfold branching growth in refl

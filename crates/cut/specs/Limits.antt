@@ -1,5 +1,5 @@
 -- The parts of a cut: for the contracts of its functions, not for a reader of `kept`. Assumes nothing.
-use Prim.Native.Nat.{ℕ, _<_}
+use Prim.Native.Nat.{ℕ, _*_, _≤_, _<_}
 use mathlib.Core.Bool.{Bool, true, false}
 use mathlib.Core.List.{List}
 use mathlib.Core.Path.{_≡_}
@@ -11,6 +11,7 @@ use Rattle.file.specs.declared.Header.{Header}
 use Rattle.sets.specs.Member.{member}
 use Rattle.sets.specs.declared.KeptSets.{KeptSets}
 use Rattle.starts.specs.Table.{choose}
+use Rattle.index.specs.Rows.{AtRest}
 use Rattle.search.specs.Search.{Grows}
 use Rattle.cut.specs.Kept.{Kept}
 
@@ -38,3 +39,17 @@ pub record Started (Q : List ℕ) (r : KeptSets) : Type 0 where
 -- the sets are those of every cut whose criterion is Q and whose rows stand in head and next
 pub record Grown (s : List ℕ) (h : Header) (Q head next : List ℕ) (r : KeptSets) : Type 0 where
   pub kept : (G : Growth) → Grows G s h head next → G .criterion ≡ Q → Kept G r
+
+-- each place has the limit of one outside of the criterion
+abbrev pub Floors : Bool → List ℕ → Type 0
+Floors all limit = (p : ℕ) → p < length limit → getD limit p 0 ≡ limitOf all
+
+-- tables that reach the places, the transitions and the arcs; columns at rest, and no rows
+pub record Lent (h : Header) (table limit column head next : List ℕ) : Type 0 where
+  pub table-long : 2 * h .transitions < length table
+  pub limit-long : h .places ≤ length limit
+  pub column-long : h .places ≤ length column
+  pub head-long : h .places ≤ length head
+  pub next-long : h .arcs ≤ length next
+  pub rest : AtRest column
+  pub none : (p : ℕ) → getD head p 0 ≡ 0
