@@ -11,6 +11,7 @@ use Rattle.file.specs.Facts.{Sound}
 use Rattle.file.specs.Criterion.{criterionRefusal}
 use Rattle.file.specs.declared.Header.{Header}
 use Rattle.own.specs.Own.{Own}
+use Rattle.kept.specs.Known.{Known}
 
 -- rules 6 to 8
 abbrev pub rulesFrom6 : Net → Slice → List ℕ → List Rule
@@ -26,6 +27,11 @@ pub record Judged (plan : List ℕ) (hp : Header) (slice : List ℕ) (hs : Heade
   pub sliced : Sound slice hs
   pub kind : hs .kind ≡ 1
   pub criterion : criterionRefusal (hp .places) Q ≡ 0
+
+-- the plan knows every place and transition of the slice: rules 1 and 2
+pub record KnownIn (hp : Header) (S : Slice) : Type 0 where
+  pub places : Known (hp .places) (S .placeOrigins)
+  pub transitions : Known (hp .transitions) (S .transitionOrigins)
 
 -- the plan has at most n places and transitions, and the slice at most n transitions
 pub record Within (n : ℕ) (hp hs : Header) : Type 0 where

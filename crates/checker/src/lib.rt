@@ -11,7 +11,8 @@ ghost use Rattle.promise.specs.Calls.{told};
 ghost use Rattle.tables.specs.Matched.{Starts, Matched};
 ghost use Rattle.movers.specs.Movers.{Resting};
 ghost use Rattle.checker.specs.Answer.{outcomeNumbers, numbersOf};
-ghost use Rattle.checker.specs.Room.{rulesFrom4, rulesFrom6, Judged, Room, Within, Filled};
+ghost use Rattle.agree.specs.Pass.{Agreed};
+ghost use Rattle.checker.specs.Room.{rulesFrom4, rulesFrom6, Judged, KnownIn, Room, Within, Filled};
 use file::Header;
 
 // "accepted, or the broken rule with its number": each rule with the place or transition that breaks it. A call that is turned back has the refusal's number.
@@ -340,6 +341,70 @@ fn is_small(hp: Header, hs: Header) -> bool
     (hp.places <= 64) & (hp.transitions <= 64) & (hs.transitions <= 64)
 }
 
+// Are the rules 4 to 8 certainly kept? For nets of at most 64 places and 64 transitions.
+fn small_agrees(plan: &[u8], hp: Header, slice: &[u8], hs: Header, criterion: &[u16]) -> bool
+    requires { ⌜ Judged (now plan) hp (now slice) hs (now criterion) ⌝ }
+    requires { ⌜ KnownIn hp (sliceFrom (now slice) hs) ⌝ }
+    requires { ⌜ Within 64 hp hs ⌝ }
+    ensures { λ r. ⌜ (r ≡ true → Agreed (netFrom (now (plan .entry)) hp) (sliceFrom (now (slice .entry)) hs) (now (criterion .entry))) ⌝ }
+{
+    let mut places = [4398047494144usize; 64];
+    let mut transitions = [459776usize; 64];
+    agree::agrees(
+        plan,
+        hp,
+        slice,
+        hs,
+        criterion,
+        &mut places,
+        &mut transitions,
+    )
+}
+
+// The same for all nets.
+fn large_agrees(plan: &[u8], hp: Header, slice: &[u8], hs: Header, criterion: &[u16]) -> bool
+    requires { ⌜ Judged (now plan) hp (now slice) hs (now criterion) ⌝ }
+    requires { ⌜ KnownIn hp (sliceFrom (now slice) hs) ⌝ }
+    ensures { λ r. ⌜ (r ≡ true → Agreed (netFrom (now (plan .entry)) hp) (sliceFrom (now (slice .entry)) hs) (now (criterion .entry))) ⌝ }
+{
+    let mut places = [4398047494144usize; 1024];
+    let mut transitions = [459776usize; 1024];
+    agree::agrees(
+        plan,
+        hp,
+        slice,
+        hs,
+        criterion,
+        &mut places,
+        &mut transitions,
+    )
+}
+
+// Rules 4 to 8 for nets of at most 64 places and 64 transitions: by one pass, and one by one only where it does not settle them.
+fn small_verdict(plan: &[u8], hp: Header, slice: &[u8], hs: Header, criterion: &[u16]) -> Outcome
+    requires { ⌜ Judged (now plan) hp (now slice) hs (now criterion) ⌝ }
+    requires { ⌜ KnownIn hp (sliceFrom (now slice) hs) ⌝ }
+    requires { ⌜ Within 64 hp hs ⌝ }
+    ensures { λ r. ⌜ outcomeNumbers r ≡ told (verdictFrom 4 (rulesFrom4 (netFrom (now (plan .entry)) hp) (sliceFrom (now (slice .entry)) hs) (now (criterion .entry)))) ⌝ }
+{
+    if small_agrees(plan, hp, slice, hs, criterion) {
+        return Outcome::Accepted;
+    }
+    small_outcome(plan, hp, slice, hs, criterion)
+}
+
+// The same for all nets.
+fn large_verdict(plan: &[u8], hp: Header, slice: &[u8], hs: Header, criterion: &[u16]) -> Outcome
+    requires { ⌜ Judged (now plan) hp (now slice) hs (now criterion) ⌝ }
+    requires { ⌜ KnownIn hp (sliceFrom (now slice) hs) ⌝ }
+    ensures { λ r. ⌜ outcomeNumbers r ≡ told (verdictFrom 4 (rulesFrom4 (netFrom (now (plan .entry)) hp) (sliceFrom (now (slice .entry)) hs) (now (criterion .entry)))) ⌝ }
+{
+    if large_agrees(plan, hp, slice, hs, criterion) {
+        return Outcome::Accepted;
+    }
+    large_outcome(plan, hp, slice, hs, criterion)
+}
+
 // Rules 1 to 3, then the others.
 fn whole_outcome(plan: &[u8], hp: Header, slice: &[u8], hs: Header, criterion: &[u16]) -> Outcome
     requires { ⌜ Judged (now plan) hp (now slice) hs (now criterion) ⌝ }
@@ -358,9 +423,9 @@ fn whole_outcome(plan: &[u8], hp: Header, slice: &[u8], hs: Header, criterion: &
         return Outcome::OtherMarking(p as u16);
     }
     if is_small(hp, hs) {
-        return small_outcome(plan, hp, slice, hs, criterion);
+        return small_verdict(plan, hp, slice, hs, criterion);
     }
-    large_outcome(plan, hp, slice, hs, criterion)
+    large_verdict(plan, hp, slice, hs, criterion)
 }
 
 // The verdict for a plan, a slice and a criterion, none of them turned back.

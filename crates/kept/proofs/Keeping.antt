@@ -28,6 +28,10 @@ unknown-transition N S limit e = ap (λ (m : ℕ). first (λ i. not (ltb (getD (
 pub places-known : (N : Net) (S : Slice) → length (S .placeOrigins) ≡ S .net .places → S .net .places ≤ breaker (rule1 N S) → Known (N .places) (S .placeOrigins)
 places-known N S e h = all-known (N .places) (S .placeOrigins) (S .net .places) e (rw (unknown-place N S (N .places) refl) h)
 
+-- where rule 2 holds, every transition
+pub transitions-known : (N : Net) (S : Slice) → length (S .transitionOrigins) ≡ S .net .transitions → S .net .transitions ≤ breaker (rule2 N S) → Known (N .transitions) (S .transitionOrigins)
+transitions-known N S e h = all-known (N .transitions) (S .transitionOrigins) (S .net .transitions) e (rw (unknown-transition N S (N .transitions) refl) h)
+
 -- the slice's place k has the marking of its origin
 pub record Alike (N : Net) (S : Slice) (k : ℕ) : Type 0 where
   pub tokens : S .net .marking k ≡ N .marking (getD (S .placeOrigins) k 0)

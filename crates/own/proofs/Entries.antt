@@ -15,12 +15,12 @@ use Rattle.file.specs.Facts.{RisingFrom}
 use Rattle.own.specs.Own.{ownEntry, Own}
 use Rattle.own.proofs.Words.{rises}
 
-among-other : (x y : ℕ) (l : List ℕ) → eqb x y ≡ false → among x (l ++ (y ∷ [])) ≡ among x l
+pub among-other : (x y : ℕ) (l : List ℕ) → eqb x y ≡ false → among x (l ++ (y ∷ [])) ≡ among x l
 unfolding among
 among-other x y [] e = rw e
 among-other x y (z ∷ l) e = ap (λ (b : Bool). eqb x z || b) (among-other x y l e)
 
-position-other : (x y : ℕ) (l : List ℕ) → among x l ≡ true → position x (l ++ (y ∷ [])) ≡ position x l
+pub position-other : (x y : ℕ) (l : List ℕ) → among x l ≡ true → position x (l ++ (y ∷ [])) ≡ position x l
 unfolding among position
 position-other x y [] e = let z : _≡_ {A = ℕ} 0 1 = cc in absurd (omega arith)
 position-other x y (z ∷ l) e =
@@ -28,12 +28,12 @@ position-other x y (z ∷ l) e =
     (λ q. rw (q, position))
     (λ q. rw (q, position) (ap suc (position-other x y l (rw (q, among) at e))))
 
-among-new : (y : ℕ) (l : List ℕ) → among y (l ++ (y ∷ [])) ≡ true
+pub among-new : (y : ℕ) (l : List ℕ) → among y (l ++ (y ∷ [])) ≡ true
 unfolding among
 among-new y [] = rw (eq-eqb y y refl)
 among-new y (z ∷ l) = by-cases (eqb y z) (λ q. simp q) (λ q. simp q (among-new y l))
 
-position-new : (y : ℕ) (l : List ℕ) → among y l ≡ false → position y (l ++ (y ∷ [])) ≡ length l
+pub position-new : (y : ℕ) (l : List ℕ) → among y l ≡ false → position y (l ++ (y ∷ [])) ≡ length l
 unfolding among position
 position-new y [] e = rw (eq-eqb y y refl, position)
 position-new y (z ∷ l) e =

@@ -6,17 +6,17 @@ use denote.Ref.{now}
 use Rattle.net.specs.Checker.{verdictFrom, verdict}
 use Rattle.file.specs.Layout.{netFrom, sliceFrom}
 use Rattle.promise.specs.Calls.{told}
-use Rattle.checker.specs.Room.{rulesFrom4}
+use Rattle.checker.specs.Room.{rulesFrom4, KnownIn}
 use Rattle.own.proofs.Words.{length-words}
-use Rattle.kept.proofs.Keeping.{places-known}
+use Rattle.kept.proofs.Keeping.{places-known, transitions-known}
 use Rattle.checker.proofs.Steps.{broken-here, holds-here, range1, range2, range3, all-rules}
 use Rattle.checker.proofs.whole_outcome.Statement.{statement}
 use Rattle.checker.proofs.whole_outcome.Tie as tie
 use Rattle.checker.proofs.whole_outcome.Reads as reads
 use Rattle.checker.proofs.whole_outcome.Lts as lts
 use Rattle.checker.proofs.is_small.Reads as is-small-reads
-use Rattle.checker.proofs.large_outcome.Reads as large-outcome-reads
-use Rattle.checker.proofs.small_outcome.Reads as small-outcome-reads
+use Rattle.checker.proofs.large_verdict.Reads as large-verdict-reads
+use Rattle.checker.proofs.small_verdict.Reads as small-verdict-reads
 use Rattle.kept.proofs.other_marking.Reads as other-marking-reads
 use Rattle.kept.proofs.unknown_place.Reads as unknown-place-reads
 use Rattle.kept.proofs.unknown_transition.Reads as unknown-transition-reads
@@ -33,6 +33,16 @@ first-three c =
 
 least : (a b n : ℕ) → n ≡ b → a ≤ n → a ≤ b
 least a b n e h = omega arith
+
+-- the plan knows what the slice has
+known : (c : tie.After-is-small) → KnownIn (c .before .before .before .before .before .before .before .before .before .before .before .before .before .args .hp) (sliceFrom (now (c .before .before .before .before .before .before .before .before .before .before .before .before .before .args .slice)) (c .before .before .before .before .before .before .before .before .before .before .before .before .before .args .hs))
+known c =
+    let a = c .before .before .before .before .before .before .before .before .before .before .before .before .before .args in
+    let N = netFrom (now (a .plan)) (a .hp) in
+    record {
+      places = places-known N _ (length-words _ _ _) (least _ _ _ (c .before .before .before .before .before .before .before .before .before .unknown-place .ensures N refl) (c .before .before .before .before .before .before .before .if1 .left));
+      transitions = transitions-known N _ (length-words _ _ _) (least _ _ _ (c .before .before .before .before .before .before .unknown-transition .ensures N refl) (c .before .before .before .before .if2 .left));
+    }
 
 -- src/lib.rt:252:9
 unknown-place-requires : tie.Need-unknown-place-requires
@@ -88,20 +98,20 @@ is-small-requires : tie.Need-is-small-requires
 is-small-requires c κs = search needs
 
 -- src/lib.rt:265:9
-small-outcome-requires : tie.Need-small-outcome-requires
-small-outcome-requires c κs = (c .before .before .before .before .before .before .before .before .before .before .before .before .before .before .pre, c .before .is-small .ensures (c .if4 .taken))
+small-verdict-requires : tie.Need-small-verdict-requires
+small-verdict-requires c κs = (c .before .before .before .before .before .before .before .before .before .before .before .before .before .before .pre, (known (c .before), c .before .is-small .ensures (c .if4 .taken)))
 
 -- src/lib.rt:265:9
 returns-4 : tie.Need-returns-4
-returns-4 c = c .small-outcome .ensures ∙ first-three (c .before .before)
+returns-4 c = c .small-verdict .ensures ∙ first-three (c .before .before)
 
 -- src/lib.rt:267:5
-large-outcome-requires : tie.Need-large-outcome-requires
-large-outcome-requires c κs = search needs
+large-verdict-requires : tie.Need-large-verdict-requires
+large-verdict-requires c κs = (c .before .before .before .before .before .before .before .before .before .before .before .before .before .before .pre, known (c .before))
 
 -- src/lib.rt:248:1
 returns-5 : tie.Need-returns-5
-returns-5 c = c .large-outcome .ensures ∙ first-three (c .before .before)
+returns-5 c = c .large-verdict .ensures ∙ first-three (c .before .before)
 
 pub whole-outcome-spec : {M : Type 1} → statement M
 whole-outcome-spec =
@@ -117,7 +127,7 @@ whole-outcome-spec =
     cast-t12
     returns-3
     is-small-requires
-    small-outcome-requires
+    small-verdict-requires
     returns-4
-    large-outcome-requires
+    large-verdict-requires
     returns-5)
