@@ -1,6 +1,5 @@
 // arcs: the run in words, or why there is none.
 use file::Due;
-use file::Reading;
 use terminal::say;
 use words::refusal;
 use words::steps;
@@ -33,33 +32,31 @@ pub fn found(run: &[u8], inslice: bool, transition: u16) {
     steps::line(run);
 }
 
-// Whether the number is known, in a file that can be read.
-fn known(file: &[u8], due: Due, inslice: bool, transition: u16) -> bool {
-    let whole = file::read(file, due);
-    let Reading::Whole(h) = whole else {
-        return true;
-    };
-    if h.transitions <= transition as usize {
-        unknown(inslice, transition, h.transitions);
-        return false;
+// Whether the number is known in the file named.
+fn none(file: &[u8], inslice: bool, transition: u16) {
+    let count = blame::numbers::transitions(file);
+    if count <= transition as usize {
+        unknown(inslice, transition, count);
+        return;
     }
-    true
+    found(&file[..0], inslice, transition);
 }
 
-// Why there is no run: the first file refused, else a number unknown in the file named.
-pub fn turned_back(plan: &[u8], slice: &[u8], inslice: bool, transition: u16) -> bool {
+// Why there is no run: the first file refused, else a number unknown in the file named, else a transition without arcs.
+pub fn empty(plan: &[u8], slice: &[u8], inslice: bool, transition: u16) {
     let first = file::number(file::read(plan, Due::Plan));
     if first != 0 {
-        refusal::one(first, b"plan");
-        return true;
+        refusal::of_file(first, b"plan", plan);
+        return;
     }
     let second = file::number(file::read(slice, Due::Slice));
     if second != 0 {
-        refusal::one(second, b"slice");
-        return true;
+        refusal::of_file(second, b"slice", slice);
+        return;
     }
     if inslice {
-        return !known(slice, Due::Slice, inslice, transition);
+        none(slice, inslice, transition);
+        return;
     }
-    !known(plan, Due::Plan, inslice, transition)
+    none(plan, inslice, transition);
 }

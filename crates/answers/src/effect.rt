@@ -2,7 +2,7 @@
 use terminal::say;
 use words::refusal;
 
-pub fn refused(n: u32, place: u16, transition: u16) {
+pub fn refused(n: u32, file: &[u8], place: u16, transition: u16) {
     if n == 10 {
         refusal::unknown(n, b"place", place);
         return;
@@ -11,7 +11,7 @@ pub fn refused(n: u32, place: u16, transition: u16) {
         refusal::unknown(n, b"transition", transition);
         return;
     }
-    refusal::one(n, b"file");
+    refusal::of_file(n, b"file", file);
 }
 
 pub fn changed(by: i32, place: u16, transition: u16) {

@@ -14,11 +14,3 @@ pub fn list_room() -> [u16; 65536]
 {
     [0; 65536]
 }
-
-// Entry i of a list, 0 past its end.
-pub fn at(list: &[u16], i: usize) -> u16 {
-    if i < list.len() {
-        return list[i];
-    }
-    0
-}

@@ -1,10 +1,9 @@
 // project: the slice's numbers.
-use crate::input;
 use terminal::say;
 
 fn number(list: &[u16], i: usize) {
     say::text(b" ");
-    say::short(input::at(list, i));
+    say::count(blame::numbers::entry(list, i));
 }
 
 // The first `count` entries.

@@ -1,23 +1,25 @@
 // replay: the marking after all firings, or where the list is stuck.
-use crate::input;
-use file::Due;
-use file::Reading;
+ghost use mathlib.Core.Path.{_≡_};
+ghost use lib.ListN.{getD};
 use terminal::say;
 
-fn entry(marking: &[u64; 1024], p: usize) -> u64 {
-    if p < 1024 {
+// The tokens on place p.
+fn entry(marking: &[u64], p: usize) -> u64
+    ensures { λ r. ⌜ r ≡ getD (now (marking .entry)) p 0 ⌝ }
+{
+    if p < marking.len() {
         return marking[p];
     }
     0
 }
 
-fn tokens(marking: &[u64; 1024], p: usize) {
+fn tokens(marking: &[u64], p: usize) {
     say::text(b" ");
     say::number(entry(marking, p));
 }
 
 // The tokens of each of the `count` places.
-fn marking_of(marking: &[u64; 1024], count: usize) {
+fn marking_of(marking: &[u64], count: usize) {
     let mut p = 0;
     while p < count {
         tokens(marking, p);
@@ -25,16 +27,7 @@ fn marking_of(marking: &[u64; 1024], count: usize) {
     }
 }
 
-// How many places a file has that can be read.
-pub fn places(file: &[u8]) -> usize {
-    let whole = file::read(file, Due::Either);
-    let Reading::Whole(h) = whole else {
-        return 0;
-    };
-    h.places
-}
-
-pub fn fired(count: usize, marking: &[u64; 1024], places: usize) {
+pub fn fired(count: usize, marking: &[u64], places: usize) {
     say::text(b"fired ");
     say::counted(count, b"transition");
     say::text(b", ending");
@@ -44,8 +37,9 @@ pub fn fired(count: usize, marking: &[u64; 1024], places: usize) {
 
 pub fn stuck(list: &[u16], index: u32, place: u32) {
     let i = index as usize;
-    let t = input::at(list, i);
-    say::between(b"stuck at index ", i, b": transition ");
-    say::between(b"", t as usize, b", place ");
-    say::between(b"", place as usize, b" is short\n");
+    let t = blame::numbers::entry(list, i);
+    say::form(
+        b"stuck at index %: transition %, place % is short\n",
+        &[i, t, place as usize],
+    );
 }

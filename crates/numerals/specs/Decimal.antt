@@ -1,19 +1,29 @@
--- Decimal numbers from 0 to 65,535 in text. Assumes nothing.
+-- Decimal numbers in text: at least one digit, nothing but digits, and a value of at most 65,535. Assumes nothing.
 use Prim.Native.Nat.{ℕ, _+_, _*_, _-_}
-use mathlib.Core.Bool.{Bool, true, false}
+use mathlib.Core.Bool.{Bool, true, false, not, _&&_}
 use mathlib.Core.List.{List, [], _∷_}
-use lib.Dec.{ltb}
+use lib.Dec.{eqb, leb}
+use lib.ListN.{length}
+use Rattle.numerals.specs.declared.Value.{Value}
 
--- a where the test holds, else b
-abbrev pub either : Bool → ℕ → ℕ → ℕ
-either true a b = a
-either false a b = b
+-- the characters 0 to 9 have the numbers 48 to 57
+abbrev pub isDigit : ℕ → Bool
+isDigit b = leb 48 b && leb b 57
 
--- the number so far with one more digit; 65,536 where that is no number from 0 to 65,535
-abbrev pub more : ℕ → ℕ → ℕ
-more n b = either (ltb b 48) 65536 (either (ltb 57 b) 65536 (either (ltb 65583 (10 * n + b)) 65536 (10 * n + b - 48)))
+unfoldable pub allDigits : List ℕ → Bool
+allDigits [] = true
+allDigits (b ∷ rest) = isDigit b && allDigits rest
 
--- the number that the digits add to one so far
-unfoldable pub valueFrom : ℕ → List ℕ → ℕ
-valueFrom n [] = n
-valueFrom n (b ∷ rest) = valueFrom (more n b) rest
+-- the value of digits that follow a number
+unfoldable pub decimal : ℕ → List ℕ → ℕ
+decimal n [] = n
+decimal n (b ∷ rest) = decimal (10 * n + (b - 48)) rest
+
+-- a number where the test holds
+abbrev pub told : Bool → ℕ → Value
+told true n = record { good = true; value = n }
+told false n = record { good = false; value = 0 }
+
+-- the number that a text is
+unfoldable pub numeral : List ℕ → Value
+numeral s = told (not (eqb (length s) 0) && (allDigits s && leb (decimal 0 s) 65535)) (decimal 0 s)

@@ -1,8 +1,8 @@
-// Numbers in text and in bytes: decimal digits, and two bytes an entry, low byte first.
+// Numbers in text: decimal digits.
 ghost use mathlib.Core.Path.{_≡_};
 ghost use Prim.Native.Nat.{_≤_};
-ghost use Rattle.io.specs.Counts.{Counts};
-ghost use Rattle.numerals.specs.Decimal.{more, valueFrom};
+ghost use Rattle.numerals.specs.Counting.{more, valueFrom};
+ghost use Rattle.numerals.specs.Decimal.{numeral};
 
 // A number from 0 to 65,535, or none.
 pub struct Value {
@@ -42,7 +42,9 @@ fn value_of(digits: &[u8]) -> usize
 }
 
 // The number that the text is.
-pub fn parsed(digits: &[u8]) -> Value {
+pub fn parsed(digits: &[u8]) -> Value
+    ensures { λ r. ⌜ r ≡ numeral (now (digits .entry)) ⌝ }
+{
     let sum = value_of(digits);
     if digits.len() == 0 {
         return Value {
@@ -60,27 +62,4 @@ pub fn parsed(digits: &[u8]) -> Value {
         good: false,
         value: 0,
     }
-}
-
-// Two bytes as a number, low byte first.
-fn pair(low: u8, high: u8) -> u16 {
-    low as u16 + 256 * (high as u16)
-}
-
-// Each two bytes as a number, as many as `to` takes.
-pub fn pairs(bytes: &[u8], to: &mut [u16]) -> usize
-    ensures { λ r. ⌜ Counts r (now (to .exit)) ⌝ }
-{
-    let mut left = bytes.len();
-    let mut k = 0;
-    while k < to.len() {
-        if left < 2 {
-            return k;
-        }
-        let at = bytes.len() - left;
-        to[k] = pair(bytes[at], bytes[at + 1]);
-        left -= 2;
-        k += 1;
-    }
-    k
 }

@@ -3,6 +3,8 @@ ghost use mathlib.Core.Path.{_≡_};
 ghost use Prim.Native.Nat.{_+_, _*_, _≤_};
 ghost use lib.ListN.{length};
 ghost use Rattle.file.specs.Facts.{Sound};
+ghost use Rattle.file.specs.Layout.{wordsFrom};
+ghost use Rattle.pages.specs.Shades.{setAt, shaded};
 use crate::picture;
 use file::Due;
 use file::Header;
@@ -11,15 +13,18 @@ use terminal::say;
 use words::refusal;
 
 // Gives number i the shade s.
-fn set(shades: &mut [u8; 1024], i: usize, s: u8) {
-    if i < 1024 {
+fn set(shades: &mut [u8], i: usize, s: u8)
+    ensures { λ _. ⌜ now (shades .exit) ≡ setAt (now (shades .entry)) i s ⌝ }
+{
+    if i < shades.len() {
         shades[i] = s;
     }
 }
 
 // Draws each of the `count` numbers of 2 bytes from `start` on.
-fn keep(file: &[u8], start: usize, count: usize, shades: &mut [u8; 1024])
+fn keep(file: &[u8], start: usize, count: usize, shades: &mut [u8])
     requires { ⌜ start + 2 * count ≤ length (now file) ⌝ }
+    ensures { λ _. ⌜ now (shades .exit) ≡ shaded 1 (wordsFrom (now (file .entry)) start count) (now (shades .entry)) ⌝ }
 {
     let mut i = 0;
     while i < count {
@@ -28,37 +33,19 @@ fn keep(file: &[u8], start: usize, count: usize, shades: &mut [u8; 1024])
     }
 }
 
-fn wide(x: u16) -> usize {
-    x as usize
-}
-
 // Marks the criterion.
-fn mark(criterion: &[u16], shades: &mut [u8; 1024]) {
+fn mark(criterion: &[u16], shades: &mut [u8])
+    ensures { λ _. ⌜ now (shades .exit) ≡ shaded 2 (now (criterion .entry)) (now (shades .entry)) ⌝ }
+{
     let mut i = 0;
     while i < criterion.len() {
-        set(shades, wide(criterion[i]), 2);
+        set(shades, blame::numbers::entry(criterion, i), 2);
         i += 1;
     }
 }
 
-// Whether each number of the criterion is below `places`; where one is not, a line says so.
-fn known(criterion: &[u16], places: usize) -> bool {
-    let mut i = 0;
-    while i < criterion.len() {
-        let q = criterion[i];
-        if places <= wide(q) {
-            unknown(q, places);
-            return false;
-        }
-        i += 1;
-    }
-    true
-}
-
-fn unknown(p: u16, places: usize) {
-    say::text(b"error: the plan has no place ");
-    say::short(p);
-    say::text(b": it has ");
+fn unknown(p: usize, places: usize) {
+    say::form(b"error: the plan has no place %: it has ", &[p]);
     say::counted(places, b"place");
     say::text(b", numbered from 0\n");
 }
@@ -67,7 +54,7 @@ fn unknown(p: u16, places: usize) {
 pub fn one(file: &[u8]) {
     let whole = file::read(file, Due::Either);
     let Reading::Whole(h) = whole else {
-        refusal::one(file::number(whole), b"file");
+        refusal::of_file(file::number(whole), b"file", file);
         return;
     };
     picture::whole(file, h);
@@ -94,21 +81,24 @@ fn kept(plan: &[u8], p: Header, slice: &[u8], s: Header, criterion: &[u16])
 fn drawn(plan: &[u8], p: Header, slice: &[u8], s: Header, criterion: &[u16])
     requires { ⌜ Sound (now plan) p × Sound (now slice) s × (s .kind ≡ 1) ⌝ }
 {
-    if known(criterion, p.places) {
-        kept(plan, p, slice, s, criterion);
+    let k = blame::numbers::below(criterion, p.places);
+    if k < criterion.len() {
+        unknown(blame::numbers::entry(criterion, k), p.places);
+        return;
     }
+    kept(plan, p, slice, s, criterion);
 }
 
 // The slice inside the plan.
 pub fn two(plan: &[u8], slice: &[u8], criterion: &[u16]) {
     let first = file::read(plan, Due::Plan);
     let Reading::Whole(p) = first else {
-        refusal::one(file::number(first), b"plan");
+        refusal::of_file(file::number(first), b"plan", plan);
         return;
     };
     let second = file::read(slice, Due::Slice);
     let Reading::Whole(s) = second else {
-        refusal::one(file::number(second), b"slice");
+        refusal::of_file(file::number(second), b"slice", slice);
         return;
     };
     drawn(plan, p, slice, s, criterion);

@@ -1,13 +1,17 @@
 // A net as Graphviz text. Each place and transition has a shade: 0 left out, 1 drawn, 2 marked as criterion.
+ghost use mathlib.Core.Path.{_≡_};
 ghost use Prim.Native.Nat.{_<_};
+ghost use lib.ListN.{getD};
 ghost use Rattle.file.specs.Facts.{Sound};
 use file::Header;
 use net::Arc;
 use terminal::say;
 
 // The shade of number i.
-fn shade(shades: &[u8; 1024], i: usize) -> u8 {
-    if i < 1024 {
+fn shade(shades: &[u8], i: usize) -> u8
+    ensures { λ r. ⌜ r ≡ getD (now (shades .entry)) i 0 ⌝ }
+{
+    if i < shades.len() {
         return shades[i];
     }
     0
@@ -42,7 +46,7 @@ fn place(file: &[u8], h: Header, p: usize, s: u8)
     say::text(b"]\n");
 }
 
-fn places(file: &[u8], h: Header, shades: &[u8; 1024])
+fn places(file: &[u8], h: Header, shades: &[u8])
     requires { ⌜ Sound (now file) h ⌝ }
 {
     let end = h.places;
@@ -63,7 +67,7 @@ fn transition(t: usize, s: u8) {
     say::text(b"]\n");
 }
 
-fn transitions(h: Header, shades: &[u8; 1024]) {
+fn transitions(h: Header, shades: &[u8]) {
     let end = h.transitions;
     let mut t = 0;
     while t < end {
@@ -108,14 +112,14 @@ fn line(a: Arc, place: u8, transition: u8) {
     say::text(b"]\n");
 }
 
-fn arc(file: &[u8], h: Header, j: usize, places: &[u8; 1024], transitions: &[u8; 1024])
+fn arc(file: &[u8], h: Header, j: usize, places: &[u8], transitions: &[u8])
     requires { ⌜ Sound (now file) h × (j < h .arcs) ⌝ }
 {
     let a = file::arcs::arc(file, h.arcstart + 8 * j);
     line(a, shade(places, a.place), shade(transitions, a.transition));
 }
 
-fn arcs(file: &[u8], h: Header, places: &[u8; 1024], transitions: &[u8; 1024])
+fn arcs(file: &[u8], h: Header, places: &[u8], transitions: &[u8])
     requires { ⌜ Sound (now file) h ⌝ }
 {
     let end = h.arcs;
@@ -134,7 +138,7 @@ fn head() {
 }
 
 // The whole picture.
-pub fn draw(file: &[u8], h: Header, places_as: &[u8; 1024], transitions_as: &[u8; 1024])
+pub fn draw(file: &[u8], h: Header, places_as: &[u8], transitions_as: &[u8])
     requires { ⌜ Sound (now file) h ⌝ }
 {
     head();

@@ -114,7 +114,7 @@ fn lines(file: &[u8], h: Header)
 pub fn answer(file: &[u8]) {
     let whole = file::read(file, Due::Either);
     let Reading::Whole(h) = whole else {
-        refusal::one(file::number(whole), b"file");
+        refusal::of_file(file::number(whole), b"file", file);
         return;
     };
     lines(file, h);

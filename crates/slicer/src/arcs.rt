@@ -9,10 +9,7 @@ fn of<'a>(plan: &'a [u8], slice: &'a [u8], inslice: bool, transition: u16) {
         arcs::found(run, inslice, transition);
         return;
     }
-    if arcs::turned_back(plan, slice, inslice, transition) {
-        return;
-    }
-    arcs::found(run, inslice, transition);
+    arcs::empty(plan, slice, inslice, transition);
 }
 
 pub fn answer<'a>(plan: &'a [u8], slice: &'a [u8], numbers: &[u16]) {

@@ -3,22 +3,22 @@ use answers::cuts;
 use slice::Cut;
 use words::refusal;
 
-fn cut(plan: &[u8], criterion: &[u16], branching: bool, buffer: &mut [u8]) -> Cut {
-    if branching {
-        return nesfoal::cuts::branching(plan, criterion, buffer);
-    }
-    nesfoal::cuts::safety(plan, criterion, buffer)
-}
-
-fn made(plan: &[u8], criterion: &[u16], branching: bool, buffer: &mut [u8]) {
-    let c = cut(plan, criterion, branching, buffer);
+// What a cut answered, its slice being at the start of the buffer.
+fn told(c: Cut, plan: &[u8], criterion: &[u16], buffer: &[u8]) {
     match c {
         Cut::Written(n, p, t) => cuts::write(buffer, n, p, t),
-        Cut::Refused(n) => refusal::one(n, b"plan"),
+        Cut::Refused(n) => refusal::one(n, b"plan", plan, criterion),
     }
 }
 
-pub fn answer(plan: &[u8], criterion: &[u16], branching: bool) {
+pub fn safety(plan: &[u8], criterion: &[u16]) {
     let mut buffer = [0u8; 65536];
-    made(plan, criterion, branching, &mut buffer);
+    let c = nesfoal::cuts::safety(plan, criterion, &mut buffer);
+    told(c, plan, criterion, &buffer);
+}
+
+pub fn branching(plan: &[u8], criterion: &[u16]) {
+    let mut buffer = [0u8; 65536];
+    let c = nesfoal::cuts::branching(plan, criterion, &mut buffer);
+    told(c, plan, criterion, &buffer);
 }

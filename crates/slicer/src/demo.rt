@@ -1,4 +1,6 @@
 // demo: the small kerb of paper 01.
+ghost use mathlib.Core.Path.{_≡_};
+ghost use Rattle.promise.specs.Example.{smallPlan};
 use crate::effect;
 use crate::projects;
 use crate::replays;
@@ -15,7 +17,9 @@ fn command(t: &[u8]) {
 }
 
 // 0 waiting, 1 bay free, 2 in bay, 3 left, 4 bell.
-fn kerb() -> [u8; 108] {
+fn kerb() -> [u8; 108]
+    ensures { λ r. ⌜ r ≡ smallPlan ⌝ }
+{
     *b"\x02\0\0\0\x01\0\0\0\0\0\0\0\0\0\0\0\0\0\0\0\0\0\0\0\0\0\x01\0\0\0\0\0\x01\0\x01\0\0\0\x01\0\x02\0\x01\0\x01\0\0\0\x02\0\x01\0\x01\0\x01\0\x01\0\x01\0\x01\0\x01\0\x03\0\x01\0\x02\0\0\0\x03\0\x02\0\x02\0\x01\0\x04\0\x01\0\x03\0\0\0\0\0\x01\0\x5c\0\0\0\x05\0\x04\0\x09\0\0\x01BELL"
 }
 
@@ -52,15 +56,16 @@ fn rest(plan: &[u8], buffer: &[u8], length: u32) {
     sliced(plan, &buffer[..end]);
 }
 
-fn cut(plan: &[u8], buffer: &mut [u8]) {
+fn cut(plan: &[u8]) {
     command(b"safety small-kerb.plan kerb.slice 2");
-    let c = nesfoal::cuts::safety(plan, &[2], buffer);
+    let mut buffer = [0u8; 65536];
+    let c = nesfoal::cuts::safety(plan, &[2], &mut buffer);
     let Cut::Written(n, p, t) = c else {
         return;
     };
     say::text(b"written kerb.slice");
     cuts::counts(n, p, t);
-    rest(plan, buffer, n);
+    rest(plan, &buffer, n);
 }
 
 pub fn run() {
@@ -69,6 +74,5 @@ pub fn run() {
     );
     let plan = kerb();
     looks(&plan);
-    let mut buffer = [0u8; 65536];
-    cut(&plan, &mut buffer);
+    cut(&plan);
 }

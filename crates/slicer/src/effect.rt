@@ -7,7 +7,7 @@ pub fn of(file: &[u8], place: u16, transition: u16) {
     let c = nesfoal::effect::effect(file, place, transition);
     match c {
         Change::By(n) => effect::changed(n, place, transition),
-        Change::Refused(n) => effect::refused(n, place, transition),
+        Change::Refused(n) => effect::refused(n, file, place, transition),
     }
 }
 

@@ -11,9 +11,8 @@ use answers::input;
 use answers::verbs;
 use pages::dot;
 use pages::show;
-use terminal::args;
+use terminal::entries;
 use terminal::files;
-use terminal::lists;
 use words::help;
 
 // The answers to questions on one file.
@@ -23,8 +22,8 @@ fn one(verb: u8, file: &[u8], list: &[u16]) {
         2 => dot::one(file),
         3 => effect::answer(file, list),
         4 => replays::answer(file, list),
-        5 => cuts::answer(file, list, false),
-        _ => cuts::answer(file, list, true),
+        5 => cuts::safety(file, list),
+        _ => cuts::branching(file, list),
     }
 }
 
@@ -40,7 +39,7 @@ fn two<'a>(verb: u8, plan: &'a [u8], slice: &'a [u8], list: &[u16]) {
 
 fn with_slice<'a>(verb: u8, plan: &'a [u8], slice: &'a [u8]) {
     let mut list = input::list_room();
-    let l = lists::load(verbs::list_at(verb), &mut list);
+    let l = entries::load(verbs::list_at(verb), &mut list);
     if !l.good {
         return;
     }
@@ -60,7 +59,7 @@ fn with_plan(verb: u8, plan: &[u8]) {
 
 fn with_file(verb: u8, file: &[u8]) {
     let mut list = input::list_room();
-    let l = lists::load(verbs::list_at(verb), &mut list);
+    let l = entries::load(verbs::list_at(verb), &mut list);
     if !l.good {
         return;
     }
@@ -83,19 +82,26 @@ fn asked(verb: u8) {
     with_plan(verb, &file[..n]);
 }
 
-fn main() {
-    if args::is(1, b"help") {
+// The answer to a command whose first word after the program's name is `word`.
+fn answer(word: &[u8], count: usize) {
+    if check::same(word, b"help") {
         help::page();
         return;
     }
-    if args::is(1, b"demo") {
+    if check::same(word, b"demo") {
         demo::run();
         return;
     }
-    let verb = verbs::given();
-    if verbs::fits(verb) {
+    let verb = verbs::named(word, count);
+    if verbs::fits(verb, count) {
         asked(verb);
         return;
     }
     help::usage(verb);
+}
+
+fn main() {
+    let mut word = io::buffer();
+    let n = os::arg(1, &mut word);
+    answer(&word[..n], os::arg_count());
 }

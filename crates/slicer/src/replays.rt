@@ -7,8 +7,8 @@ pub fn answer(file: &[u8], list: &[u16]) {
     let mut marking = [0u64; 1024];
     let o = nesfoal::replays::replay(file, list, &mut marking);
     match o {
-        Outcome::Fired => replays::fired(list.len(), &marking, replays::places(file)),
+        Outcome::Fired => replays::fired(list.len(), &marking, blame::numbers::places(file)),
         Outcome::Stuck(i, p) => replays::stuck(list, i, p),
-        Outcome::Refused(n) => refusal::one(n, b"file"),
+        Outcome::Refused(n) => refusal::one(n, b"file", file, list),
     }
 }

@@ -11,7 +11,7 @@ pub fn answer(plan: &[u8], slice: &[u8], criterion: &[u16]) {
         return;
     }
     if code < 100 {
-        refusal::two(code, plan);
+        refusal::two(code, plan, slice, criterion);
         return;
     }
     rules::broken(code, checker::number(v));

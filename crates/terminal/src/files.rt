@@ -1,5 +1,6 @@
 // Files, read whole and written whole.
 ghost use Rattle.io.specs.Counts.{Counts};
+ghost use Rattle.terminal.specs.Names.{Beside};
 use crate::say;
 
 // How many entries were loaded, where that went well.
@@ -79,7 +80,7 @@ pub fn load(i: usize, to: &mut [u8]) -> Loaded
 
 // Puts a dot and six X after the first n bytes of a name, and answers how many bytes that is; 0 where they do not fit.
 fn beside(name: &mut [u8], n: usize) -> usize
-    ensures { λ r. ⌜ Counts r (now (name .exit)) ⌝ }
+    ensures { λ r. ⌜ Beside (now (name .entry)) (now (name .exit)) n r ⌝ }
 {
     if 4088 < n {
         return 0;

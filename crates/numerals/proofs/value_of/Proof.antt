@@ -7,7 +7,7 @@ use native.Mathlib.Omega.{arith}
 use native.Mathlib.Numerals.{add-one}
 use lib.ListN.{length, drop, getD, drop-of-length-le}
 use lib.Seq.{drop-cons}
-use Rattle.numerals.specs.Decimal.{more, valueFrom}
+use Rattle.numerals.specs.Counting.{more, valueFrom}
 use Rattle.numerals.proofs.value_of.Statement.{statement}
 use Rattle.numerals.proofs.value_of.Tie as tie
 

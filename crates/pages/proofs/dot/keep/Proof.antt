@@ -1,4 +1,9 @@
-use Prim.Native.Nat.{_-_}
+use Prim.Native.Nat.{_+_, _*_, _-_}
+use mathlib.Core.Path.{_≡_}
+use lib.ListN.{length}
+use Rattle.file.specs.Layout.{wordsFrom}
+use Rattle.pages.specs.Shades.{shaded}
+use Rattle.pages.proofs.Shading.{words-first, word-on, words-end}
 use borrow.Author.Needs.{needs}
 use Rattle.pages.proofs.dot.keep.Statement.{statement}
 use Rattle.pages.proofs.dot.keep.Tie as tie
@@ -8,14 +13,16 @@ use Rattle.file.proofs.word.get16.Reads as get16-reads
 use Rattle.pages.proofs.dot.set.Reads as set-reads
 
 abbrev Inv-loop : tie.InvT-loop
-Inv-loop file start count shades₀ i₀ shades i = Unit {0}
+Inv-loop file start count shades₀ i₀ shades i =
+    (length shades ≡ length shades₀)
+    × (shaded 1 (wordsFrom file start count) shades₀ ≡ shaded 1 (wordsFrom file (start + 2 * i) (count - i)) shades)
 
 abbrev μ-loop : tie.MeasureT-loop
 μ-loop file start count shades₀ i₀ shades i = count - i
 
 -- src/dot.rt:28:5
 loop-holds : tie.Need-loop-holds Inv-loop μ-loop
-loop-holds c = search needs
+loop-holds c = (search needs, words-first 1 _ _ _ _)
 
 -- src/dot.rt:29:53
 mul-get16 : tie.Need-mul-get16 Inv-loop μ-loop
@@ -43,11 +50,14 @@ loop-less c = search needs
 
 -- src/dot.rt:28:5
 loop-again : tie.Need-loop-again Inv-loop μ-loop
-loop-again c = search needs
+loop-again c = (search needs, word-on 1 _ _ _ _ _ _ (c .before .before .before .before .before .before .loop .inv .1) (c .before .before .before .before .before .loop-test .taken) _ (c .before .before .before .get16 .ensures .0) _ (c .before .before .set .ensures))
 
 -- src/dot.rt:24:1
+same-length : tie.Need-same-length Inv-loop μ-loop
+same-length c = search needs
+
 returns : tie.Need-returns Inv-loop μ-loop
-returns c = search needs
+returns c = words-end 1 _ _ _ _ _ _ (c .before .loop .inv .1) (c .loop-test .left)
 
 pub keep-spec : {M : Type 1} → statement M
 keep-spec =
@@ -63,4 +73,5 @@ keep-spec =
     add-i
     loop-less
     loop-again
+    same-length
     returns)

@@ -10,7 +10,7 @@ use Rattle.pages.proofs.dot.two.Lts as lts
 use Rattle.file.proofs.number.Reads as number-reads
 use Rattle.file.proofs.read.Reads as read-reads
 use Rattle.pages.proofs.dot.drawn.Reads as drawn-reads
-use Rattle.words.proofs.refusal.one.Reads as one-reads
+use Rattle.words.proofs.refusal.of_file.Reads as of-file-reads
 
 -- what is known of the two files from here on
 plan-at : (c : tie.After-first) → Opened due.Plan (c .before .before .before .before .before .before .args .plan .now) (c .first .given .0 .0)
@@ -36,12 +36,12 @@ number-requires : tie.Need-number-requires
 number-requires c κs = search needs
 
 -- src/dot.rt:109:43
-slice-aggregate-one : tie.Need-slice-aggregate-one
-slice-aggregate-one c = search needs
+slice-aggregate-of-file : tie.Need-slice-aggregate-of-file
+slice-aggregate-of-file c = search needs
 
 -- src/dot.rt:109:9
-one-requires : tie.Need-one-requires
-one-requires c κs = search needs
+of-file-requires : tie.Need-of-file-requires
+of-file-requires c κs = search needs
 
 -- src/dot.rt:110:9
 returns : tie.Need-returns
@@ -64,12 +64,12 @@ number-requires-2 : tie.Need-number-requires-2
 number-requires-2 c κs = search needs
 
 -- src/dot.rt:114:44
-slice-aggregate-one-2 : tie.Need-slice-aggregate-one-2
-slice-aggregate-one-2 c = search needs
+slice-aggregate-of-file-2 : tie.Need-slice-aggregate-of-file-2
+slice-aggregate-of-file-2 c = search needs
 
 -- src/dot.rt:114:9
-one-requires-2 : tie.Need-one-requires-2
-one-requires-2 c κs = search needs
+of-file-requires-2 : tie.Need-of-file-requires-2
+of-file-requires-2 c κs = search needs
 
 -- src/dot.rt:115:9
 returns-2 : tie.Need-returns-2
@@ -93,15 +93,15 @@ two-spec =
     enum-known-first
     enum-told
     number-requires
-    slice-aggregate-one
-    one-requires
+    slice-aggregate-of-file
+    of-file-requires
     returns
     read-requires-2
     enum-known-second
     enum-told-2
     number-requires-2
-    slice-aggregate-one-2
-    one-requires-2
+    slice-aggregate-of-file-2
+    of-file-requires-2
     returns-2
     drawn-requires
     returns-3)

@@ -8,7 +8,7 @@ use Rattle.pages.proofs.show.answer.Reads as reads
 use Rattle.pages.proofs.show.answer.Lts as lts
 use Rattle.file.proofs.number.Reads as number-reads
 use Rattle.file.proofs.read.Reads as read-reads
-use Rattle.words.proofs.refusal.one.Reads as one-reads
+use Rattle.words.proofs.refusal.of_file.Reads as of-file-reads
 use Rattle.pages.proofs.show.lines.Reads as lines-reads
 
 -- what is known of the file from here on
@@ -32,12 +32,12 @@ number-requires : tie.Need-number-requires
 number-requires c κs = search needs
 
 -- src/show.rt:119:43
-slice-aggregate-one : tie.Need-slice-aggregate-one
-slice-aggregate-one c = search needs
+slice-aggregate-of-file : tie.Need-slice-aggregate-of-file
+slice-aggregate-of-file c = search needs
 
 -- src/show.rt:119:9
-one-requires : tie.Need-one-requires
-one-requires c κs = search needs
+of-file-requires : tie.Need-of-file-requires
+of-file-requires c κs = search needs
 
 -- src/show.rt:120:9
 returns : tie.Need-returns
@@ -59,8 +59,8 @@ answer-spec =
     enum-known-whole
     enum-told
     number-requires
-    slice-aggregate-one
-    one-requires
+    slice-aggregate-of-file
+    of-file-requires
     returns
     lines-requires
     returns-2)

@@ -1,4 +1,6 @@
+use mathlib.Core.Path.{_≡_, refl}
 use native.Mathlib.Omega.{arith}
+use borrow.Author.Tests.{lt-ltb, le-ltb}
 use lib.ListN.{length-set}
 use Rattle.io.proofs.Counting.{counts}
 use borrow.Author.Needs.{needs}
@@ -9,11 +11,16 @@ use Rattle.terminal.proofs.files.beside.Lts as lts
 
 -- src/files.rt:85:9
 returns : tie.Need-returns
-returns c = search needs
+returns c = record { length = simp (lt-ltb _ _ (c .if1 .taken)); name = simp (lt-ltb _ _ (c .if1 .taken)); counts = search needs }
 
 -- src/files.rt:88:9
 returns-2 : tie.Need-returns-2
-returns-2 c = search needs
+returns-2 c =
+    record {
+      length = simp (le-ltb _ _ (c .before .if1 .left), lt-ltb _ _ (c .if2 .taken));
+      name = simp (le-ltb _ _ (c .before .if1 .left), lt-ltb _ _ (c .if2 .taken));
+      counts = search needs;
+    }
 
 -- src/files.rt:90:5
 slice-write-name : tie.Need-slice-write-name
@@ -77,7 +84,12 @@ same-length c = search needs
 
 -- src/files.rt:81:1
 returns-3 : tie.Need-returns-3
-returns-3 c = counts _ _ (simp length-set (omega arith))
+returns-3 c =
+    record {
+      length = simp (le-ltb _ _ (c .before .if1 .left), le-ltb _ _ (c .if2 .left));
+      name = simp (le-ltb _ _ (c .before .if1 .left), le-ltb _ _ (c .if2 .left));
+      counts = counts _ _ (simp length-set (omega arith));
+    }
 
 pub beside-spec : {M : Type 1} → statement M
 beside-spec =

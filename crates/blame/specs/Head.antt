@@ -1,0 +1,23 @@
+-- The header of a file that may be refused further on, and a count that a test stops. Assumes nothing.
+use Prim.Native.Nat.{ℕ, suc}
+use mathlib.Core.Bool.{Bool, true, false}
+use mathlib.Core.List.{List}
+use lib.ListN.{length}
+use Rattle.file.specs.Layout.{trailerOf, headerOf}
+use Rattle.file.specs.Refusal.{refuse, lengthWrong, trailerRefusal}
+use Rattle.file.specs.Reading.{answer}
+use Rattle.file.specs.declared.Due.the-variants.{Either}
+use Rattle.file.specs.declared.Reading.{Reading}
+
+-- refusals 1 to 5, for a file of either kind
+unfoldable pub headRefusal : List ℕ → ℕ
+headRefusal s = refuse (lengthWrong (length s)) 1 (trailerRefusal Either (length s) (trailerOf s))
+
+-- the header by the length and the trailer alone, whatever the body holds
+unfoldable pub heading : List ℕ → Reading
+heading s = answer (headRefusal s) (headerOf s)
+
+-- a count goes on, unless the test stops it
+abbrev pub unless : Bool → ℕ → ℕ
+unless true n = 0
+unless false n = suc n

@@ -1,0 +1,4 @@
+pub mod Head
+pub mod Arcs
+pub mod Origins
+pub mod Numbers

@@ -1,0 +1,89 @@
+// Which arc breaks refusal 6 or 7.
+ghost use mathlib.Core.Path.{_≡_};
+ghost use mathlib.Core.Bool.{_||_};
+ghost use Prim.Native.Nat.{_+_, _*_, _≤_, _<_, _^_};
+ghost use lib.Dec.{ltb};
+ghost use lib.ListN.{length};
+ghost use Rattle.file.specs.Facts.{ArcSmall};
+ghost use Rattle.file.specs.Refusal.{arcWrong, key};
+ghost use Rattle.blame.specs.Head.{heading};
+ghost use Rattle.blame.specs.Arcs.{arcsPassed, arcOf};
+use crate::head::head;
+use file::Reading;
+use file::word::get8;
+use net::Arc;
+
+// An arc by its index in the file, with its zero byte.
+pub struct BadArc {
+    pub index: usize,
+    pub arc: Arc,
+    pub spare: usize,
+}
+
+// Arcs are ordered by this number.
+fn order(a: Arc) -> usize
+    requires { ⌜ ArcSmall a ⌝ }
+    ensures { λ r. ⌜ (r ≡ key a) × (r < 2 ^ 40) ⌝ }
+{
+    131072 * a.transition + 65536 * a.direction + a.place
+}
+
+// Is a field out of range?
+fn wrong(a: Arc, spare: usize, places: usize, transitions: usize) -> bool
+    ensures { λ r. ⌜ r ≡ arcWrong places transitions a spare ⌝ }
+{
+    (spare != 0)
+        | (1 < a.direction)
+        | (places <= a.place)
+        | (transitions <= a.transition)
+        | (a.weight == 0)
+}
+
+// How many of `count` arcs from `start` on pass before the first that is turned back.
+fn passed(file: &[u8], places: usize, transitions: usize, start: usize, count: usize) -> usize
+    requires { ⌜ start + 8 * count ≤ length (now file) ⌝ }
+    ensures { λ r. ⌜ (r ≡ arcsPassed (now (file .entry)) places transitions start 0 count) × (r ≤ count) ⌝ }
+{
+    let mut at = start;
+    let mut least: usize = 0;
+    let mut k: usize = 0;
+    while k < count {
+        let a = file::arcs::arc(file, at);
+        let key = order(a);
+        if wrong(a, get8(file, at + 3), places, transitions) | (key < least) {
+            return k;
+        }
+        least = key + 1;
+        at += 8;
+        k += 1;
+    }
+    k
+}
+
+// The first arc of a file that is turned back; where none is, what stands after the arcs.
+pub fn first(file: &[u8]) -> BadArc
+    ensures { λ r. ⌜ r ≡ arcOf (now (file .entry)) (heading (now (file .entry))) ⌝ }
+{
+    let whole = head(file);
+    let Reading::Whole(h) = whole else {
+        return BadArc {
+            index: 0,
+            arc: Arc {
+                transition: 0,
+                direction: 0,
+                place: 0,
+                weight: 0,
+            },
+            spare: 0,
+        };
+    };
+    let k = passed(file, h.places, h.transitions, h.arcstart, h.arcs);
+    let at = h.arcstart + 8 * k;
+    let arc = file::arcs::arc(file, at);
+    let spare = get8(file, at + 3);
+    BadArc {
+        index: k,
+        arc,
+        spare,
+    }
+}

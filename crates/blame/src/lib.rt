@@ -1,0 +1,5 @@
+// Where a refusal stands: which arc, which origin, which number of a criterion or a list. For the program's sentences; decides nothing.
+pub mod arcs;
+pub mod head;
+pub mod numbers;
+pub mod origins;
