@@ -15,7 +15,9 @@ use Rattle.net.proofs.Numbers.{by-order}
 use Rattle.file.specs.Layout.{arcAt, arcsFrom, netFrom}
 use Rattle.file.specs.Facts.{InRange, Sound}
 use Rattle.file.specs.declared.Header.{Header}
-use Rattle.starts.specs.Table.{slotOf, numberBelow, Split}
+use Rattle.starts.specs.Table.{slotOf, slotAt, numberBelow, Split}
+use Rattle.file.proofs.Rows.{key-less}
+use native.Mathlib.Decide.{decLt}
 use Rattle.starts.proofs.Reached.{number-below, good-at}
 use Rattle.gain.specs.Gain.{sumTo}
 use Rattle.gain.proofs.Weights.{weight-run, rising}
@@ -56,6 +58,15 @@ module _ (s : List ℕ) (h : Header) (w : Sound s h) (t : ℕ) where
   ways : (i : ℕ) → i < h .arcs → arcAt s (h .arcstart + 8 * i) .direction ≤ 1
   ways i l = good-at s h w i l .direction
 
+  -- arcs with the same slot rise by their places
+  places-rise : (k i j : ℕ) → i ≤ j → j < h .arcs → slotAt s (h .arcstart) i ≡ k → slotAt s (h .arcstart) j ≡ k → arcAt s (h .arcstart + 8 * i) .place ≤ arcAt s (h .arcstart + 8 * j) .place
+  unfolding slotAt
+  places-rise k i j l m e f = go (decLt i j)
+    where
+      go : Dec (i < j) → arcAt s (h .arcstart + 8 * i) .place ≤ arcAt s (h .arcstart + 8 * j) .place
+      go (yes q) = omega (arith, e, f, key-less s (h .arcstart) 0 (h .arcs) i j (w .order) q m)
+      go (no q) = let z : i ≡ j = omega (arith, q, l) in omega (arith, ap (λ (x : ℕ). arcAt s (h .arcstart + 8 * x) .place) z)
+
   module _ (a b c : ℕ) (low : Cuts (2 * t) a) (middle : Cuts (2 * t + 1) b) (high : Cuts (2 * t + 2) c) where
     low₀ : Cuts (2 * t + 0) a
     low₀ = subst (λ (k : ℕ). Cuts k a) (let e : 2 * t ≡ 2 * t + 0 = omega arith in e) low
@@ -71,6 +82,9 @@ module _ (s : List ℕ) (h : Header) (w : Sound s h) (t : ℕ) where
       rising = rising 0 0 t s (h .arcstart) (h .arcs) a b (omega arith) ways low₀ middle₀;
       few = omega (arith, middle .within, w .placed .arcs);
       fit = omega (arith, middle .within, w .placed .arcsFit, w .placed .originsFit);
+      order = λ i j f l m.
+          places-rise (2 * t) i j l (omega (arith, m, middle .within)) (omega (arith, low .above i f (omega (arith, l, m, middle .within)), middle .below i (omega (arith, l, m))))
+          (omega (arith, low .above j (omega (arith, f, l)) (omega (arith, m, middle .within)), middle .below j m));
     }
 
     pub outputs-in : Within s (h .arcstart) b c
@@ -78,6 +92,9 @@ module _ (s : List ℕ) (h : Header) (w : Sound s h) (t : ℕ) where
       rising = rising 1 0 t s (h .arcstart) (h .arcs) b c (omega arith) ways middle high₀;
       few = omega (arith, high .within, w .placed .arcs);
       fit = omega (arith, high .within, w .placed .arcsFit, w .placed .originsFit);
+      order = λ i j f l m.
+          places-rise (2 * t + 1) i j l (omega (arith, m, high .within)) (omega (arith, middle .above i f (omega (arith, l, m, high .within)), high .below i (omega (arith, l, m))))
+          (omega (arith, middle .above j (omega (arith, f, l)) (omega (arith, m, high .within)), high .below j m));
     }
 
     -- the two sums are in(p,t) and out(p,t)

@@ -3,19 +3,31 @@ ghost use mathlib.Core.Path.{_≡_};
 ghost use Prim.Native.Nat.{_+_, _*_, _<_, _≤_, _^_};
 ghost use lib.ListN.{length};
 ghost use lib.IntN.{pos, _-ℤ_};
-ghost use Rattle.net.specs.Net.{counted, effect as effectOn};
+ghost use Rattle.net.specs.Net.{effect as effectOn};
 ghost use Rattle.gain.specs.Gain.{sumTo};
 ghost use Rattle.file.specs.Facts.{Sound};
 ghost use Rattle.file.specs.Layout.{netFrom};
-ghost use Rattle.firing.specs.Runs.{Within, PartOf, runOf};
+ghost use Rattle.firing.specs.Runs.{Within, FromPlace, PartOf, runOf};
 use file::Header;
 use starts::first_from;
 
-// n where ok, else 0.
-fn counted(ok: bool, n: usize) -> usize
-    ensures { λ r. ⌜ (r ≡ counted ok n) × (r ≤ n) ⌝ }
+// The first of the arcs `from` to `to` whose place is not below the place, by halving: they are of one transition and one direction.
+fn place_from(file: &[u8], start: usize, from: usize, to: usize, place: usize) -> usize
+    requires { ⌜ Within (now file) start from to ⌝ }
+    ensures { λ r. ⌜ FromPlace (now (file .entry)) start from to place r ⌝ }
 {
-    if ok { n } else { 0 }
+    let mut low = from;
+    let mut high = to;
+    while low < high {
+        let middle = (low + high) / 2;
+        let a = file::arcs::arc(file, start + 8 * middle);
+        if a.place < place {
+            low = middle + 1;
+        } else {
+            high = middle;
+        }
+    }
+    low
 }
 
 // The weights of the arcs `from` to `to` that are at the place, added up.
@@ -24,10 +36,13 @@ fn weight(file: &[u8], start: usize, from: usize, to: usize, place: usize) -> us
     ensures { λ r. ⌜ (sumTo (now (file .entry)) start place from + r ≡ sumTo (now (file .entry)) start place to) × (r ≤ 268431360) ⌝ }
 {
     let mut sum: usize = 0;
-    let mut j = from;
+    let mut j = place_from(file, start, from, to, place);
     while j < to {
         let a = file::arcs::arc(file, start + 8 * j);
-        sum += counted(a.place == place, a.weight);
+        if a.place != place {
+            return sum;
+        }
+        sum += a.weight;
         j += 1;
     }
     sum
