@@ -29,12 +29,12 @@ share-run d p t a e f g =
     let k : a .direction ≡ d = omega arith in
     rw (eq-eqb (a .transition) t h, eq-eqb (a .direction) d k)
 
-weight-none : (d p t : ℕ) (s : List ℕ) (at : ℕ) → weightOn d p t (arcsFrom s at 0) ≡ 0
+pub weight-none : (d p t : ℕ) (s : List ℕ) (at : ℕ) → weightOn d p t (arcsFrom s at 0) ≡ 0
 unfolding weightOn arcsFrom
 weight-none d p t s at = refl
 
 -- one arc more at the end
-weight-next : (d p t : ℕ) (s : List ℕ) (at j : ℕ) → weightOn d p t (arcsFrom s at (suc j)) ≡ weightOn d p t (arcsFrom s at j) + counted (joins d p t (arcAt s (at + 8 * j))) (arcAt s (at + 8 * j) .weight)
+pub weight-next : (d p t : ℕ) (s : List ℕ) (at j : ℕ) → weightOn d p t (arcsFrom s at (suc j)) ≡ weightOn d p t (arcsFrom s at j) + counted (joins d p t (arcAt s (at + 8 * j))) (arcAt s (at + 8 * j) .weight)
 unfolding weightOn arcsFrom
 weight-next d p t s at zero =
     let e : at ≡ at + 8 * 0 = omega arith in

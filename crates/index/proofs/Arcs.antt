@@ -17,20 +17,7 @@ use Rattle.file.proofs.Bytes.{le16-lt}
 use Rattle.net.specs.declared.Arc.{Arc}
 use Rattle.starts.specs.Table.{slotOf, slotAt, Split}
 use Rattle.starts.proofs.Reached.{range-at}
-
--- one arc more at the end
-weight-next : (d p t : ℕ) (s : List ℕ) (at j : ℕ) → weightOn d p t (arcsFrom s at (suc j)) ≡ weightOn d p t (arcsFrom s at j) + counted (joins d p t (arcAt s (at + 8 * j))) (arcAt s (at + 8 * j) .weight)
-unfolding weightOn arcsFrom
-weight-next d p t s at zero =
-    let e : at ≡ at + 8 * 0 = omega arith in
-    omega (arith, ap (λ (k : ℕ). counted (joins d p t (arcAt s k)) (arcAt s k .weight)) e)
-weight-next d p t s at (suc j) =
-    let e : at + 8 + 8 * j ≡ at + 8 * suc j = omega arith in
-    omega (arith, weight-next d p t s (at + 8) j, ap (λ (k : ℕ). counted (joins d p t (arcAt s k)) (arcAt s k .weight)) e)
-
-weight-none : (d p t : ℕ) (s : List ℕ) (at : ℕ) → weightOn d p t (arcsFrom s at 0) ≡ 0
-unfolding weightOn arcsFrom
-weight-none d p t s at = refl
+use Rattle.gain.proofs.Weights.{weight-none, weight-next}
 
 -- arc i of those that start at `start` joins p and t in direction d
 pub record Joins (d p t : ℕ) (s : List ℕ) (start i : ℕ) : Type 0 where
@@ -96,16 +83,6 @@ weight-le d p t s b start (suc n) =
 module _ (s : List ℕ) (h : Header) (sound : Sound s h) where
   pub good-at : (i : ℕ) → i < h .arcs → ArcGood (h .places) (h .transitions) (arcAt s (h .arcstart + 8 * i))
   good-at i l = range-at (h .places) (h .transitions) s (h .arcstart) (h .arcs) i (sound .arcs) l
-
-  -- there is no weight at a number that is no place
-  pub weight-outside : (d p t : ℕ) → h .places ≤ p → weightOn d p t (netFrom s h .arcs) ≡ 0
-  weight-outside d p t l = go (ℕ-discrete (weightOn d p t (netFrom s h .arcs)) 0)
-    where
-      go : Dec (weightOn d p t (netFrom s h .arcs) ≡ 0) → weightOn d p t (netFrom s h .arcs) ≡ 0
-      go (yes e) = e
-      go (no e) =
-          let j = has-arc d p t s (h .arcstart) (h .arcs) (omega arith) in
-          absurd (omega (arith, j .joins-it .place, good-at (j .at) (j .below) .place))
 
   -- the arcs of t in direction d stand between two starts
   module _ (d t b e : ℕ) (dl : d ≤ 1) (low : Split s (h .arcstart) (h .arcs) (2 * t + d) b) (high : Split s (h .arcstart) (h .arcs) (2 * t + d + 1) e) where

@@ -1,3 +1,4 @@
 pub mod Arcs
+pub mod Sums
 pub mod Linking
 pub mod Runs

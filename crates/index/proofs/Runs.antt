@@ -2,7 +2,7 @@
 use Prim.Native.Nat.{ℕ, zero, suc, _+_, _*_, _-_, _≤_, _<_}
 use mathlib.Core.Bool.{Bool}
 use mathlib.Core.List.{List}
-use mathlib.Core.Logic.{_⊎_, inl, inr}
+use mathlib.Core.Logic.{_⊎_, inl, inr, _≢_}
 use mathlib.Core.Path.{_≡_, refl, sym, ap, _∙_, subst}
 use native.Mathlib.Omega.{arith}
 use native.Mathlib.Decide.{ℕ-discrete, decLt}
@@ -14,135 +14,103 @@ use Rattle.file.specs.Layout.{arcAt, netFrom}
 use Rattle.file.specs.Facts.{Sound}
 use Rattle.file.specs.declared.Header.{Header}
 use Rattle.starts.specs.Table.{slotOf, slotAt, Split}
-use Rattle.gain.specs.Gain.{sumTo, pulls, Run, Takes, Gives, Rested}
-use Rattle.gain.proofs.Weights.{rising, weight-run}
+use Rattle.gain.specs.Gain.{pulls, Rested}
 use Rattle.index.specs.Rows
-use Rattle.index.proofs.Arcs.{good-at, weight-outside, weight-le, has-arc, joins-in}
+use Rattle.index.proofs.Arcs.{good-at, weight-le, has-arc}
+use Rattle.index.proofs.Sums.{sum-run}
 
--- the inputs of t stand from b to m, its outputs from m to e
-pub record Stretch (s : List ℕ) (h : Header) (t b m e : ℕ) : Type 0 where
+-- the arcs of t stand from b to e
+pub record Stretch (s : List ℕ) (h : Header) (t b e : ℕ) : Type 0 where
   pub bytes : Bytes s
   pub sound : Sound s h
-  pub inputs : Split s (h .arcstart) (h .arcs) (2 * t) b
-  pub outputs : Split s (h .arcstart) (h .arcs) (2 * t + 1) m
+  pub start : Split s (h .arcstart) (h .arcs) (2 * t) b
   pub end : Split s (h .arcstart) (h .arcs) (2 * t + 2) e
 
-module _ (s : List ℕ) (h : Header) (t b m e : ℕ) (r : Stretch s h t b m e) where
-  sound : Sound s h
-  sound = r .sound
-
-  sb : Split s (h .arcstart) (h .arcs) (2 * t) b
-  sb = r .inputs
-
-  sm : Split s (h .arcstart) (h .arcs) (2 * t + 1) m
-  sm = r .outputs
-
-  se : Split s (h .arcstart) (h .arcs) (2 * t + 2) e
-  se = r .end
-
+module _ (s : List ℕ) (h : Header) (t b e : ℕ) (r : Stretch s h t b e) where
   ways : (i : ℕ) → i < h .arcs → arcAt s (h .arcstart + 8 * i) .direction ≤ 1
-  ways i l = good-at s h sound i l .direction
+  ways i l = good-at s h (r .sound) i l .direction
 
-  in-low : Split s (h .arcstart) (h .arcs) (2 * t + 0) b
-  in-low = let q : 2 * t ≡ 2 * t + 0 = omega arith in subst (λ (k : ℕ). Split s (h .arcstart) (h .arcs) k b) q sb
+  pub rises : b ≤ e
+  unfolding slotAt
+  rises = go (decLt e b)
+    where
+      go : Dec (e < b) → b ≤ e
+      go (yes l) = absurd (omega (arith, r .start .below e l, r .end .above e (omega arith) (omega (arith, r .start .within))))
+      go (no l) = omega arith
 
-  in-high : Split s (h .arcstart) (h .arcs) (2 * t + 0 + 1) m
-  in-high = let q : 2 * t + 1 ≡ 2 * t + 0 + 1 = omega arith in subst (λ (k : ℕ). Split s (h .arcstart) (h .arcs) k m) q sm
-
-  out-high : Split s (h .arcstart) (h .arcs) (2 * t + 1 + 1) e
-  out-high = let q : 2 * t + 2 ≡ 2 * t + 1 + 1 = omega arith in subst (λ (k : ℕ). Split s (h .arcstart) (h .arcs) k e) q se
-
-  one : 1 ≤ 1
-  one = omega arith
-
-  none : 0 ≤ 1
-  none = omega arith
-
-  pub inputs-rise : b ≤ m
-  inputs-rise = rising 0 0 t s (h .arcstart) (h .arcs) b m none ways in-low in-high
-
-  pub outputs-rise : m ≤ e
-  outputs-rise = rising 1 0 t s (h .arcstart) (h .arcs) m e one ways sm out-high
-
-  in-run : (p : ℕ) → sumTo s (h .arcstart) p m ≡ sumTo s (h .arcstart) p b + weightOn 0 p t (netFrom s h .arcs)
-  in-run p = weight-run 0 p t s (h .arcstart) (h .arcs) b m none ways in-low in-high
-
-  out-run : (p : ℕ) → sumTo s (h .arcstart) p e ≡ sumTo s (h .arcstart) p m + weightOn 1 p t (netFrom s h .arcs)
-  out-run p = weight-run 1 p t s (h .arcstart) (h .arcs) m e one ways sm out-high
-
-  small : (d p : ℕ) → weightOn d p t (netFrom s h .arcs) ≤ 268431360
-  small d p = omega (arith, weight-le d p t s (r .bytes) (h .arcstart) (h .arcs), sound .placed .arcs)
+  earlier : (i : ℕ) → i < b → Rows.transitionAt s (h .arcstart) i ≢ t
+  unfolding slotAt
+  earlier i l q = omega (arith, q, r .start .below i l)
 
   pub own : (i : ℕ) → b ≤ i → i < e → Rows.transitionAt s (h .arcstart) i ≡ t
   unfolding slotAt
-  own i l k = omega (arith, sb .above i l (omega (arith, se .within)), se .below i k, ways i (omega (arith, se .within)))
+  own i l k = omega (arith, r .start .above i l (omega (arith, r .end .within)), r .end .below i k, ways i (omega (arith, r .end .within)))
 
-  run : (from to P : ℕ) → h .places ≤ P → from ≤ to → to ≤ h .arcs → Run s (h .arcstart) from to P
-  run from to P l k j = record {
-    rising = k;
-    fit = omega (arith, sound .placed .arcsFit, sound .placed .originsFit);
-    short = sound .placed .short;
-    places = λ i a. omega (arith, good-at s h sound i (omega arith) .place);
-  }
+  later : (i : ℕ) → e ≤ i → i < h .arcs → Rows.transitionAt s (h .arcstart) i ≢ t
+  unfolding slotAt
+  later i l k q = omega (arith, q, r .end .above i l k, ways i k)
+
+  -- an arc of t is one of them
+  in-run : (i : ℕ) → i < h .arcs → Rows.transitionAt s (h .arcstart) i ≡ t → (b ≤ i) × (i < e)
+  in-run i l q = (from (decLt i b), to (decLt i e))
+    where
+      from : Dec (i < b) → b ≤ i
+      from (yes k) = absurd (earlier i k q)
+      from (no k) = omega arith
+
+      to : Dec (i < e) → i < e
+      to (yes k) = k
+      to (no k) = absurd (later i (omega arith) l q)
+
+  sums : (d p : ℕ) → Rows.sumOn d s (h .arcstart) p e ≡ Rows.sumOn d s (h .arcstart) p b + weightOn d p t (netFrom s h .arcs)
+  sums d p = sum-run d p t s (h .arcstart) (h .arcs) b e earlier own later rises (r .end .within)
+
+  small : (d p : ℕ) → weightOn d p t (netFrom s h .arcs) ≤ 268431360
+  small d p = omega (arith, weight-le d p t s (r .bytes) (h .arcstart) (h .arcs), r .sound .placed .arcs)
 
   module _ (column : List ℕ) (long : h .places ≤ length column) (rest : Rows.AtRest column) where
-    pub take-run : Run s (h .arcstart) b m (length column)
-    take-run = run b m (length column) long inputs-rise (sm .within)
+    pub shiftable : Rows.Shiftable s (h .arcstart) b e column
+    shiftable = record {
+      run = record {
+        rising = rises;
+        fit = omega (arith, r .end .within, r .sound .placed .arcsFit, r .sound .placed .originsFit);
+        short = r .sound .placed .short;
+        places = λ i l. omega (arith, good-at s h (r .sound) i (omega (arith, r .end .within)) .place);
+      };
+      ways = λ i l. ways i (omega (arith, r .end .within));
+      rest = rest;
+      small = λ d p. omega (arith, sums d p, small d p);
+    }
 
-    stands : (p : ℕ) → Dec (p < length column) → (getD column p 0 ≡ 1073741824) ⊎ ((getD column p 0 ≡ 0) × (h .places ≤ p))
-    stands p (yes l) = inl (rest p l)
-    stands p (no l) = inr (List·getD-eq-default column 0 {n = p} (omega arith), omega arith)
+    module _ (now : List ℕ) (x : Rows.Shifted s (h .arcstart) b e column now) where
+      -- the column tells the effect
+      effect-at : (p : ℕ) → p < length column → getD now p 0 + weightOn 0 p t (netFrom s h .arcs) ≡ 1073741824 + weightOn 1 p t (netFrom s h .arcs)
+      effect-at p l = omega (arith, x .at p l, sums 0 p, sums 1 p)
 
-    pub take-room : (p : ℕ) → sumTo s (h .arcstart) p m ≤ getD column p 0 + sumTo s (h .arcstart) p b
-    take-room p = go (stands p (decLt p (length column)))
-      where
-        go : (getD column p 0 ≡ 1073741824) ⊎ ((getD column p 0 ≡ 0) × (h .places ≤ p)) → sumTo s (h .arcstart) p m ≤ getD column p 0 + sumTo s (h .arcstart) p b
-        go (inl q) = omega (arith, in-run p, small 0 p)
-        go (inr q) = omega (arith, in-run p, weight-outside s h sound 0 p t (q .1))
+      pub agrees : (limit : List ℕ) → Rows.Agrees (Rows.drawsBy limit (netFrom s h)) s (h .arcstart) b e (h .places) t limit now
+      unfolding Rows.drawsBy input output
+      agrees limit = record {
+        places = λ i l. good-at s h (r .sound) i (omega (arith, r .end .within)) .place;
+        own = own;
+        tells = λ p l.
+            let q : 1073741824 + weightOn 1 p t (netFrom s h .arcs) - weightOn 0 p t (netFrom s h .arcs) ≡ getD now p 0 = omega (arith, effect-at p (omega arith)) in
+            ap (pulls (getD limit p 0)) q;
+      }
 
-    module _ (is : List ℕ) (x : Takes s (h .arcstart) b m column is) where
-      pub give-run : Run s (h .arcstart) m e (length is)
-      give-run = run m e (length is) (omega (arith, x .long)) outputs-rise (se .within)
-
-      pub give-room : (p : ℕ) → getD is p 0 + sumTo s (h .arcstart) p e < 4294967296 + sumTo s (h .arcstart) p m
-      give-room p = go (stands p (decLt p (length column)))
+      pub at-rest-again : (column′ : List ℕ) → Rested s (h .arcstart) b e now column′ → Rows.AtRest column′
+      at-rest-again column′ z p l = go (z .other p) (ℕ-discrete (weightOn 0 p t (netFrom s h .arcs)) 0) (ℕ-discrete (weightOn 1 p t (netFrom s h .arcs)) 0)
         where
-          go : (getD column p 0 ≡ 1073741824) ⊎ ((getD column p 0 ≡ 0) × (h .places ≤ p)) → getD is p 0 + sumTo s (h .arcstart) p e < 4294967296 + sumTo s (h .arcstart) p m
-          go (inl q) = omega (arith, in-run p, out-run p, small 0 p, small 1 p, x .at p)
-          go (inr q) = omega (arith, q .0, in-run p, out-run p, small 0 p, small 1 p, x .at p)
-
-      module _ (now : List ℕ) (y : Gives s (h .arcstart) m e is now) where
-        pub now-long : length now ≡ length column
-        now-long = y .long ∙ x .long
-
-        -- the column tells the effect
-        effect-at : (p : ℕ) → p < length column → getD now p 0 + weightOn 0 p t (netFrom s h .arcs) ≡ 1073741824 + weightOn 1 p t (netFrom s h .arcs)
-        effect-at p l = omega (arith, rest p l, x .at p, y .at p (omega (arith, x .long)), in-run p, out-run p)
-
-        pub agrees : (limit : List ℕ) → Rows.Agrees (Rows.drawsBy limit (netFrom s h)) s (h .arcstart) b e (h .places) t limit now
-        unfolding Rows.drawsBy input output
-        agrees limit = record {
-          places = λ i l. good-at s h sound i (omega (arith, se .within)) .place;
-          own = own;
-          tells = λ p l.
-              let q : 1073741824 + weightOn 1 p t (netFrom s h .arcs) - weightOn 0 p t (netFrom s h .arcs) ≡ getD now p 0 = omega (arith, effect-at p (omega arith)) in
-              ap (pulls (getD limit p 0)) q;
-        }
-
-        pub at-rest-again : (column′ : List ℕ) → Rested s (h .arcstart) b e now column′ → Rows.AtRest column′
-        at-rest-again column′ z p l = go (z .other p) (ℕ-discrete (weightOn 0 p t (netFrom s h .arcs)) 0) (ℕ-discrete (weightOn 1 p t (netFrom s h .arcs)) 0)
-          where
-            go : (getD column′ p 0 ≡ getD now p 0) ⊎ (getD column′ p 0 ≡ 1073741824) → Dec (weightOn 0 p t (netFrom s h .arcs) ≡ 0) → Dec (weightOn 1 p t (netFrom s h .arcs) ≡ 0) → getD column′ p 0 ≡ 1073741824
-            go (inr q) f g = q
-            go (inl q) (yes f) (yes g) = omega (arith, effect-at p (omega (arith, z .long, now-long)))
-            go (inl q) (yes f) (no g) =
-                let j = has-arc 1 p t s (h .arcstart) (h .arcs) (omega arith) in
-                let i = joins-in s h sound 1 t m e one sm out-high p (j .at) (j .below) (j .joins-it) in
-                ap (λ (k : ℕ). getD column′ k 0) (sym (j .joins-it .place)) ∙ z .here (j .at) (omega (arith, inputs-rise)) (i .1)
-            go (inl q) (no f) g =
-                let j = has-arc 0 p t s (h .arcstart) (h .arcs) (omega arith) in
-                let i = joins-in s h sound 0 t b m none in-low in-high p (j .at) (j .below) (j .joins-it) in
-                ap (λ (k : ℕ). getD column′ k 0) (sym (j .joins-it .place)) ∙ z .here (j .at) (i .0) (omega (arith, outputs-rise))
+          go : (getD column′ p 0 ≡ getD now p 0) ⊎ (getD column′ p 0 ≡ 1073741824) → Dec (weightOn 0 p t (netFrom s h .arcs) ≡ 0) → Dec (weightOn 1 p t (netFrom s h .arcs) ≡ 0) → getD column′ p 0 ≡ 1073741824
+          go (inr q) f g = q
+          go (inl q) (yes f) (yes g) = omega (arith, effect-at p (omega (arith, z .long, x .long)))
+          go (inl q) (yes f) (no g) =
+              let j = has-arc 1 p t s (h .arcstart) (h .arcs) (omega arith) in
+              let i = in-run (j .at) (j .below) (j .joins-it .transition) in
+              ap (λ (k : ℕ). getD column′ k 0) (sym (j .joins-it .place)) ∙ z .here (j .at) (i .0) (i .1)
+          go (inl q) (no f) g =
+              let j = has-arc 0 p t s (h .arcstart) (h .arcs) (omega arith) in
+              let i = in-run (j .at) (j .below) (j .joins-it .transition) in
+              ap (λ (k : ℕ). getD column′ k 0) (sym (j .joins-it .place)) ∙ z .here (j .at) (i .0) (i .1)
 
 -- ---- the first and the last start
 

@@ -1,16 +1,16 @@
 -- The arcs of each place that draw in their transition, linked. Assumes nothing.
-use Prim.Native.Nat.{ℕ, suc, _+_, _*_, _-_, _≤_, _<_}
-use mathlib.Core.Bool.{Bool}
+use Prim.Native.Nat.{ℕ, zero, suc, _+_, _*_, _-_, _≤_, _<_}
+use mathlib.Core.Bool.{Bool, _&&_}
 use mathlib.Core.List.{List}
 use mathlib.Core.Path.{_≡_}
-use lib.Dec.{T}
+use lib.Dec.{T, eqb}
 use lib.ListN.{length, getD, set}
-use Rattle.net.specs.Net.{Net, input, output}
+use Rattle.net.specs.Net.{Net, counted, input, output}
 use Rattle.file.specs.Layout.{arcAt, netFrom}
 use Rattle.file.specs.Facts.{Sound}
 use Rattle.file.specs.declared.Header.{Header}
 use Rattle.starts.specs.Table.{choose, Split}
-use Rattle.gain.specs.Gain.{pulls, pullsAt, Rested}
+use Rattle.gain.specs.Gain.{pulls, pullsAt, Run, Rested}
 
 -- the place of arc i of those that start at `start`
 abbrev pub placeAt : List ℕ → ℕ → ℕ → ℕ
@@ -53,6 +53,23 @@ pub record Room (s : List ℕ) (h : Header) (limit column head next : List ℕ) 
 pub record Starts (s : List ℕ) (h : Header) (table : List ℕ) : Type 0 where
   pub long : 2 * h .transitions < length table
   pub splits : (k : ℕ) → k ≤ 2 * h .transitions → Split s (h .arcstart) (h .arcs) k (getD table k 0)
+
+-- the weights of the first j arcs that are at p and go in direction d
+unfoldable pub sumOn : ℕ → List ℕ → ℕ → ℕ → ℕ → ℕ
+sumOn d s start p zero = 0
+sumOn d s start p (suc j) = sumOn d s start p j + counted (eqb (arcAt s (start + 8 * j) .direction) d && eqb (placeAt s start j) p) (arcAt s (start + 8 * j) .weight)
+
+-- arcs whose weights the columns at rest can be moved by
+pub record Shiftable (s : List ℕ) (start from to : ℕ) (column : List ℕ) : Type 0 where
+  pub run : Run s start from to (length column)
+  pub ways : (i : ℕ) → i < to → arcAt s (start + 8 * i) .direction ≤ 1
+  pub rest : AtRest column
+  pub small : (d p : ℕ) → sumOn d s start p to ≤ sumOn d s start p from + 268435456
+
+-- each column stands at 2 ^ 30, less what the arcs from..to take, and what they give more
+pub record Shifted (s : List ℕ) (start from to : ℕ) (was is : List ℕ) : Type 0 where
+  pub long : length is ≡ length was
+  pub at : (p : ℕ) → p < length was → getD is p 0 + sumOn 0 s start p to + sumOn 1 s start p from ≡ 1073741824 + sumOn 1 s start p to + sumOn 0 s start p from
 
 -- arc j is put in front of the rows of p where p draws in its transition, and p is put to rest
 pub record LinkedArc (p j : ℕ) (limit column head next column′ head′ next′ : List ℕ) : Type 0 where

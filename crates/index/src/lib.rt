@@ -5,7 +5,7 @@ ghost use lib.ListN.{length, getD};
 ghost use Rattle.file.specs.Layout.{netFrom};
 ghost use Rattle.starts.specs.Table.{choose};
 ghost use Rattle.gain.specs.Gain.{pulls};
-ghost use Rattle.index.specs.Rows.{placeAt, drawsBy, Rows, AtRest, Room, Starts, LinkedArc, LinkedRun};
+ghost use Rattle.index.specs.Rows.{placeAt, drawsBy, Rows, AtRest, Room, Starts, Shiftable, Shifted, LinkedArc, LinkedRun};
 use file::Header;
 use file::word::get16;
 
@@ -70,6 +70,31 @@ fn link(
     }
 }
 
+// A place's column after one arc: an input takes its weight out, an output puts it in.
+fn moved(g: u32, direction: usize, weight: usize) -> u32
+    requires { ⌜ (weight ≤ g) × (g + weight < 4294967296) ⌝ }
+    ensures { λ r. ⌜ (direction ≡ 0 → r + weight ≡ g) × ((direction ≡ 0 → ⊥) → r ≡ g + weight) ⌝ }
+{
+    if direction == 0 {
+        return g - weight as u32;
+    }
+    g + weight as u32
+}
+
+// Moves the column of each place by the weights of the arcs from `from` to `to`.
+fn shift(file: &[u8], start: usize, from: usize, to: usize, column: &mut [u32])
+    requires { ⌜ Shiftable (now file) start from to (now column) ⌝ }
+    ensures { λ _. ⌜ Shifted (now (file .entry)) start from to (now (column .entry)) (now (column .exit)) ⌝ }
+{
+    let mut j = from;
+    while j < to {
+        let a = file::arcs::arc(file, start + 8 * j);
+        let p = a.place;
+        column[p] = moved(column[p], a.direction, a.weight);
+        j += 1;
+    }
+}
+
 // Links the arcs of the transition t, by its effect on each place.
 fn link_transition(
     file: &[u8],
@@ -89,10 +114,8 @@ fn link_transition(
 {
     let start = h.arcstart;
     let from = wide(table[2 * t]);
-    let middle = wide(table[2 * t + 1]);
     let to = wide(table[2 * t + 2]);
-    gain::take(file, start, from, middle, column);
-    gain::give(file, start, middle, to, column);
+    shift(file, start, from, to, column);
     link(file, h, from, to, limit, column, head, next);
 }
 

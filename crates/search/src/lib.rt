@@ -9,7 +9,6 @@ ghost use Rattle.pending.specs.Growing.{Words, PlacesKept};
 ghost use Rattle.index.specs.Rows.{Starts};
 ghost use Rattle.search.specs.Search.{placedIn, Sets, Inside, TransitionKept, Links, Turned, Closed};
 use file::Header;
-use file::word::get16;
 use sets::Found;
 
 fn wide(x: u16) -> usize
@@ -34,7 +33,8 @@ fn keep_places(
     let mut least = low;
     let mut j = from;
     while j < to {
-        let p = get16(file, start + 8 * j + 4);
+        let a = file::arcs::arc(file, start + 8 * j);
+        let p = a.place;
         least = pending::keep(places, pending, least, p);
         j += 1;
     }
@@ -85,7 +85,8 @@ fn turn(
     let mut x = wide(head[p]);
     while x != 0 {
         let j = x - 1;
-        let t = get16(file, start + 8 * j);
+        let a = file::arcs::arc(file, start + 8 * j);
+        let t = a.transition;
         least = keep_transition(file, h, table, t, least, places, transitions, pending);
         x = wide(next[j]);
     }
