@@ -4,7 +4,7 @@ ghost use mathlib.Core.Bool.{false};
 ghost use Prim.Native.Nat.{ℕ, _*_, _≤_, _<_};
 ghost use lib.Dec.{eqb};
 ghost use lib.ListN.{length};
-ghost use Rattle.sets.specs.Member.{bit, member};
+ghost use Rattle.sets.specs.Member.{member};
 ghost use Rattle.sets.specs.Lowest.{IsLowest};
 ghost use Rattle.pending.specs.Growing.{Inserted, Removed, Words, PlacesKept};
 use sets::Found;
@@ -47,16 +47,6 @@ pub fn keep(places: &mut [u64; 16], pending: &mut [u64; 16], low: usize, p: usiz
     smaller(low, i)
 }
 
-// The lowest bit that is 1.
-fn lowest_bit(w: u64) -> Found
-    ensures { λ r. ⌜ IsLowest 64 (bit w) r ⌝ }
-{
-    if w == 0 {
-        return Found::Nothing;
-    }
-    Found::At(u64::trailing_zeros(w) as usize)
-}
-
 // The lowest member, where no word below `low` has one.
 pub fn lowest_from(words: &[u64; 16], low: usize) -> Found
     requires { ⌜ ((k : ℕ) → k < low * 64 → member (now words) k ≡ false) ⌝ }
@@ -64,7 +54,7 @@ pub fn lowest_from(words: &[u64; 16], low: usize) -> Found
 {
     let mut i = low;
     while i < 16 {
-        let here = lowest_bit(words[i]);
+        let here = sets::lowest_bit(words[i]);
         if let Found::At(z) = here {
             return Found::At(i * 64 + z);
         }

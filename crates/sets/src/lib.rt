@@ -56,7 +56,7 @@ pub enum Found {
 }
 
 // The lowest bit that is 1.
-fn lowest_bit(w: u64) -> Found
+pub fn lowest_bit(w: u64) -> Found
     ensures { λ r. ⌜ IsLowest 64 (bit w) r ⌝ }
 {
     if w == 0 {

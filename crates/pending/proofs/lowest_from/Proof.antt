@@ -9,9 +9,6 @@ use Rattle.sets.specs.Lowest.{IsLowest}
 use Rattle.sets.proofs.Members.{lowest-in, none-more}
 use Rattle.pending.proofs.lowest_from.Statement.{statement}
 use Rattle.pending.proofs.lowest_from.Tie as tie
-use Rattle.pending.proofs.lowest_from.Reads as reads
-use Rattle.pending.proofs.lowest_from.Lts as lts
-use Rattle.pending.proofs.lowest_bit.Reads as lowest-bit-reads
 
 abbrev Inv-loop : tie.InvT-loop
 Inv-loop words low i₀ i = (k : ℕ) → k < i * 64 → member words k ≡ false
@@ -19,37 +16,29 @@ Inv-loop words low i₀ i = (k : ℕ) → k < i * 64 → member words k ≡ fals
 abbrev μ-loop : tie.MeasureT-loop
 μ-loop words low i₀ i = 16 - i
 
--- src/lib.rt:66:5
 loop-holds : tie.Need-loop-holds Inv-loop μ-loop
 loop-holds c = c .pre
 
--- src/lib.rt:67:31
 mul-lowest-bit : tie.Need-mul-lowest-bit Inv-loop μ-loop
 mul-lowest-bit c = search needs
 
--- src/lib.rt:67:31
 element-copy-out-lowest-bit : tie.Need-element-copy-out-lowest-bit Inv-loop μ-loop
 element-copy-out-lowest-bit c = search needs
 
--- src/lib.rt:67:13
 lowest-bit-requires : tie.Need-lowest-bit-requires Inv-loop μ-loop
 lowest-bit-requires c κs = search needs
 
--- src/lib.rt:68:26
 enum-known-here : tie.Need-enum-known-here Inv-loop μ-loop
 enum-known-here c = search needs
 
--- src/lib.rt:69:30
 mul-t11 : tie.Need-mul-t11 Inv-loop μ-loop
 mul-t11 c = search needs
 
--- src/lib.rt:69:30
 add-t12 : tie.Need-add-t12 Inv-loop μ-loop
 add-t12 c =
     let h = subst (IsLowest 64 (bit (getD (c .before .before .before .before .before .before .before .args .words .now) (c .before .before .before .before .before .before .loop .i) 0))) (c .before .here .given .1) (c .before .before .before .lowest-bit .ensures) in
     omega (arith, h .0)
 
--- src/lib.rt:69:13
 returns : tie.Need-returns Inv-loop μ-loop
 returns c =
     let at = c .before .before .before .before .before .before in
@@ -60,21 +49,17 @@ returns c =
 enum-told : tie.Need-enum-told Inv-loop μ-loop
 enum-told c = search needs
 
--- src/lib.rt:71:9
 add-i : tie.Need-add-i Inv-loop μ-loop
 add-i c = search needs
 
--- src/lib.rt:66:5
 loop-less : tie.Need-loop-less Inv-loop μ-loop
 loop-less c = search needs
 
--- src/lib.rt:66:5
 loop-again : tie.Need-loop-again Inv-loop μ-loop
 loop-again c =
     none-more (c .before .before .before .before .before .before .args .words .now) (c .before .before .before .before .before .loop .i) (c .before .before .before .before .before .loop .inv)
     (subst (IsLowest 64 (bit (getD (c .before .before .before .before .before .before .args .words .now) (c .before .before .before .before .before .loop .i) 0))) (c .enum-told .given .1) (c .before .before .lowest-bit .ensures))
 
--- src/lib.rt:61:1
 returns-2 : tie.Need-returns-2 Inv-loop μ-loop
 returns-2 c = λ k l. c .before .loop .inv k (omega arith)
 
