@@ -1,3 +1,3 @@
 pub mod Steps
 pub mod Listed
-pub mod Agreeing
+pub mod OnePass

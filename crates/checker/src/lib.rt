@@ -1,7 +1,7 @@
 // The checker: the eight rules in order, and the verdict.
 ghost use mathlib.Core.Path.{_≡_};
 ghost use mathlib.Core.Bool.{true};
-ghost use Prim.Native.Nat.{_*_, _<_, _≤_};
+ghost use Prim.Native.Nat.{_*_, _/_, _<_, _≤_};
 ghost use lib.ListN.{length};
 ghost use Rattle.net.specs.Checker.{verdictFrom, verdict};
 ghost use Rattle.file.specs.Layout.{netFrom, sliceFrom};
@@ -335,21 +335,42 @@ fn large_outcome(plan: &[u8], hp: Header, slice: &[u8], hs: Header, criterion: &
     )
 }
 
-fn is_small(hp: Header, hs: Header) -> bool
-    ensures { λ r. ⌜ (r ≡ true → Within 64 hp hs) ⌝ }
+// Have the plan and the slice at most n places and n transitions?
+fn within(hp: Header, hs: Header, n: usize) -> bool
+    ensures { λ r. ⌜ (r ≡ true → Within n hp hs) ⌝ }
 {
-    (hp.places <= 64) & (hp.transitions <= 64) & (hs.transitions <= 64)
+    (hp.places <= n) & (hp.transitions <= n) & (hs.transitions <= n)
 }
 
-// Are the rules 4 to 8 certainly kept? For nets of at most 64 places and 64 transitions.
+// Are the rules 4 to 8 certainly kept? For nets of at most 16 places and 16 transitions.
+fn tiny_agrees(plan: &[u8], hp: Header, slice: &[u8], hs: Header, criterion: &[u16]) -> bool
+    requires { ⌜ Judged (now plan) hp (now slice) hs (now criterion) ⌝ }
+    requires { ⌜ KnownIn hp (sliceFrom (now slice) hs) ⌝ }
+    requires { ⌜ Within 16 hp hs ⌝ }
+    ensures { λ r. ⌜ (r ≡ true → Agreed (netFrom (now (plan .entry)) hp) (sliceFrom (now (slice .entry)) hs) (now (criterion .entry))) ⌝ }
+{
+    let mut places = [4398047494144usize; 16];
+    let mut transitions = [459776usize; 16];
+    agree::agrees(
+        plan,
+        hp,
+        slice,
+        hs,
+        criterion,
+        &mut places,
+        &mut transitions,
+    )
+}
+
+// The same for at most 128 of each.
 fn small_agrees(plan: &[u8], hp: Header, slice: &[u8], hs: Header, criterion: &[u16]) -> bool
     requires { ⌜ Judged (now plan) hp (now slice) hs (now criterion) ⌝ }
     requires { ⌜ KnownIn hp (sliceFrom (now slice) hs) ⌝ }
-    requires { ⌜ Within 64 hp hs ⌝ }
+    requires { ⌜ Within 128 hp hs ⌝ }
     ensures { λ r. ⌜ (r ≡ true → Agreed (netFrom (now (plan .entry)) hp) (sliceFrom (now (slice .entry)) hs) (now (criterion .entry))) ⌝ }
 {
-    let mut places = [4398047494144usize; 64];
-    let mut transitions = [459776usize; 64];
+    let mut places = [4398047494144usize; 128];
+    let mut transitions = [459776usize; 128];
     agree::agrees(
         plan,
         hp,
@@ -380,29 +401,19 @@ fn large_agrees(plan: &[u8], hp: Header, slice: &[u8], hs: Header, criterion: &[
     )
 }
 
-// Rules 4 to 8 for nets of at most 64 places and 64 transitions: by one pass, and one by one only where it does not settle them.
-fn small_verdict(plan: &[u8], hp: Header, slice: &[u8], hs: Header, criterion: &[u16]) -> Outcome
+// Are the rules 4 to 8 certainly kept? By one pass, in tables that are not much larger than the net.
+fn agreeing(plan: &[u8], hp: Header, slice: &[u8], hs: Header, criterion: &[u16]) -> bool
     requires { ⌜ Judged (now plan) hp (now slice) hs (now criterion) ⌝ }
     requires { ⌜ KnownIn hp (sliceFrom (now slice) hs) ⌝ }
-    requires { ⌜ Within 64 hp hs ⌝ }
-    ensures { λ r. ⌜ outcomeNumbers r ≡ told (verdictFrom 4 (rulesFrom4 (netFrom (now (plan .entry)) hp) (sliceFrom (now (slice .entry)) hs) (now (criterion .entry)))) ⌝ }
+    ensures { λ r. ⌜ (r ≡ true → Agreed (netFrom (now (plan .entry)) hp) (sliceFrom (now (slice .entry)) hs) (now (criterion .entry))) ⌝ }
 {
-    if small_agrees(plan, hp, slice, hs, criterion) {
-        return Outcome::Accepted;
+    if within(hp, hs, 16) {
+        return tiny_agrees(plan, hp, slice, hs, criterion);
     }
-    small_outcome(plan, hp, slice, hs, criterion)
-}
-
-// The same for all nets.
-fn large_verdict(plan: &[u8], hp: Header, slice: &[u8], hs: Header, criterion: &[u16]) -> Outcome
-    requires { ⌜ Judged (now plan) hp (now slice) hs (now criterion) ⌝ }
-    requires { ⌜ KnownIn hp (sliceFrom (now slice) hs) ⌝ }
-    ensures { λ r. ⌜ outcomeNumbers r ≡ told (verdictFrom 4 (rulesFrom4 (netFrom (now (plan .entry)) hp) (sliceFrom (now (slice .entry)) hs) (now (criterion .entry)))) ⌝ }
-{
-    if large_agrees(plan, hp, slice, hs, criterion) {
-        return Outcome::Accepted;
+    if within(hp, hs, 128) {
+        return small_agrees(plan, hp, slice, hs, criterion);
     }
-    large_outcome(plan, hp, slice, hs, criterion)
+    large_agrees(plan, hp, slice, hs, criterion)
 }
 
 // Rules 1 to 3, then the others.
@@ -422,10 +433,13 @@ fn whole_outcome(plan: &[u8], hp: Header, slice: &[u8], hs: Header, criterion: &
     if p < hp.places {
         return Outcome::OtherMarking(p as u16);
     }
-    if is_small(hp, hs) {
-        return small_verdict(plan, hp, slice, hs, criterion);
+    if agreeing(plan, hp, slice, hs, criterion) {
+        return Outcome::Accepted;
     }
-    large_verdict(plan, hp, slice, hs, criterion)
+    if within(hp, hs, 64) {
+        return small_outcome(plan, hp, slice, hs, criterion);
+    }
+    large_outcome(plan, hp, slice, hs, criterion)
 }
 
 // The verdict for a plan, a slice and a criterion, none of them turned back.
@@ -437,7 +451,21 @@ pub fn judge(plan: &[u8], hp: Header, slice: &[u8], hs: Header, criterion: &[u16
     Verdict { outcome: found }
 }
 
-// The same in a number, for a criterion of 2 bytes a place: 0 accepted, 100 plus the rule otherwise.
+// The same in a number, for a criterion of 2 bytes a place, in a list that is lent.
+fn judge_in(plan: &[u8], hp: Header, slice: &[u8], hs: Header, q: &[u8], list: &mut [u16]) -> u32
+    requires { ⌜ Sound (now plan) hp ⌝ }
+    requires { ⌜ Sound (now slice) hs ⌝ }
+    requires { ⌜ hs .kind ≡ 1 ⌝ }
+    requires { ⌜ criterionBytesRefusal (hp .places) (now q) ≡ 0 ⌝ }
+    requires { ⌜ length (now q) / 2 ≤ length (now list) ⌝ }
+    ensures { λ r. ⌜ r ≡ told (verdict (netFrom (now (plan .entry)) hp) (sliceFrom (now (slice .entry)) hs) (criterionOf (now (q .entry)))) .code ⌝ }
+{
+    let count = q.len() / 2;
+    criterion::decode(q, count, list);
+    code(judge(plan, hp, slice, hs, &list[..count]))
+}
+
+// The same: 0 accepted, 100 plus the rule otherwise.
 pub fn judge_bytes(plan: &[u8], hp: Header, slice: &[u8], hs: Header, q: &[u8]) -> u32
     requires { ⌜ Sound (now plan) hp ⌝ }
     requires { ⌜ Sound (now slice) hs ⌝ }
@@ -445,8 +473,10 @@ pub fn judge_bytes(plan: &[u8], hp: Header, slice: &[u8], hs: Header, q: &[u8]) 
     requires { ⌜ criterionBytesRefusal (hp .places) (now q) ≡ 0 ⌝ }
     ensures { λ r. ⌜ r ≡ told (verdict (netFrom (now (plan .entry)) hp) (sliceFrom (now (slice .entry)) hs) (criterionOf (now (q .entry)))) .code ⌝ }
 {
-    let count = q.len() / 2;
+    if q.len() <= 32 {
+        let mut few = [0u16; 16];
+        return judge_in(plan, hp, slice, hs, q, &mut few);
+    }
     let mut list = [0u16; 1024];
-    criterion::decode(q, count, &mut list);
-    code(judge(plan, hp, slice, hs, &list[..count]))
+    judge_in(plan, hp, slice, hs, q, &mut list)
 }

@@ -1,5 +1,5 @@
 use native.Mathlib.Omega.{arith}
-use Rattle.checker.proofs.Agreeing.{blank}
+use Rattle.checker.proofs.OnePass.{blank}
 use borrow.Author.Needs.{needs}
 use Rattle.checker.proofs.large_agrees.Statement.{statement}
 use Rattle.checker.proofs.large_agrees.Tie as tie

@@ -1,5 +1,5 @@
 use native.Mathlib.Omega.{arith}
-use Rattle.checker.proofs.Agreeing.{blank}
+use Rattle.checker.proofs.OnePass.{blank}
 use borrow.Author.Needs.{needs}
 use Rattle.checker.proofs.small_agrees.Statement.{statement}
 use Rattle.checker.proofs.small_agrees.Tie as tie
@@ -20,7 +20,7 @@ agrees-requires : tie.Need-agrees-requires
 agrees-requires c κs =
     let pre = c .before .before .before .before .before .pre in
     let j = pre .0 in
-    (j .planned, (j .sliced, (j .kind, (j .criterion, blank _ _ 64 (omega arith) (pre .1 .1 .places) (pre .1 .1 .transitions) (pre .1 .0)))))
+    (j .planned, (j .sliced, (j .kind, (j .criterion, blank _ _ 128 (omega arith) (pre .1 .1 .places) (pre .1 .1 .transitions) (pre .1 .0)))))
 
 -- src/lib.rt:345:1
 returns : tie.Need-returns

@@ -10,19 +10,21 @@ use Rattle.checker.specs.Room.{rulesFrom4, KnownIn}
 use Rattle.own.proofs.Words.{length-words}
 use Rattle.kept.proofs.Keeping.{places-known, transitions-known}
 use Rattle.checker.proofs.Steps.{broken-here, holds-here, range1, range2, range3, all-rules}
+use Rattle.checker.proofs.OnePass.{agreed-told}
 use Rattle.checker.proofs.whole_outcome.Statement.{statement}
 use Rattle.checker.proofs.whole_outcome.Tie as tie
 use Rattle.checker.proofs.whole_outcome.Reads as reads
 use Rattle.checker.proofs.whole_outcome.Lts as lts
-use Rattle.checker.proofs.is_small.Reads as is-small-reads
-use Rattle.checker.proofs.large_verdict.Reads as large-verdict-reads
-use Rattle.checker.proofs.small_verdict.Reads as small-verdict-reads
+use Rattle.checker.proofs.agreeing.Reads as agreeing-reads
+use Rattle.checker.proofs.within.Reads as within-reads
+use Rattle.checker.proofs.large_outcome.Reads as large-outcome-reads
+use Rattle.checker.proofs.small_outcome.Reads as small-outcome-reads
 use Rattle.kept.proofs.other_marking.Reads as other-marking-reads
 use Rattle.kept.proofs.unknown_place.Reads as unknown-place-reads
 use Rattle.kept.proofs.unknown_transition.Reads as unknown-transition-reads
 
 -- rules 1 to 3 hold: the others decide
-first-three : (c : tie.After-is-small)
+first-three : (c : tie.After-agreeing)
     → told (verdictFrom 4 (rulesFrom4 (netFrom (now (c .before .before .before .before .before .before .before .before .before .before .before .before .before .args .plan)) (c .before .before .before .before .before .before .before .before .before .before .before .before .before .args .hp)) (sliceFrom (now (c .before .before .before .before .before .before .before .before .before .before .before .before .before .args .slice)) (c .before .before .before .before .before .before .before .before .before .before .before .before .before .args .hs)) (now (c .before .before .before .before .before .before .before .before .before .before .before .before .before .args .criterion))))
     ≡ told (verdict (netFrom (now (c .before .before .before .before .before .before .before .before .before .before .before .before .before .args .plan)) (c .before .before .before .before .before .before .before .before .before .before .before .before .before .args .hp)) (sliceFrom (now (c .before .before .before .before .before .before .before .before .before .before .before .before .before .args .slice)) (c .before .before .before .before .before .before .before .before .before .before .before .before .before .args .hs)) (now (c .before .before .before .before .before .before .before .before .before .before .before .before .before .args .criterion)))
 first-three c =
@@ -35,13 +37,13 @@ least : (a b n : ℕ) → n ≡ b → a ≤ n → a ≤ b
 least a b n e h = omega arith
 
 -- the plan knows what the slice has
-known : (c : tie.After-is-small) → KnownIn (c .before .before .before .before .before .before .before .before .before .before .before .before .before .args .hp) (sliceFrom (now (c .before .before .before .before .before .before .before .before .before .before .before .before .before .args .slice)) (c .before .before .before .before .before .before .before .before .before .before .before .before .before .args .hs))
+known : (c : tie.Else3) → KnownIn (c .before .before .before .before .before .before .before .before .before .before .before .before .args .hp) (sliceFrom (now (c .before .before .before .before .before .before .before .before .before .before .before .before .args .slice)) (c .before .before .before .before .before .before .before .before .before .before .before .before .args .hs))
 known c =
-    let a = c .before .before .before .before .before .before .before .before .before .before .before .before .before .args in
+    let a = c .before .before .before .before .before .before .before .before .before .before .before .before .args in
     let N = netFrom (now (a .plan)) (a .hp) in
     record {
-      places = places-known N _ (length-words _ _ _) (least _ _ _ (c .before .before .before .before .before .before .before .before .before .unknown-place .ensures N refl) (c .before .before .before .before .before .before .before .if1 .left));
-      transitions = transitions-known N _ (length-words _ _ _) (least _ _ _ (c .before .before .before .before .before .before .unknown-transition .ensures N refl) (c .before .before .before .before .if2 .left));
+      places = places-known N _ (length-words _ _ _) (least _ _ _ (c .before .before .before .before .before .before .before .before .unknown-place .ensures N refl) (c .before .before .before .before .before .before .if1 .left));
+      transitions = transitions-known N _ (length-words _ _ _) (least _ _ _ (c .before .before .before .before .before .unknown-transition .ensures N refl) (c .before .before .before .if2 .left));
     }
 
 -- src/lib.rt:252:9
@@ -93,25 +95,26 @@ returns-3 c =
     ∙ holds-here 1 _ _ _ _ (range1 _ _) (c .before .before .before .before .before .before .before .before .unknown-place .ensures _ refl) (c .before .before .before .before .before .before .if1 .left)
     ∙ all-rules _ _ _
 
--- src/lib.rt:264:8
-is-small-requires : tie.Need-is-small-requires
-is-small-requires c κs = search needs
+agreeing-requires : tie.Need-agreeing-requires
+agreeing-requires c κs = (c .before .before .before .before .before .before .before .before .before .before .before .before .pre, known c)
 
--- src/lib.rt:265:9
-small-verdict-requires : tie.Need-small-verdict-requires
-small-verdict-requires c κs = (c .before .before .before .before .before .before .before .before .before .before .before .before .before .before .pre, (known (c .before), c .before .is-small .ensures (c .if4 .taken)))
-
--- src/lib.rt:265:9
 returns-4 : tie.Need-returns-4
-returns-4 c = c .small-verdict .ensures ∙ first-three (c .before .before)
+returns-4 c = agreed-told _ _ _ (c .before .agreeing .ensures (c .if4 .taken)) ∙ first-three (c .before)
 
--- src/lib.rt:267:5
-large-verdict-requires : tie.Need-large-verdict-requires
-large-verdict-requires c κs = (c .before .before .before .before .before .before .before .before .before .before .before .before .before .before .pre, known (c .before))
+within-requires : tie.Need-within-requires
+within-requires c κs = search needs
 
--- src/lib.rt:248:1
+small-outcome-requires : tie.Need-small-outcome-requires
+small-outcome-requires c κs = (c .before .before .before .before .before .before .before .before .before .before .before .before .before .before .before .before .pre, c .before .within .ensures (c .if5 .taken))
+
 returns-5 : tie.Need-returns-5
-returns-5 c = c .large-verdict .ensures ∙ first-three (c .before .before)
+returns-5 c = c .small-outcome .ensures ∙ first-three (c .before .before .before .before)
+
+large-outcome-requires : tie.Need-large-outcome-requires
+large-outcome-requires c κs = search needs
+
+returns-6 : tie.Need-returns-6
+returns-6 c = c .large-outcome .ensures ∙ first-three (c .before .before .before .before)
 
 pub whole-outcome-spec : {M : Type 1} → statement M
 whole-outcome-spec =
@@ -126,8 +129,10 @@ whole-outcome-spec =
     other-marking-requires
     cast-t12
     returns-3
-    is-small-requires
-    small-verdict-requires
+    agreeing-requires
     returns-4
-    large-verdict-requires
-    returns-5)
+    within-requires
+    small-outcome-requires
+    returns-5
+    large-outcome-requires
+    returns-6)
