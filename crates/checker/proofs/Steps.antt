@@ -1,15 +1,13 @@
 -- "Rules in order": the verdict, one rule at a time. Assumes nothing.
 use Prim.Native.Nat.{ℕ, suc, _+_, _≤_, _<_}
-use mathlib.Core.Path.{_≡_, refl, sym, ap, _∙_, subst}
-use mathlib.Core.Bool.{Bool, true, false, _&&_}
-use native.Mathlib.Omega.{arith}
+use mathlib.Core.Path.{_≡_, refl, ap}
+use mathlib.Core.Bool.{true, false}
 use mathlib.Core.List.{List, [], _∷_}
-use lib.Dec.{eqb, ltb}
-use borrow.Author.Tests.{lt-ltb, le-ltb, eqb-true}
+use lib.Dec.{ltb}
+use borrow.Author.Tests.{lt-ltb, le-ltb}
 use Rattle.net.specs.Net.{Net}
 use Rattle.net.specs.Slice.{Slice}
 use Rattle.net.specs.Checker.{Rule, breaker, verdictFrom, verdict, rules, rule1, rule2, rule3, rule4, rule5, rule6, rule7, rule8}
-use Rattle.net.proofs.Numbers.{holds, is-true, and-left, and-right}
 use Rattle.promise.specs.Calls.{Checked, told}
 use Rattle.checker.specs.Room.{rulesFrom4}
 
@@ -27,14 +25,6 @@ module _ (k : ℕ) (R : Rule) (l : List Rule) (n r : ℕ) (range : R .range ≡ 
   holds-here h =
       let e : ltb (breaker R) (R .range) ≡ false = le-ltb (breaker R) (R .range) (rw (← found, range) h) in
       rw (e, verdictFrom)
-
--- the rule's lowest number is past its range
-pub passes-here : (k : ℕ) (R : Rule) (l : List Rule) (r : ℕ) → R .range ≡ r → eqb (breaker R) r ≡ true → told (verdictFrom (suc k) l) ≡ told (verdictFrom k (R ∷ l))
-passes-here k R l r range e = holds-here k R l (breaker R) r range refl (omega (arith, eqb-true (breaker R) r e))
-
--- both tests of one pass hold
-pub both-hold : (a b r : Bool) → r ≡ (a && b) → r ≡ true → (a ≡ true) × (b ≡ true)
-both-hold a b r e f = let t = holds (a && b) (sym e ∙ f) in (is-true a (and-left a b t), is-true b (and-right a b t))
 
 -- no rule is left: accepted
 pub none-left : (k : ℕ) → record { code = 0; number = 0 } ≡ told (verdictFrom k [])

@@ -71,8 +71,8 @@ pub fn number(v: Verdict) -> u32
     }
 }
 
-// Rules 6 to 8, one by one.
-fn each_outcome(
+// Rules 6 to 8.
+fn movers_outcome(
     plan: &[u8],
     hp: Header,
     table: &[u16],
@@ -113,59 +113,6 @@ fn each_outcome(
     let raiser = movers::raiser_missing(plan, hp, table, slice, hs, ownp, ownt, limit, column);
     if raiser < transitions {
         return Outcome::RaiserMissing(raiser as u16);
-    }
-    Outcome::Accepted
-}
-
-// Rules 6 to 8: rules 6 and 8 in one pass, and one by one only where it finds something.
-fn movers_outcome(
-    plan: &[u8],
-    hp: Header,
-    table: &[u16],
-    slice: &[u8],
-    hs: Header,
-    ownp: &[u16],
-    ownt: &[u16],
-    criterion: &[u16],
-    limit: &mut [u32],
-    column: &mut [u32],
-) -> Outcome
-    requires { ⌜ Matched (now plan) hp (now table) (now slice) hs (now ownp) (now ownt) ⌝ }
-    requires { ⌜ criterionRefusal (hp .places) (now criterion) ≡ 0 ⌝ }
-    requires { ⌜ Resting (hp .places) (now column) ⌝ }
-    requires { ⌜ length (now limit) ≡ length (now column) ⌝ }
-    ensures { λ r. ⌜ outcomeNumbers r ≡ told (verdictFrom 6 (rulesFrom6 (netFrom (now (plan .entry)) hp) (sliceFrom (now (slice .entry)) hs) (now (criterion .entry)))) ⌝ }
-{
-    let transitions = hp.transitions;
-    let none = movers::none_missing(
-        plan,
-        hp,
-        table,
-        slice,
-        hs,
-        ownp,
-        ownt,
-        criterion,
-        limit,
-        column,
-    );
-    if !none {
-        return each_outcome(
-            plan,
-            hp,
-            table,
-            slice,
-            hs,
-            ownp,
-            ownt,
-            criterion,
-            limit,
-            column,
-        );
-    }
-    let unfed = links::input_missing(plan, hp, table, slice, hs, ownp, ownt);
-    if unfed < transitions {
-        return Outcome::InputMissing(unfed as u16);
     }
     Outcome::Accepted
 }

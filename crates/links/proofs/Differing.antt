@@ -13,7 +13,7 @@ use Rattle.net.proofs.Numbers.{holds, position-lt}
 use Rattle.file.specs.Layout.{arcAt, arcsFrom, wordsFrom, netFrom, sliceFrom}
 use Rattle.file.specs.declared.Header.{Header}
 use Rattle.tables.specs.Matched.{Starts, Matched}
-use Rattle.tables.proofs.Lookup.{left-out, is-kept, own-number}
+use Rattle.own.proofs.Lookup.{left-out, is-kept, own-number}
 use Rattle.tables.proofs.Runs.{good-at, entry-most, entries-rise, run-own, run-is}
 use Rattle.links.specs.Links.{Run, Walk, Against, arcsLeft, kept}
 

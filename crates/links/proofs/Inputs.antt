@@ -14,7 +14,7 @@ use Rattle.net.proofs.Numbers.{by-cases, holds, fails, is-true, is-false, and-b
 use Rattle.file.specs.Layout.{arcAt, netFrom, sliceFrom}
 use Rattle.file.specs.declared.Header.{Header}
 use Rattle.tables.specs.Matched.{Matched}
-use Rattle.tables.proofs.Lookup.{left-out, is-kept, zero-entry}
+use Rattle.own.proofs.Lookup.{left-out, is-kept, zero-entry}
 use Rattle.tables.proofs.Runs.{good-at, entry-most, entries-rise, weight-found, weight-there}
 use Rattle.links.specs.Links.{Run, Unkept}
 

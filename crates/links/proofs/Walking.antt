@@ -15,7 +15,7 @@ use Rattle.net.proofs.Numbers.{by-cases, by-order}
 use Rattle.file.specs.Layout.{arcAt, arcsFrom, sliceFrom}
 use Rattle.file.specs.declared.Header.{Header}
 use Rattle.file.proofs.Laws.{arcs-cons, arcs-none}
-use Rattle.tables.proofs.Lookup.{left-out, is-kept, own-number}
+use Rattle.own.proofs.Lookup.{left-out, is-kept, own-number}
 use Rattle.links.specs.Links.{Against, Step, Walk, numbered, arcsLeft, kept}
 
 left-cons : (slice : List ℕ) (hs : Header) (k upto : ℕ) → k < upto → arcsLeft slice hs k upto ≡ arcAt slice (hs .arcstart + 8 * k) ∷ arcsLeft slice hs (k + 1) upto

@@ -1,4 +1,3 @@
 pub mod Columns
 pub mod Moving
 pub mod Limits
-pub mod Both

@@ -21,7 +21,7 @@ use Rattle.gain.specs.Gain.{pulls}
 use Rattle.own.specs.Own.{Own}
 use Rattle.tables.specs.Matched.{Matched}
 use Rattle.tables.proofs.Lowest.{first-same}
-use Rattle.tables.proofs.Lookup.{left-out, is-kept}
+use Rattle.own.proofs.Lookup.{left-out, is-kept}
 use Rattle.tables.proofs.Runs.{good-at, entry-most, weight-found}
 use Rattle.movers.specs.Movers.{limitOn, moved}
 use Rattle.movers.proofs.Moving.{weight-most}

@@ -185,29 +185,3 @@ pub fn raiser_missing(
     limit_kept(hp.places, ownp, limit);
     first_mover(plan, hp, table, slice, hs, ownp, ownt, limit, column)
 }
-
-// Do rules 6 and 8 hold? Both by one pass: a place of the criterion has the limit of rule 6, other kept places that of rule 8.
-// `limit` is written over; the column comes back at rest.
-pub fn none_missing(
-    plan: &[u8],
-    hp: Header,
-    table: &[u16],
-    slice: &[u8],
-    hs: Header,
-    ownp: &[u16],
-    ownt: &[u16],
-    criterion: &[u16],
-    limit: &mut [u32],
-    column: &mut [u32],
-) -> bool
-    requires { ⌜ Matched (now plan) hp (now table) (now slice) hs (now ownp) (now ownt) ⌝ }
-    requires { ⌜ criterionRefusal (hp .places) (now criterion) ≡ 0 ⌝ }
-    requires { ⌜ Resting (hp .places) (now column) ⌝ }
-    requires { ⌜ length (now limit) ≡ length (now column) ⌝ }
-    ensures { λ r. ⌜ r ≡ (eqb (breaker (rule6 (netFrom (now (plan .entry)) hp) (sliceFrom (now (slice .entry)) hs) (now (criterion .entry)))) (hp .transitions) && eqb (breaker (rule8 (netFrom (now (plan .entry)) hp) (sliceFrom (now (slice .entry)) hs))) (hp .transitions)) ⌝ }
-    ensures { λ _. ⌜ Resting (hp .places) (now (column .exit)) ⌝ }
-{
-    limit_kept(hp.places, ownp, limit);
-    limit_criterion(criterion, limit);
-    first_mover(plan, hp, table, slice, hs, ownp, ownt, limit, column) == hp.transitions
-}

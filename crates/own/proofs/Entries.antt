@@ -52,23 +52,6 @@ entry-new : (y : ℕ) (l : List ℕ) → among y l ≡ false → ownEntry (l ++ 
 unfolding ownEntry
 entry-new y l e = rw (among-new y l, ownEntry) (ap suc (position-new y l e))
 
-module _ (os table : List ℕ) (own : Own os table) (x : ℕ) (l : x < length table) where
-  -- an entry that is 0: the number is left out
-  pub left-out : getD table x 0 ≡ 0 → among x os ≡ false
-  unfolding ownEntry
-  left-out z =
-      by-cases (among x os)
-      (λ e. let a : ownEntry os x ≡ suc (position x os) = rw (e, ownEntry) in absurd (omega (arith, own .at x l)))
-      (λ e. e)
-
-  -- an entry that is not 0: the number is kept
-  pub is-kept : (getD table x 0 ≡ 0 → ⊥) → among x os ≡ true
-  unfolding ownEntry
-  is-kept n =
-      by-cases (among x os)
-      (λ e. e)
-      (λ e. let a : ownEntry os x ≡ 0 = rw (e, ownEntry) in absurd (n (omega (arith, own .at x l))))
-
 -- a rising list has each number once
 pub once : (l : List ℕ) → RisingFrom 0 l → (j : ℕ) → j < length l → among (getD l j 0) (take j l) ≡ false
 once l r j h =

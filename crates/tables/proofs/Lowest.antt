@@ -6,22 +6,7 @@ use native.Mathlib.Omega.{arith}
 use Rattle.net.specs.Numbers.{first}
 use Rattle.net.specs.Checker.{Rule, breaks, breaker}
 use Rattle.net.proofs.Numbers.{by-cases, by-order}
-
-first-none : (f : ℕ → Bool) (a n : ℕ) → ((k : ℕ) → a ≤ k → k < a + n → f k ≡ false) → a + n ≡ first f a n
-unfolding first
-first-none f a zero h = omega arith
-first-none f a (suc n) h =
-    let rest = first-none f (suc a) n (λ k l u. h k (omega arith) (omega arith)) in
-    rw (h a (omega arith) (omega arith), first) (omega arith)
-
-first-at : (f : ℕ → Bool) (a n t : ℕ) → a ≤ t → t < a + n → ((k : ℕ) → a ≤ k → k < t → f k ≡ false) → f t ≡ true → t ≡ first f a n
-unfolding first
-first-at f a zero t l u h p = absurd (omega arith)
-first-at f a (suc n) t l u h p =
-    by-order a t
-    (λ d. rw (h a (omega arith) d, first) (first-at f (suc a) n t (omega arith) (omega arith) (λ k x y. h k (omega arith) y) p))
-    (λ e. rw (ap f e ∙ p, first) (sym e))
-    (λ d. absurd (omega arith))
+use Rattle.kept.proofs.Firsts.{first-is, first-none}
 
 -- tests that agree have the same lowest number
 pub first-same : (f g : ℕ → Bool) (a n : ℕ) → ((k : ℕ) → a ≤ k → k < a + n → f k ≡ g k) → first f a n ≡ first g a n
@@ -48,10 +33,10 @@ none-next f n t x l e = record {
 }
 
 pub lowest-found : (f : ℕ → Bool) (n t : ℕ) → NoneBelow f n t → t < n → f t ≡ true → t ≡ first f 0 n
-lowest-found f n t x l e = first-at f 0 n t (omega arith) (omega arith) (λ k a b. x .none k b) e
+lowest-found f n t x l e = first-is f n t l e (x .none)
 
 pub lowest-none : (f : ℕ → Bool) (n t : ℕ) → NoneBelow f n t → n ≤ t → t ≡ first f 0 n
-lowest-none f n t x l = omega (arith, x .within, first-none f 0 n (λ k a b. x .none k (omega (arith, x .within))))
+lowest-none f n t x l = omega (arith, x .within, first-none f n (λ k d. x .none k (omega (arith, x .within))))
 
 -- the lowest number that breaks a rule
 pub breaker-found : (R : Rule) (n t : ℕ) → R .range ≡ n → NoneBelow (breaks R) n t → t < n → breaks R t ≡ true → t ≡ breaker R

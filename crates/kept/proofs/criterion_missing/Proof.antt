@@ -6,7 +6,7 @@ use denote.Ref.{now}
 use lib.ListN.{length, getD}
 use borrow.Author.Count.{below-more}
 use Rattle.criterion.proofs.Places.{passed}
-use Rattle.own.proofs.Entries.{left-out, is-kept}
+use Rattle.own.proofs.Lookup.{left-out, is-kept}
 use Rattle.kept.proofs.Keeping.{missing-found, missing-none}
 use Rattle.kept.proofs.criterion_missing.Statement.{statement}
 use Rattle.kept.proofs.criterion_missing.Tie as tie
