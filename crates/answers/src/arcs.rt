@@ -15,19 +15,16 @@ fn name(inslice: bool) {
 fn unknown(inslice: bool, transition: u16, count: usize) {
     say::text(b"error: the ");
     name(inslice);
-    say::text(b" has no transition ");
-    say::short(transition);
-    say::text(b": it has ");
+    say::form(b" has no transition %: it has ", &[transition as usize]);
     say::counted(count, b"transition");
     say::text(b", numbered from 0\n");
 }
 
 pub fn found(run: &[u8], inslice: bool, transition: u16) {
-    say::text(b"arcs ");
-    say::count(run.len() / 8);
-    say::text(b" of transition ");
-    say::short(transition);
-    say::text(b" in the ");
+    say::form(
+        b"arcs % of transition % in the ",
+        &[run.len() / 8, transition as usize],
+    );
     name(inslice);
     steps::line(run);
 }

@@ -17,6 +17,8 @@ pub fn refused(n: u32, file: &[u8], place: u16, transition: u16) {
 pub fn changed(by: i32, place: u16, transition: u16) {
     say::text(b"effect ");
     say::signed(by);
-    say::between(b" of transition ", transition as usize, b" on place ");
-    say::between(b"", place as usize, b"\n");
+    say::form(
+        b" of transition % on place %\n",
+        &[transition as usize, place as usize],
+    );
 }

@@ -2,8 +2,7 @@
 use terminal::say;
 
 fn number(list: &[u16], i: usize) {
-    say::text(b" ");
-    say::count(blame::numbers::entry(list, i));
+    say::form(b" %", &[blame::numbers::entry(list, i)]);
 }
 
 // The first `count` entries.

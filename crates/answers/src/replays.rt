@@ -14,8 +14,7 @@ fn entry(marking: &[u64], p: usize) -> u64
 }
 
 fn tokens(marking: &[u64], p: usize) {
-    say::text(b" ");
-    say::number(entry(marking, p));
+    say::form(b" %", &[entry(marking, p) as usize]);
 }
 
 // The tokens of each of the `count` places.

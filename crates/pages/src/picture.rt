@@ -17,33 +17,27 @@ fn shade(shades: &[u8], i: usize) -> u8
     0
 }
 
-// The colours of a shade.
+// The colours of a shade, and the end of the line.
 fn colour(s: u8) {
     match s {
-        0 => say::text(b" color=grey75 fontcolor=grey65"),
-        2 => say::text(b" color=firebrick penwidth=2.5"),
-        _ => say::text(b" color=black"),
+        0 => say::text(b"\" color=grey75 fontcolor=grey65]\n"),
+        2 => say::text(b"\" color=firebrick penwidth=2.5]\n"),
+        _ => say::text(b"\" color=black]\n"),
     }
 }
 
 fn tokens(n: usize) {
     if n != 0 {
-        say::text(b"\\n");
-        say::count(n);
+        say::form(b"\\n%", &[n]);
     }
 }
 
 fn place(file: &[u8], h: Header, p: usize, s: u8)
     requires { ⌜ Sound (now file) h × (p < h .places) ⌝ }
 {
-    say::text(b"  p");
-    say::count(p);
-    say::text(b" [shape=circle label=\"p");
-    say::count(p);
+    say::form(b"  p% [shape=circle label=\"p%", &[p, p]);
     tokens(file::marking(file, h, p));
-    say::text(b"\"");
     colour(s);
-    say::text(b"]\n");
 }
 
 fn places(file: &[u8], h: Header, shades: &[u8])
@@ -58,13 +52,8 @@ fn places(file: &[u8], h: Header, shades: &[u8])
 }
 
 fn transition(t: usize, s: u8) {
-    say::text(b"  t");
-    say::count(t);
-    say::text(b" [shape=box label=\"t");
-    say::count(t);
-    say::text(b"\"");
+    say::form(b"  t% [shape=box label=\"t%", &[t, t]);
     colour(s);
-    say::text(b"]\n");
 }
 
 fn transitions(h: Header, shades: &[u8]) {
@@ -79,37 +68,29 @@ fn transitions(h: Header, shades: &[u8]) {
 // From place to transition, or back.
 fn ends(a: Arc) {
     if a.direction == 0 {
-        say::text(b"  p");
-        say::count(a.place);
-        say::text(b" -> t");
-        say::count(a.transition);
+        say::form(b"  p% -> t% [", &[a.place, a.transition]);
         return;
     }
-    say::text(b"  t");
-    say::count(a.transition);
-    say::text(b" -> p");
-    say::count(a.place);
+    say::form(b"  t% -> p% [", &[a.transition, a.place]);
 }
 
 fn weight(n: usize) {
     if n != 1 {
-        say::text(b" label=\"");
-        say::count(n);
-        say::text(b"\"");
+        say::form(b" label=\"%\"]\n", &[n]);
+        return;
     }
+    say::text(b"]\n");
 }
 
 // Grey where an end is left out.
 fn line(a: Arc, place: u8, transition: u8) {
     ends(a);
-    say::text(b" [");
     if (place == 0) | (transition == 0) {
         say::text(b"color=grey75 fontcolor=grey65");
     } else {
         say::text(b"color=black");
     }
     weight(a.weight);
-    say::text(b"]\n");
 }
 
 fn arc(file: &[u8], h: Header, j: usize, places: &[u8], transitions: &[u8])
@@ -131,10 +112,13 @@ fn arcs(file: &[u8], h: Header, places: &[u8], transitions: &[u8])
 }
 
 fn head() {
-    say::text(b"digraph net {\n");
-    say::text(b"  rankdir=LR\n");
-    say::text(b"  node [fontname=\"Helvetica\" fontsize=12]\n");
-    say::text(b"  edge [fontname=\"Helvetica\" fontsize=11]\n");
+    say::text(
+        b"digraph net {
+  rankdir=LR
+  node [fontname=\"Helvetica\" fontsize=12]
+  edge [fontname=\"Helvetica\" fontsize=11]
+",
+    );
 }
 
 // The whole picture.

@@ -11,15 +11,14 @@ use words::steps;
 
 fn kind(h: Header) {
     if h.kind == 1 {
-        say::text(b"slice");
+        say::text(b"slice of ");
         return;
     }
-    say::text(b"plan");
+    say::text(b"plan of ");
 }
 
 fn counts(h: Header, length: usize) {
     kind(h);
-    say::text(b" of ");
     say::counted(h.places, b"place");
     say::text(b", ");
     say::counted(h.transitions, b"transition");
@@ -28,15 +27,17 @@ fn counts(h: Header, length: usize) {
     say::text(b" in ");
     say::counted(length, b"byte");
     note(h);
-    say::text(b"\n");
 }
 
+// The end of the line.
 fn note(h: Header) {
-    if h.markstart != 0 {
-        say::text(b", a note of ");
-        say::counted(h.markstart, b"byte");
-        say::text(b" first");
+    if h.markstart == 0 {
+        say::text(b"\n");
+        return;
     }
+    say::text(b", a note of ");
+    say::counted(h.markstart, b"byte");
+    say::text(b" first\n");
 }
 
 // Where the file is a slice: the number in the plan of its place p.
@@ -44,9 +45,10 @@ fn place_origin(file: &[u8], h: Header, p: usize)
     requires { ⌜ Sound (now file) h × (p < h .places) ⌝ }
 {
     if h.kind == 1 {
-        say::text(b" (the plan's ");
-        say::count(file::word::get16(file, h.originstart + 2 * p));
-        say::text(b")");
+        say::form(
+            b" (the plan's %)",
+            &[file::word::get16(file, h.originstart + 2 * p)],
+        );
     }
 }
 
@@ -55,17 +57,17 @@ fn transition_origin(file: &[u8], h: Header, t: usize)
     requires { ⌜ Sound (now file) h × (t < h .transitions) ⌝ }
 {
     if h.kind == 1 {
-        say::text(b" (the plan's ");
-        say::count(file::word::get16(file, h.originstart + 2 * h.places + 2 * t));
-        say::text(b")");
+        say::form(
+            b" (the plan's %)",
+            &[file::word::get16(file, h.originstart + 2 * h.places + 2 * t)],
+        );
     }
 }
 
 fn place(file: &[u8], h: Header, p: usize)
     requires { ⌜ Sound (now file) h × (p < h .places) ⌝ }
 {
-    say::text(b"place ");
-    say::count(p);
+    say::form(b"place %", &[p]);
     place_origin(file, h, p);
     say::text(b": ");
     say::counted(file::marking(file, h, p), b"token");
@@ -86,8 +88,7 @@ fn places(file: &[u8], h: Header)
 fn transition(file: &[u8], h: Header, t: usize)
     requires { ⌜ Sound (now file) h × (t < h .transitions) ⌝ }
 {
-    say::text(b"transition ");
-    say::count(t);
+    say::form(b"transition %", &[t]);
     transition_origin(file, h, t);
     steps::line(firing::run(file, h, t));
 }

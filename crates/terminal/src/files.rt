@@ -110,23 +110,25 @@ fn fill(fd: i32, bytes: &[u8]) -> bool {
 }
 
 // Says why, and removes the file beside.
-fn given_up(temporary: &[u8], path: &[u8]) -> bool {
+fn give_up(temporary: &[u8], path: &[u8]) {
     failed(path);
     os::unlink(temporary);
-    false
 }
 
 // Fills the file beside, then gives it the name.
 fn renamed(fd: i32, bytes: &[u8], temporary: &[u8], path: &[u8]) -> bool {
     if !fill(fd, bytes) {
         libc::close(fd);
-        return given_up(temporary, path);
+        give_up(temporary, path);
+        return false;
     }
     if libc::close(fd) != 0 {
-        return given_up(temporary, path);
+        give_up(temporary, path);
+        return false;
     }
     if os::rename(temporary, path) != 0 {
-        return given_up(temporary, path);
+        give_up(temporary, path);
+        return false;
     }
     true
 }

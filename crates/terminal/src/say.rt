@@ -16,10 +16,6 @@ pub fn count(n: usize) {
     number(n as u64);
 }
 
-pub fn short(n: u16) {
-    number(n as u64);
-}
-
 pub fn signed(n: i32) {
     if n < 0 {
         text(b"-");
@@ -67,17 +63,9 @@ pub fn form(t: &[u8], numbers: &[usize]) {
     }
 }
 
-// A number between two texts.
-pub fn between(before: &[u8], n: usize, after: &[u8]) {
-    text(before);
-    count(n);
-    text(after);
-}
-
 // `1 place`, `5 places`.
 pub fn counted(n: usize, thing: &[u8]) {
-    count(n);
-    text(b" ");
+    form(b"% ", &[n]);
     text(thing);
     if n != 1 {
         text(b"s");

@@ -3,50 +3,42 @@ use terminal::say;
 
 fn first(code: u32, n: usize) {
     match code {
-        101 => say::between(
-            b"rule 1 broken by the slice's place ",
-            n,
-            b": its origin is no place of the plan\n",
+        101 => say::form(
+            b"rule 1 broken by the slice's place %: its origin is no place of the plan\n",
+            &[n],
         ),
-        102 => say::between(
-            b"rule 2 broken by the slice's transition ",
-            n,
-            b": its origin is no transition of the plan\n",
+        102 => say::form(
+            b"rule 2 broken by the slice's transition %: its origin is no transition of the plan\n",
+            &[n],
         ),
-        103 => say::between(
-            b"rule 3 broken by place ",
-            n,
-            b": its marking is not the plan's\n",
+        103 => say::form(
+            b"rule 3 broken by place %: its marking is not the plan's\n",
+            &[n],
         ),
-        _ => say::between(
-            b"rule 4 broken by transition ",
-            n,
-            b": its arcs are not exactly its plan arcs to kept places\n",
+        _ => say::form(
+            b"rule 4 broken by transition %: its arcs are not exactly its plan arcs to kept places\n",
+            &[n],
         ),
     }
 }
 
 fn second(code: u32, n: usize) {
     match code {
-        105 => say::between(
-            b"rule 5 broken by place ",
-            n,
-            b": it is in the criterion and not kept\n",
+        105 => say::form(
+            b"rule 5 broken by place %: it is in the criterion and not kept\n",
+            &[n],
         ),
-        106 => say::between(
-            b"rule 6 broken by transition ",
-            n,
-            b": it is left out and changes a place of the criterion\n",
+        106 => say::form(
+            b"rule 6 broken by transition %: it is left out and changes a place of the criterion\n",
+            &[n],
         ),
-        107 => say::between(
-            b"rule 7 broken by transition ",
-            n,
-            b": it is kept and one of its input places is not\n",
+        107 => say::form(
+            b"rule 7 broken by transition %: it is kept and one of its input places is not\n",
+            &[n],
         ),
-        _ => say::between(
-            b"rule 8 broken by transition ",
-            n,
-            b": it is left out and raises a kept place\n",
+        _ => say::form(
+            b"rule 8 broken by transition %: it is left out and raises a kept place\n",
+            &[n],
         ),
     }
 }

@@ -7,16 +7,10 @@ use terminal::say;
 // `takes 1 from place 0`, `adds 1 to place 2`.
 fn step(a: Arc) {
     if a.direction == 0 {
-        say::text(b"takes ");
-        say::count(a.weight);
-        say::text(b" from place ");
-        say::count(a.place);
+        say::form(b"takes % from place %", &[a.weight, a.place]);
         return;
     }
-    say::text(b"adds ");
-    say::count(a.weight);
-    say::text(b" to place ");
-    say::count(a.place);
+    say::form(b"adds % to place %", &[a.weight, a.place]);
 }
 
 fn before(at: usize) {
