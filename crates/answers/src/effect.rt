@@ -4,11 +4,11 @@ use words::refusal;
 
 pub fn refused(n: u32, file: &[u8], place: u16, transition: u16) {
     if n == 10 {
-        refusal::unknown(n, b"place", place);
+        refusal::unknown_place(file, place);
         return;
     }
     if n == 12 {
-        refusal::unknown(n, b"transition", transition);
+        refusal::unknown_transition(file, transition);
         return;
     }
     refusal::of_file(n, b"file", file);

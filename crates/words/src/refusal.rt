@@ -111,9 +111,17 @@ pub fn two(n: u32, plan: &[u8], slice: &[u8], list: &[u16]) {
     one(n, b"plan", plan, list);
 }
 
-// A number that the file does not have.
-pub fn unknown(n: u32, thing: &[u8], i: u16) {
-    say::form(b"refused %: unknown ", &[n as usize]);
-    say::text(thing);
-    say::form(b" %\n", &[i as usize]);
+// A place, or a transition, that the file does not have.
+pub fn unknown_place(file: &[u8], p: u16) {
+    say::form(
+        b"refused 10: unknown place %; P is %\n",
+        &[p as usize, blame::numbers::places(file)],
+    );
+}
+
+pub fn unknown_transition(file: &[u8], t: u16) {
+    say::form(
+        b"refused 12: unknown transition %; T is %\n",
+        &[t as usize, blame::numbers::transitions(file)],
+    );
 }

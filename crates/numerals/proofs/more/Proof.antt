@@ -3,34 +3,25 @@ use borrow.Author.Tests.{lt-ltb, le-ltb}
 use borrow.Author.Needs.{needs}
 use Rattle.numerals.proofs.more.Statement.{statement}
 use Rattle.numerals.proofs.more.Tie as tie
-use Rattle.numerals.proofs.more.Reads as reads
-use Rattle.numerals.proofs.more.Lts as lts
 
--- src/args.rt:19:16
 mul-next : tie.Need-mul-next
 mul-next c = search needs
 
--- src/args.rt:19:16
 add-next : tie.Need-add-next
 add-next c = search needs
 
--- src/args.rt:21:9
 returns : tie.Need-returns
 returns c = (simp (lt-ltb _ _ (c .if1 .taken)), omega arith)
 
--- src/args.rt:24:9
 returns-2 : tie.Need-returns-2
 returns-2 c = (simp (le-ltb _ _ (c .before .if1 .left), lt-ltb _ _ (c .if2 .taken)), omega arith)
 
--- src/args.rt:27:9
 returns-3 : tie.Need-returns-3
 returns-3 c = (simp (le-ltb _ _ (c .before .before .if1 .left), le-ltb _ _ (c .before .if2 .left), lt-ltb _ _ (c .if3 .taken)), omega arith)
 
--- src/args.rt:29:5
 sub-result : tie.Need-sub-result
 sub-result c = search needs
 
--- src/args.rt:15:1
 returns-4 : tie.Need-returns-4
 returns-4 c = (simp (le-ltb _ _ (c .before .before .if1 .left), le-ltb _ _ (c .before .if2 .left), le-ltb _ _ (c .if3 .left)), omega arith)
 

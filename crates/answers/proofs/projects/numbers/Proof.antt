@@ -2,9 +2,6 @@ use Prim.Native.Nat.{_-_}
 use borrow.Author.Needs.{needs}
 use Rattle.answers.proofs.projects.numbers.Statement.{statement}
 use Rattle.answers.proofs.projects.numbers.Tie as tie
-use Rattle.answers.proofs.projects.numbers.Reads as reads
-use Rattle.answers.proofs.projects.numbers.Lts as lts
-use Rattle.answers.proofs.projects.number.Reads as number-reads
 
 abbrev Inv-loop : tie.InvT-loop
 Inv-loop list count i₀ i = Unit {0}

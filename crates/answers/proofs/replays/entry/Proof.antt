@@ -3,22 +3,16 @@ use lib.ListN.{List·getD-eq-default}
 use borrow.Author.Needs.{needs}
 use Rattle.answers.proofs.replays.entry.Statement.{statement}
 use Rattle.answers.proofs.replays.entry.Tie as tie
-use Rattle.answers.proofs.replays.entry.Reads as reads
-use Rattle.answers.proofs.replays.entry.Lts as lts
 
--- src/replays.rt:11:16
 mul-result : tie.Need-mul-result
 mul-result c = search needs
 
--- src/replays.rt:11:16
 shared-slice-read-result : tie.Need-shared-slice-read-result
 shared-slice-read-result c = search needs
 
--- src/replays.rt:11:9
 returns : tie.Need-returns
 returns c = search needs
 
--- src/replays.rt:7:1
 returns-2 : tie.Need-returns-2
 returns-2 c = sym (List·getD-eq-default (c .before .args .marking .now) 0 (c .if1 .left))
 

@@ -3,76 +3,57 @@ use Rattle.answers.proofs.Words.{same-yes, same-no}
 use borrow.Author.Needs.{needs}
 use Rattle.answers.proofs.verbs.first.Statement.{statement}
 use Rattle.answers.proofs.verbs.first.Tie as tie
-use Rattle.answers.proofs.verbs.first.Reads as reads
-use Rattle.answers.proofs.verbs.first.Lts as lts
-use Rattle.check.proofs.same.Reads as same-reads
 
--- src/verbs.rt:10:26
 slice-aggregate-same : tie.Need-slice-aggregate-same
 slice-aggregate-same c = search needs
 
--- src/verbs.rt:10:8
 same-requires : tie.Need-same-requires
 same-requires c κs = search needs
 
--- src/verbs.rt:11:9
 returns : tie.Need-returns
 unfolding ofOne
 returns c = rw (same-yes _ show _ (c .before .same .ensures) (c .if1 .taken))
 
--- src/verbs.rt:13:26
 slice-aggregate-same-2 : tie.Need-slice-aggregate-same-2
 slice-aggregate-same-2 c = search needs
 
--- src/verbs.rt:13:8
 same-requires-2 : tie.Need-same-requires-2
 same-requires-2 c κs = search needs
 
--- src/verbs.rt:14:9
 returns-2 : tie.Need-returns-2
 unfolding ofOne
 returns-2 c = rw (same-no _ show _ (c .before .before .before .before .same .ensures) (c .before .before .before .if1 .left), same-yes _ effect _ (c .before .same2 .ensures) (c .if2 .taken))
 
--- src/verbs.rt:16:26
 slice-aggregate-same-3 : tie.Need-slice-aggregate-same-3
 slice-aggregate-same-3 c = search needs
 
--- src/verbs.rt:16:8
 same-requires-3 : tie.Need-same-requires-3
 same-requires-3 c κs = search needs
 
--- src/verbs.rt:17:9
 returns-3 : tie.Need-returns-3
 unfolding ofOne
 returns-3 c = rw (same-no _ show _ (c .before .before .before .before .before .before .before .same .ensures) (c .before .before .before .before .before .before .if1 .left), same-no _ effect _ (c .before .before .before .before .same2 .ensures) (c .before .before .before .if2 .left), same-yes _ replay _ (c .before .same3 .ensures) (c .if3 .taken))
 
--- src/verbs.rt:19:26
 slice-aggregate-same-4 : tie.Need-slice-aggregate-same-4
 slice-aggregate-same-4 c = search needs
 
--- src/verbs.rt:19:8
 same-requires-4 : tie.Need-same-requires-4
 same-requires-4 c κs = search needs
 
--- src/verbs.rt:20:9
 returns-4 : tie.Need-returns-4
 unfolding ofOne
 returns-4 c = rw (same-no _ show _ (c .before .before .before .before .before .before .before .before .before .before .same .ensures) (c .before .before .before .before .before .before .before .before .before .if1 .left), same-no _ effect _ (c .before .before .before .before .before .before .before .same2 .ensures) (c .before .before .before .before .before .before .if2 .left), same-no _ replay _ (c .before .before .before .before .same3 .ensures) (c .before .before .before .if3 .left), same-yes _ safety _ (c .before .same4 .ensures) (c .if4 .taken))
 
--- src/verbs.rt:22:26
 slice-aggregate-same-5 : tie.Need-slice-aggregate-same-5
 slice-aggregate-same-5 c = search needs
 
--- src/verbs.rt:22:8
 same-requires-5 : tie.Need-same-requires-5
 same-requires-5 c κs = search needs
 
--- src/verbs.rt:23:9
 returns-5 : tie.Need-returns-5
 unfolding ofOne
 returns-5 c = rw (same-no _ show _ (c .before .before .before .before .before .before .before .before .before .before .before .before .before .same .ensures) (c .before .before .before .before .before .before .before .before .before .before .before .before .if1 .left), same-no _ effect _ (c .before .before .before .before .before .before .before .before .before .before .same2 .ensures) (c .before .before .before .before .before .before .before .before .before .if2 .left), same-no _ replay _ (c .before .before .before .before .before .before .before .same3 .ensures) (c .before .before .before .before .before .before .if3 .left), same-no _ safety _ (c .before .before .before .before .same4 .ensures) (c .before .before .before .if4 .left), same-yes _ branching _ (c .before .same5 .ensures) (c .if5 .taken))
 
--- src/verbs.rt:7:1
 returns-6 : tie.Need-returns-6
 unfolding ofOne
 returns-6 c = rw (same-no _ show _ (c .before .before .before .before .before .before .before .before .before .before .before .before .before .same .ensures) (c .before .before .before .before .before .before .before .before .before .before .before .before .if1 .left), same-no _ effect _ (c .before .before .before .before .before .before .before .before .before .before .same2 .ensures) (c .before .before .before .before .before .before .before .before .before .if2 .left), same-no _ replay _ (c .before .before .before .before .before .before .before .same3 .ensures) (c .before .before .before .before .before .before .if3 .left), same-no _ safety _ (c .before .before .before .before .same4 .ensures) (c .before .before .before .if4 .left), same-no _ branching _ (c .before .same5 .ensures) (c .if5 .left))

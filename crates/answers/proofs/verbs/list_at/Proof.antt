@@ -1,19 +1,13 @@
 use borrow.Author.Tests.{eq-eqb, ne-eqb, lt-ltb, le-ltb}
-use borrow.Author.Needs.{needs}
 use Rattle.answers.proofs.verbs.list_at.Statement.{statement}
 use Rattle.answers.proofs.verbs.list_at.Tie as tie
-use Rattle.answers.proofs.verbs.list_at.Reads as reads
-use Rattle.answers.proofs.verbs.list_at.Lts as lts
 
--- src/verbs.rt:106:9
 returns : tie.Need-returns
 returns c = rw (lt-ltb _ 5 (c .if1 .taken))
 
--- src/verbs.rt:109:9
 returns-2 : tie.Need-returns-2
 returns-2 c = rw (le-ltb _ 5 (c .before .if1 .left), eq-eqb _ 8 (c .if2 .taken))
 
--- src/verbs.rt:102:1
 returns-3 : tie.Need-returns-3
 returns-3 c = rw (le-ltb _ 5 (c .before .if1 .left), ne-eqb _ 8 (c .if2 .left))
 

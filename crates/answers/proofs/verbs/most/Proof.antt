@@ -1,23 +1,16 @@
 use borrow.Author.Tests.{eq-eqb, ne-eqb, lt-ltb, le-ltb}
-use borrow.Author.Needs.{needs}
 use Rattle.answers.proofs.verbs.most.Statement.{statement}
 use Rattle.answers.proofs.verbs.most.Tie as tie
-use Rattle.answers.proofs.verbs.most.Reads as reads
-use Rattle.answers.proofs.verbs.most.Lts as lts
 
--- src/verbs.rt:83:9
 returns : tie.Need-returns
 returns c = rw (c .if1 .taken)
 
--- src/verbs.rt:86:9
 returns-2 : tie.Need-returns-2
 returns-2 c = rw (c .before .if1 .left, eq-eqb _ 3 (c .if2 .taken))
 
--- src/verbs.rt:89:9
 returns-3 : tie.Need-returns-3
 returns-3 c = rw (c .before .before .if1 .left, ne-eqb _ 3 (c .before .if2 .left), eq-eqb _ 8 (c .if3 .taken))
 
--- src/verbs.rt:79:1
 returns-4 : tie.Need-returns-4
 returns-4 c = rw (c .before .before .if1 .left, ne-eqb _ 3 (c .before .if2 .left), ne-eqb _ 8 (c .if3 .left))
 

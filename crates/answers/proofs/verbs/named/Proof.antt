@@ -3,30 +3,21 @@ use Rattle.answers.specs.Verbs.{verbOf}
 use borrow.Author.Needs.{needs}
 use Rattle.answers.proofs.verbs.named.Statement.{statement}
 use Rattle.answers.proofs.verbs.named.Tie as tie
-use Rattle.answers.proofs.verbs.named.Reads as reads
-use Rattle.answers.proofs.verbs.named.Lts as lts
-use Rattle.answers.proofs.verbs.first.Reads as first-reads
-use Rattle.answers.proofs.verbs.second.Reads as second-reads
 
--- src/verbs.rt:51:9
 first-requires : tie.Need-first-requires
 first-requires c κs = search needs
 
--- src/verbs.rt:53:9
 returns : tie.Need-returns
 unfolding verbOf
 returns c = rw (← c .before .first .ensures, ne-eqb _ 0 (c .if1 .taken))
 
--- src/verbs.rt:55:9
 second-requires : tie.Need-second-requires
 second-requires c κs = search needs
 
--- src/verbs.rt:57:9
 returns-2 : tie.Need-returns-2
 unfolding verbOf
 returns-2 c = rw (← c .before .before .before .first .ensures, eq-eqb _ 0 (c .before .before .if1 .left), ← c .before .second .ensures, c .if2 .taken)
 
--- src/verbs.rt:48:1
 returns-3 : tie.Need-returns-3
 unfolding verbOf
 returns-3 c = rw (← c .before .before .before .first .ensures, eq-eqb _ 0 (c .before .before .if1 .left), ← c .before .second .ensures, c .if2 .left)

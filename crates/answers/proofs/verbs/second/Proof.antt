@@ -3,63 +3,47 @@ use Rattle.answers.proofs.Words.{same-yes, same-no}
 use borrow.Author.Needs.{needs}
 use Rattle.answers.proofs.verbs.second.Statement.{statement}
 use Rattle.answers.proofs.verbs.second.Tie as tie
-use Rattle.answers.proofs.verbs.second.Reads as reads
-use Rattle.answers.proofs.verbs.second.Lts as lts
-use Rattle.check.proofs.same.Reads as same-reads
 
--- src/verbs.rt:32:26
 slice-aggregate-same : tie.Need-slice-aggregate-same
 slice-aggregate-same c = search needs
 
--- src/verbs.rt:32:8
 same-requires : tie.Need-same-requires
 same-requires c κs = search needs
 
--- src/verbs.rt:33:9
 returns : tie.Need-returns
 unfolding ofTwo
 returns c = rw (same-yes _ dot _ (c .before .same .ensures) (c .if1 .taken))
 
--- src/verbs.rt:35:26
 slice-aggregate-same-2 : tie.Need-slice-aggregate-same-2
 slice-aggregate-same-2 c = search needs
 
--- src/verbs.rt:35:8
 same-requires-2 : tie.Need-same-requires-2
 same-requires-2 c κs = search needs
 
--- src/verbs.rt:36:9
 returns-2 : tie.Need-returns-2
 unfolding ofTwo
 returns-2 c = rw (same-no _ dot _ (c .before .before .before .before .same .ensures) (c .before .before .before .if1 .left), same-yes _ arcs _ (c .before .same2 .ensures) (c .if2 .taken))
 
--- src/verbs.rt:38:26
 slice-aggregate-same-3 : tie.Need-slice-aggregate-same-3
 slice-aggregate-same-3 c = search needs
 
--- src/verbs.rt:38:8
 same-requires-3 : tie.Need-same-requires-3
 same-requires-3 c κs = search needs
 
--- src/verbs.rt:39:9
 returns-3 : tie.Need-returns-3
 unfolding ofTwo
 returns-3 c = rw (same-no _ dot _ (c .before .before .before .before .before .before .before .same .ensures) (c .before .before .before .before .before .before .if1 .left), same-no _ arcs _ (c .before .before .before .before .same2 .ensures) (c .before .before .before .if2 .left), same-yes _ check _ (c .before .same3 .ensures) (c .if3 .taken))
 
--- src/verbs.rt:41:26
 slice-aggregate-same-4 : tie.Need-slice-aggregate-same-4
 slice-aggregate-same-4 c = search needs
 
--- src/verbs.rt:41:8
 same-requires-4 : tie.Need-same-requires-4
 same-requires-4 c κs = search needs
 
--- src/verbs.rt:42:9
 returns-4 : tie.Need-returns-4
 unfolding ofTwo
 returns-4 c = rw (same-no _ dot _ (c .before .before .before .before .before .before .before .before .before .before .same .ensures) (c .before .before .before .before .before .before .before .before .before .if1 .left), same-no _ arcs _ (c .before .before .before .before .before .before .before .same2 .ensures) (c .before .before .before .before .before .before .if2 .left), same-no _ check _ (c .before .before .before .before .same3 .ensures) (c .before .before .before .if3 .left), same-yes _ project _ (c .before .same4 .ensures) (c .if4 .taken))
 
--- src/verbs.rt:29:1
 returns-5 : tie.Need-returns-5
 unfolding ofTwo
 returns-5 c = rw (same-no _ dot _ (c .before .before .before .before .before .before .before .before .before .before .same .ensures) (c .before .before .before .before .before .before .before .before .before .if1 .left), same-no _ arcs _ (c .before .before .before .before .before .before .before .same2 .ensures) (c .before .before .before .before .before .before .if2 .left), same-no _ check _ (c .before .before .before .before .same3 .ensures) (c .before .before .before .if3 .left), same-no _ project _ (c .before .same4 .ensures) (c .if4 .left))

@@ -7,59 +7,42 @@ use Rattle.blame.proofs.Heads.{placed, arc-answer}
 use borrow.Author.Needs.{needs}
 use Rattle.blame.proofs.arcs.first.Statement.{statement}
 use Rattle.blame.proofs.arcs.first.Tie as tie
-use Rattle.blame.proofs.arcs.first.Reads as reads
-use Rattle.blame.proofs.arcs.first.Lts as lts
-use Rattle.blame.proofs.arcs.passed.Reads as passed-reads
-use Rattle.blame.proofs.head.head.Reads as head-reads
-use Rattle.file.proofs.arcs.arc.Reads as arc-reads
-use Rattle.file.proofs.word.get8.Reads as get8-reads
 
 -- the parts of the file lie inside
 placed-at : (c : tie.After-whole) → Placed (length (c .before .before .before .before .args .file .now)) (c .whole .given .0 .0)
 placed-at c = placed _ (c .before .before .head .ensures) (c .whole .given .1)
 
--- src/arcs.rt:67:9
 head-requires : tie.Need-head-requires
 head-requires c κs = search needs
 
--- src/arcs.rt:68:24
 enum-known-whole : tie.Need-enum-known-whole
 enum-known-whole c = search needs
 
--- src/arcs.rt:71:18
 enum-told : tie.Need-enum-told
 enum-told c = search needs
 
--- src/arcs.rt:69:9
 returns : tie.Need-returns
 unfolding arcOf
 returns c = ap (arcOf _) (sym (c .enum-told .given .1) ∙ c .before .before .head .ensures)
 
--- src/arcs.rt:80:9
 passed-requires : tie.Need-passed-requires
 passed-requires c κs = let o = placed-at (c .before) in omega arith
 
--- src/arcs.rt:81:27
 mul-at : tie.Need-mul-at
 mul-at c = let o = placed-at (c .before .before) in omega arith
 
--- src/arcs.rt:81:14
 add-at : tie.Need-add-at
 add-at c = let o = placed-at (c .before .before .before) in omega arith
 
--- src/arcs.rt:82:9
 arc-requires : tie.Need-arc-requires
 arc-requires c κs = let o = placed-at (c .before .before .before) in omega arith
 
--- src/arcs.rt:83:28
 add-get8 : tie.Need-add-get8
 add-get8 c = let o = placed-at (c .before .before .before .before) in omega arith
 
--- src/arcs.rt:83:9
 get8-requires : tie.Need-get8-requires
 get8-requires c κs = let o = placed-at (c .before .before .before .before) in omega arith
 
--- src/arcs.rt:64:1
 returns-2 : tie.Need-returns-2
 returns-2 c =
     arc-answer _ (c .before .before .before .before .before .before .before .head .ensures) (c .before .before .before .before .before .whole .given .1) _ _ _ (c .before .before .before .passed .ensures .0) (c .before .arc .ensures .0) (c .get8 .ensures .0)

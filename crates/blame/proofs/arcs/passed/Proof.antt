@@ -10,12 +10,6 @@ use Rattle.blame.proofs.Steps.{at-first, arcs-stop, arcs-on, arcs-end}
 use borrow.Author.Needs.{needs}
 use Rattle.blame.proofs.arcs.passed.Statement.{statement}
 use Rattle.blame.proofs.arcs.passed.Tie as tie
-use Rattle.blame.proofs.arcs.passed.Reads as reads
-use Rattle.blame.proofs.arcs.passed.Lts as lts
-use Rattle.blame.proofs.arcs.order.Reads as order-reads
-use Rattle.blame.proofs.arcs.wrong.Reads as wrong-reads
-use Rattle.file.proofs.arcs.arc.Reads as arc-reads
-use Rattle.file.proofs.word.get8.Reads as get8-reads
 
 abbrev Inv-loop : tie.InvT-loop
 Inv-loop file places transitions start count at₀ least₀ k₀ at least k =
@@ -32,54 +26,42 @@ wrong-is c = c .wrong .ensures ∙ rw (c .before .before .before .arc .ensures .
 key-is : (c : tie.After-order Inv-loop μ-loop) → c .order .result ≡ key (arcAt (c .before .before .before .before .before .args .file .now) (c .before .before .before .loop .at))
 key-is c = c .order .ensures .0 ∙ ap key (c .before .arc .ensures .0)
 
--- src/arcs.rt:50:5
 loop-holds : tie.Need-loop-holds Inv-loop μ-loop
 loop-holds c = (search needs, search needs, at-first (arcsPassed _ _ _ _ 0) _)
 
--- src/arcs.rt:51:13
 arc-requires : tie.Need-arc-requires Inv-loop μ-loop
 arc-requires c κs = search needs
 
--- src/arcs.rt:52:13
 order-requires : tie.Need-order-requires Inv-loop μ-loop
 order-requires c κs = search needs
 
--- src/arcs.rt:53:32
 add-get8 : tie.Need-add-get8 Inv-loop μ-loop
 add-get8 c = search needs
 
--- src/arcs.rt:53:21
 get8-requires : tie.Need-get8-requires Inv-loop μ-loop
 get8-requires c κs = search needs
 
--- src/arcs.rt:53:12
 wrong-requires : tie.Need-wrong-requires Inv-loop μ-loop
 wrong-requires c κs = search needs
 
--- src/arcs.rt:54:13
 returns : tie.Need-returns Inv-loop μ-loop
 returns c = (
   arcs-stop _ _ _ _ _ _ _ _ (c .before .before .before .before .before .before .loop .inv .2) _ _ (wrong-is (c .before)) (key-is (c .before .before .before)) (c .before .before .before .before .before .loop-test .taken) (c .if1 .taken),
   search needs,
 )
 
--- src/arcs.rt:56:17
 add-least : tie.Need-add-least Inv-loop μ-loop
 add-least c = search needs
 
--- src/arcs.rt:57:9
 add-at : tie.Need-add-at Inv-loop μ-loop
 add-at c = search needs
 
--- src/arcs.rt:58:9
 add-k : tie.Need-add-k Inv-loop μ-loop
 add-k c = search needs
 
--- src/arcs.rt:50:5
 loop-less : tie.Need-loop-less Inv-loop μ-loop
 loop-less c = search needs
 
--- src/arcs.rt:50:5
 loop-again : tie.Need-loop-again Inv-loop μ-loop
 loop-again c = (
   search needs,
@@ -87,7 +69,6 @@ loop-again c = (
   arcs-on _ _ _ _ _ _ _ _ (c .before .before .before .before .before .before .loop .inv .2) _ _ (wrong-is (c .before)) (key-is (c .before .before .before)) (c .before .before .before .before .before .loop-test .taken) (c .if1 .left),
 )
 
--- src/arcs.rt:43:1
 returns-2 : tie.Need-returns-2 Inv-loop μ-loop
 returns-2 c = (arcs-end _ _ _ _ _ _ _ _ (c .before .loop .inv .2) (c .loop-test .left), search needs)
 

@@ -11,11 +11,6 @@ use Rattle.blame.proofs.Heads.{by-length, by-trailer, by-header}
 use borrow.Author.Needs.{needs}
 use Rattle.blame.proofs.head.head.Statement.{statement}
 use Rattle.blame.proofs.head.head.Tie as tie
-use Rattle.blame.proofs.head.head.Reads as reads
-use Rattle.blame.proofs.head.head.Lts as lts
-use Rattle.file.proofs.tail.fields.Reads as fields-reads
-use Rattle.file.proofs.tail.header.Reads as header-reads
-use Rattle.file.proofs.tail.refusal.Reads as refusal-reads
 
 length-right : (c : tie.Else2) → lengthWrong (length (c .before .before .before .args .file .now)) ≡ false
 length-right c = simp (le-ltb _ _ (c .before .if1 .left), le-ltb _ _ (c .if2 .left))
@@ -27,33 +22,26 @@ header-is : (c : tie.After-header) → c .header .result ≡ headerOf (c .before
 unfolding headerOf
 header-is c = c .header .ensures ∙ ap (λ (t : Trailer). headerFrom (length (c .before .before .before .before .before .before .before .args .file .now)) t) (c .before .before .before .fields .ensures)
 
--- src/head.rt:13:9
 returns : tie.Need-returns
 returns c = by-length _ (simp (lt-ltb _ _ (c .if1 .taken)))
 
--- src/head.rt:16:9
 returns-2 : tie.Need-returns-2
 returns-2 c = by-length _ (simp (le-ltb _ _ (c .before .if1 .left), lt-ltb _ _ (c .if2 .taken)))
 
--- src/head.rt:18:9
 fields-requires : tie.Need-fields-requires
 fields-requires c κs = search needs
 
--- src/head.rt:19:9
 refusal-requires : tie.Need-refusal-requires
 refusal-requires c κs = search needs
 
--- src/head.rt:21:9
 returns-3 : tie.Need-returns-3
 returns-3 c = by-trailer _ (length-right (c .before .before .before)) _ (trailer-is (c .before)) (c .if3 .taken)
 
--- src/head.rt:23:20
 header-requires : tie.Need-header-requires
 header-requires c κs =
     let e = sym (c .before .refusal .ensures) ∙ c .if3 .left in
     (search needs, trailer-fits _ _ _ e (search needs), trailer-counts _ _ _ e)
 
--- src/head.rt:8:1
 returns-4 : tie.Need-returns-4
 returns-4 c = by-header _ (length-right (c .before .before .before .before)) _ (header-is c) (sym (c .before .if3 .left) ∙ trailer-is (c .before .before))
 

@@ -3,27 +3,19 @@ use lib.ListN.{List·getD-eq-default}
 use borrow.Author.Needs.{needs}
 use Rattle.blame.proofs.numbers.entry.Statement.{statement}
 use Rattle.blame.proofs.numbers.entry.Tie as tie
-use Rattle.blame.proofs.numbers.entry.Reads as reads
-use Rattle.blame.proofs.numbers.entry.Lts as lts
-use Rattle.blame.proofs.numbers.wide.Reads as wide-reads
 
--- src/numbers.rt:31:21
 mul-wide : tie.Need-mul-wide
 mul-wide c = search needs
 
--- src/numbers.rt:31:21
 shared-slice-read-wide : tie.Need-shared-slice-read-wide
 shared-slice-read-wide c = search needs
 
--- src/numbers.rt:31:9
 wide-requires : tie.Need-wide-requires
 wide-requires c κs = search needs
 
--- src/numbers.rt:31:9
 returns : tie.Need-returns
 returns c = search needs
 
--- src/numbers.rt:27:1
 returns-2 : tie.Need-returns-2
 returns-2 c = sym (List·getD-eq-default (c .before .before .args .list .now) 0 (c .if1 .left))
 

@@ -7,9 +7,6 @@ use Rattle.blame.proofs.Steps.{places-stop, places-on, places-end}
 use borrow.Author.Needs.{needs}
 use Rattle.blame.proofs.numbers.rising.Statement.{statement}
 use Rattle.blame.proofs.numbers.rising.Tie as tie
-use Rattle.blame.proofs.numbers.rising.Reads as reads
-use Rattle.blame.proofs.numbers.rising.Lts as lts
-use Rattle.blame.proofs.numbers.wide.Reads as wide-reads
 
 abbrev Inv-loop : tie.InvT-loop
 Inv-loop q places least₀ i₀ least i = (i ≤ length q) × (placesPassed places 0 q ≡ i + placesPassed places least (drop i q))
@@ -17,43 +14,33 @@ Inv-loop q places least₀ i₀ least i = (i ≤ length q) × (placesPassed plac
 abbrev μ-loop : tie.MeasureT-loop
 μ-loop q places least₀ i₀ least i = length q - i
 
--- src/numbers.rt:64:5
 loop-holds : tie.Need-loop-holds Inv-loop μ-loop
 loop-holds c = (search needs, omega arith)
 
--- src/numbers.rt:65:22
 mul-wide : tie.Need-mul-wide Inv-loop μ-loop
 mul-wide c = search needs
 
--- src/numbers.rt:65:22
 shared-slice-read-wide : tie.Need-shared-slice-read-wide Inv-loop μ-loop
 shared-slice-read-wide c = search needs
 
--- src/numbers.rt:65:13
 wide-requires : tie.Need-wide-requires Inv-loop μ-loop
 wide-requires c κs = search needs
 
--- src/numbers.rt:67:13
 returns : tie.Need-returns Inv-loop μ-loop
 returns c = places-stop _ _ _ _ _ (c .before .before .before .before .loop .inv .1) _ (c .before .wide .ensures .0) (c .before .before .before .loop-test .taken) (c .if1 .taken)
 
--- src/numbers.rt:69:17
 add-least : tie.Need-add-least Inv-loop μ-loop
 add-least c = search needs
 
--- src/numbers.rt:70:9
 add-i : tie.Need-add-i Inv-loop μ-loop
 add-i c = search needs
 
--- src/numbers.rt:64:5
 loop-less : tie.Need-loop-less Inv-loop μ-loop
 loop-less c = search needs
 
--- src/numbers.rt:64:5
 loop-again : tie.Need-loop-again Inv-loop μ-loop
 loop-again c = (search needs, places-on _ _ _ _ _ (c .before .before .before .before .loop .inv .1) _ (c .before .wide .ensures .0) (c .before .before .before .loop-test .taken) (c .if1 .left))
 
--- src/numbers.rt:59:1
 returns-2 : tie.Need-returns-2 Inv-loop μ-loop
 returns-2 c = places-end _ _ _ _ _ (c .before .loop .inv .1) (c .loop-test .left)
 

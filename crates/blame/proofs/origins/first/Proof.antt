@@ -4,37 +4,26 @@ use Rattle.blame.proofs.Heads.{placed, tables-inside, no-tables, origin
 use borrow.Author.Needs.{needs}
 use Rattle.blame.proofs.origins.first.Statement.{statement}
 use Rattle.blame.proofs.origins.first.Tie as tie
-use Rattle.blame.proofs.origins.first.Reads as reads
-use Rattle.blame.proofs.origins.first.Lts as lts
-use Rattle.blame.proofs.head.head.Reads as head-reads
-use Rattle.blame.proofs.origins.in_tables.Reads as in-tables-reads
 
--- src/origins.rt:65:9
 head-requires : tie.Need-head-requires
 head-requires c κs = search needs
 
--- src/origins.rt:66:24
 enum-known-whole : tie.Need-enum-known-whole
 enum-known-whole c = search needs
 
--- src/origins.rt:67:9
 enum-told : tie.Need-enum-told
 enum-told c = search needs
 
--- src/origins.rt:67:9
 returns : tie.Need-returns
 unfolding originOf
 returns c = ap (originOf _) (sym (c .enum-told .given .1) ∙ c .before .before .head .ensures)
 
--- src/origins.rt:74:9
 returns-2 : tie.Need-returns-2
 returns-2 c = no-tables _ (c .before .before .before .before .before .head .ensures) (c .before .before .before .whole .given .1) (c .if1 .taken)
 
--- src/origins.rt:80:5
 in-tables-requires : tie.Need-in-tables-requires
 in-tables-requires c κs = tables-inside (placed _ (c .before .before .before .before .before .head .ensures) (c .before .before .before .whole .given .1)) (c .if1 .left)
 
--- src/origins.rt:62:1
 returns-3 : tie.Need-returns-3
 returns-3 c = origin-answer _ (c .before .before .before .before .before .before .head .ensures) (c .before .before .before .before .whole .given .1) _ (c .before .if1 .left) (c .in-tables .ensures)
 

@@ -7,9 +7,6 @@ use Rattle.blame.proofs.Steps.{at-first, table-stop, table-on, table-en
 use borrow.Author.Needs.{needs}
 use Rattle.blame.proofs.origins.passed.Statement.{statement}
 use Rattle.blame.proofs.origins.passed.Tie as tie
-use Rattle.blame.proofs.origins.passed.Reads as reads
-use Rattle.blame.proofs.origins.passed.Lts as lts
-use Rattle.file.proofs.word.get16.Reads as get16-reads
 
 abbrev Inv-loop : tie.InvT-loop
 Inv-loop file start count at₀ least₀ k₀ at least k =
@@ -18,39 +15,30 @@ Inv-loop file start count at₀ least₀ k₀ at least k =
 abbrev μ-loop : tie.MeasureT-loop
 μ-loop file start count at₀ least₀ k₀ at least k = count - k
 
--- src/origins.rt:27:5
 loop-holds : tie.Need-loop-holds Inv-loop μ-loop
 loop-holds c = (search needs, search needs, at-first (tablePassed _ _ 0) _)
 
--- src/origins.rt:28:13
 get16-requires : tie.Need-get16-requires Inv-loop μ-loop
 get16-requires c κs = search needs
 
--- src/origins.rt:30:13
 returns : tie.Need-returns Inv-loop μ-loop
 returns c = (table-stop _ _ _ _ _ _ (c .before .before .before .loop .inv .2) _ (c .before .get16 .ensures .0) (c .before .before .loop-test .taken) (c .if1 .taken), search needs)
 
--- src/origins.rt:32:17
 add-least : tie.Need-add-least Inv-loop μ-loop
 add-least c = search needs
 
--- src/origins.rt:33:9
 add-at : tie.Need-add-at Inv-loop μ-loop
 add-at c = search needs
 
--- src/origins.rt:34:9
 add-k : tie.Need-add-k Inv-loop μ-loop
 add-k c = search needs
 
--- src/origins.rt:27:5
 loop-less : tie.Need-loop-less Inv-loop μ-loop
 loop-less c = search needs
 
--- src/origins.rt:27:5
 loop-again : tie.Need-loop-again Inv-loop μ-loop
 loop-again c = (search needs, search needs, table-on _ _ _ _ _ _ (c .before .before .before .loop .inv .2) _ (c .before .get16 .ensures .0) (c .before .before .loop-test .taken) (c .if1 .left))
 
--- src/origins.rt:20:1
 returns-2 : tie.Need-returns-2 Inv-loop μ-loop
 returns-2 c = (table-end _ _ _ _ _ _ (c .before .loop .inv .2) (c .loop-test .left), search needs)
 

@@ -7,10 +7,6 @@ use Rattle.pages.proofs.Shading.{words-first, word-on, words-end}
 use borrow.Author.Needs.{needs}
 use Rattle.pages.proofs.dot.keep.Statement.{statement}
 use Rattle.pages.proofs.dot.keep.Tie as tie
-use Rattle.pages.proofs.dot.keep.Reads as reads
-use Rattle.pages.proofs.dot.keep.Lts as lts
-use Rattle.file.proofs.word.get16.Reads as get16-reads
-use Rattle.pages.proofs.dot.set.Reads as set-reads
 
 abbrev Inv-loop : tie.InvT-loop
 Inv-loop file start count shades₀ i₀ shades i =
@@ -20,39 +16,30 @@ Inv-loop file start count shades₀ i₀ shades i =
 abbrev μ-loop : tie.MeasureT-loop
 μ-loop file start count shades₀ i₀ shades i = count - i
 
--- src/dot.rt:28:5
 loop-holds : tie.Need-loop-holds Inv-loop μ-loop
 loop-holds c = (search needs, words-first 1 _ _ _ _)
 
--- src/dot.rt:29:53
 mul-get16 : tie.Need-mul-get16 Inv-loop μ-loop
 mul-get16 c = search needs
 
--- src/dot.rt:29:45
 add-get16 : tie.Need-add-get16 Inv-loop μ-loop
 add-get16 c = search needs
 
--- src/dot.rt:29:21
 get16-requires : tie.Need-get16-requires Inv-loop μ-loop
 get16-requires c κs = search needs
 
--- src/dot.rt:29:9
 set-requires : tie.Need-set-requires Inv-loop μ-loop
 set-requires c κs = search needs
 
--- src/dot.rt:30:9
 add-i : tie.Need-add-i Inv-loop μ-loop
 add-i c = search needs
 
--- src/dot.rt:28:5
 loop-less : tie.Need-loop-less Inv-loop μ-loop
 loop-less c = search needs
 
--- src/dot.rt:28:5
 loop-again : tie.Need-loop-again Inv-loop μ-loop
 loop-again c = (search needs, word-on 1 _ _ _ _ _ _ (c .before .before .before .before .before .before .loop .inv .1) (c .before .before .before .before .before .loop-test .taken) _ (c .before .before .before .get16 .ensures .0) _ (c .before .before .set .ensures))
 
--- src/dot.rt:24:1
 same-length : tie.Need-same-length Inv-loop μ-loop
 same-length c = search needs
 

@@ -3,57 +3,40 @@ use Rattle.pages.proofs.Origins.{origins-fit}
 use borrow.Author.Needs.{needs}
 use Rattle.pages.proofs.dot.kept.Statement.{statement}
 use Rattle.pages.proofs.dot.kept.Tie as tie
-use Rattle.pages.proofs.dot.kept.Reads as reads
-use Rattle.pages.proofs.dot.kept.Lts as lts
-use Rattle.pages.proofs.dot.keep.Reads as keep-reads
-use Rattle.pages.proofs.dot.mark.Reads as mark-reads
-use Rattle.pages.proofs.picture.draw.Reads as draw-reads
 
--- src/dot.rt:69:42
 slice-aggregate-keep : tie.Need-slice-aggregate-keep
 slice-aggregate-keep c = search needs
 
--- src/dot.rt:69:5
 keep-requires : tie.Need-keep-requires
 keep-requires c κs = omega (arith, origins-fit (c .before .before .before .before .pre .1) (c .before .before .before .before .pre .2))
 
--- src/dot.rt:72:25
 mul-keep : tie.Need-mul-keep
 mul-keep c = search needs
 
--- src/dot.rt:72:9
 add-keep : tie.Need-add-keep
 add-keep c = search needs
 
--- src/dot.rt:74:9
 slice-aggregate-keep-2 : tie.Need-slice-aggregate-keep-2
 slice-aggregate-keep-2 c = search needs
 
--- src/dot.rt:70:5
 keep-requires-2 : tie.Need-keep-requires-2
 keep-requires-2 c κs = omega (arith, origins-fit (c .before .before .before .before .before .before .before .before .before .pre .1) (c .before .before .before .before .before .before .before .before .before .pre .2))
 
--- src/dot.rt:76:21
 slice-aggregate-mark : tie.Need-slice-aggregate-mark
 slice-aggregate-mark c = search needs
 
--- src/dot.rt:76:5
 mark-requires : tie.Need-mark-requires
 mark-requires c κs = search needs
 
--- src/dot.rt:77:28
 slice-aggregate-draw : tie.Need-slice-aggregate-draw
 slice-aggregate-draw c = search needs
 
--- src/dot.rt:77:37
 slice-aggregate-draw-2 : tie.Need-slice-aggregate-draw-2
 slice-aggregate-draw-2 c = search needs
 
--- src/dot.rt:77:5
 draw-requires : tie.Need-draw-requires
 draw-requires c κs = search needs
 
--- src/dot.rt:64:1
 returns : tie.Need-returns
 returns c = search needs
 

@@ -4,50 +4,35 @@ use Rattle.file.proofs.Opening.{opened}
 use borrow.Author.Needs.{needs}
 use Rattle.pages.proofs.dot.one.Statement.{statement}
 use Rattle.pages.proofs.dot.one.Tie as tie
-use Rattle.pages.proofs.dot.one.Reads as reads
-use Rattle.pages.proofs.dot.one.Lts as lts
-use Rattle.file.proofs.number.Reads as number-reads
-use Rattle.file.proofs.read.Reads as read-reads
-use Rattle.pages.proofs.picture.whole.Reads as whole-reads
-use Rattle.words.proofs.refusal.of_file.Reads as of-file-reads
 
 -- what is known of the file from here on
 open-at : (c : tie.After-whole) → Opened Either (c .before .before .before .before .args .file .now) (c .whole .given .0 .0)
 open-at c = opened Either _ (c .before .before .read .ensures) (c .whole .given .1)
 
--- src/dot.rt:71:9
 read-requires : tie.Need-read-requires
 read-requires c κs = search needs
 
--- src/dot.rt:72:24
 enum-known-whole : tie.Need-enum-known-whole
 enum-known-whole c = search needs
 
--- src/dot.rt:73:22
 enum-told : tie.Need-enum-told
 enum-told c = search needs
 
--- src/dot.rt:73:22
 number-requires : tie.Need-number-requires
 number-requires c κs = search needs
 
--- src/dot.rt:73:43
 slice-aggregate-of-file : tie.Need-slice-aggregate-of-file
 slice-aggregate-of-file c = search needs
 
--- src/dot.rt:73:9
 of-file-requires : tie.Need-of-file-requires
 of-file-requires c κs = search needs
 
--- src/dot.rt:74:9
 returns : tie.Need-returns
 returns c = search needs
 
--- src/dot.rt:76:5
 whole-requires : tie.Need-whole-requires
 whole-requires c κs = open-at (c .before) .good
 
--- src/dot.rt:70:1
 returns-2 : tie.Need-returns-2
 returns-2 c = search needs
 

@@ -3,22 +3,16 @@ use Rattle.pages.proofs.Shading.{set-past}
 use borrow.Author.Needs.{needs}
 use Rattle.pages.proofs.dot.set.Statement.{statement}
 use Rattle.pages.proofs.dot.set.Tie as tie
-use Rattle.pages.proofs.dot.set.Reads as reads
-use Rattle.pages.proofs.dot.set.Lts as lts
 
--- src/dot.rt:20:9
 slice-write-shades : tie.Need-slice-write-shades
 slice-write-shades c = search needs
 
--- src/dot.rt:16:1
 same-length : tie.Need-same-length
 same-length c = search needs
 
--- src/dot.rt:16:1
 returns : tie.Need-returns
 returns c = search needs
 
--- src/dot.rt:16:1
 returns-2 : tie.Need-returns-2
 returns-2 c = sym (set-past (c .before .args .shades .now) _ _ (c .if1 .left))
 

@@ -5,12 +5,6 @@ use Rattle.file.proofs.Opening.{opened}
 use borrow.Author.Needs.{needs}
 use Rattle.pages.proofs.dot.two.Statement.{statement}
 use Rattle.pages.proofs.dot.two.Tie as tie
-use Rattle.pages.proofs.dot.two.Reads as reads
-use Rattle.pages.proofs.dot.two.Lts as lts
-use Rattle.file.proofs.number.Reads as number-reads
-use Rattle.file.proofs.read.Reads as read-reads
-use Rattle.pages.proofs.dot.drawn.Reads as drawn-reads
-use Rattle.words.proofs.refusal.of_file.Reads as of-file-reads
 
 -- what is known of the two files from here on
 plan-at : (c : tie.After-first) → Opened due.Plan (c .before .before .before .before .before .before .args .plan .now) (c .first .given .0 .0)
@@ -19,69 +13,53 @@ plan-at c = opened due.Plan _ (c .before .before .read .ensures) (c .first .give
 slice-at : (c : tie.After-second) → Opened due.Slice (c .before .before .before .before .before .before .before .before .before .before .args .slice .now) (c .second .given .0 .0)
 slice-at c = opened due.Slice _ (c .before .before .read2 .ensures) (c .second .given .1)
 
--- src/dot.rt:107:9
 read-requires : tie.Need-read-requires
 read-requires c κs = search needs
 
--- src/dot.rt:108:24
 enum-known-first : tie.Need-enum-known-first
 enum-known-first c = search needs
 
--- src/dot.rt:109:22
 enum-told : tie.Need-enum-told
 enum-told c = search needs
 
--- src/dot.rt:109:22
 number-requires : tie.Need-number-requires
 number-requires c κs = search needs
 
--- src/dot.rt:109:43
 slice-aggregate-of-file : tie.Need-slice-aggregate-of-file
 slice-aggregate-of-file c = search needs
 
--- src/dot.rt:109:9
 of-file-requires : tie.Need-of-file-requires
 of-file-requires c κs = search needs
 
--- src/dot.rt:110:9
 returns : tie.Need-returns
 returns c = search needs
 
--- src/dot.rt:112:9
 read-requires-2 : tie.Need-read-requires-2
 read-requires-2 c κs = search needs
 
--- src/dot.rt:113:24
 enum-known-second : tie.Need-enum-known-second
 enum-known-second c = search needs
 
--- src/dot.rt:114:22
 enum-told-2 : tie.Need-enum-told-2
 enum-told-2 c = search needs
 
--- src/dot.rt:114:22
 number-requires-2 : tie.Need-number-requires-2
 number-requires-2 c κs = search needs
 
--- src/dot.rt:114:44
 slice-aggregate-of-file-2 : tie.Need-slice-aggregate-of-file-2
 slice-aggregate-of-file-2 c = search needs
 
--- src/dot.rt:114:9
 of-file-requires-2 : tie.Need-of-file-requires-2
 of-file-requires-2 c κs = search needs
 
--- src/dot.rt:115:9
 returns-2 : tie.Need-returns-2
 returns-2 c = search needs
 
--- src/dot.rt:117:5
 drawn-requires : tie.Need-drawn-requires
 drawn-requires c κs =
     let o = slice-at (c .before) in
     (plan-at (c .before .before .before .before .before) .good, o .good, eqb-true _ _ (not-false _ (o .kind)))
 
--- src/dot.rt:106:1
 returns-3 : tie.Need-returns-3
 returns-3 c = search needs
 

@@ -2,9 +2,6 @@ use Prim.Native.Nat.{_-_}
 use borrow.Author.Needs.{needs}
 use Rattle.pages.proofs.picture.arcs.Statement.{statement}
 use Rattle.pages.proofs.picture.arcs.Tie as tie
-use Rattle.pages.proofs.picture.arcs.Reads as reads
-use Rattle.pages.proofs.picture.arcs.Lts as lts
-use Rattle.pages.proofs.picture.arc.Reads as arc-reads
 
 abbrev Inv-loop : tie.InvT-loop
 Inv-loop file h places transitions end j₀ j = Unit {0}
@@ -12,27 +9,21 @@ Inv-loop file h places transitions end j₀ j = Unit {0}
 abbrev μ-loop : tie.MeasureT-loop
 μ-loop file h places transitions end j₀ j = end - j
 
--- src/picture.rt:123:5
 loop-holds : tie.Need-loop-holds Inv-loop μ-loop
 loop-holds c = search needs
 
--- src/picture.rt:124:9
 arc-requires : tie.Need-arc-requires Inv-loop μ-loop
 arc-requires c κs = search needs
 
--- src/picture.rt:125:9
 add-j : tie.Need-add-j Inv-loop μ-loop
 add-j c = search needs
 
--- src/picture.rt:123:5
 loop-less : tie.Need-loop-less Inv-loop μ-loop
 loop-less c = search needs
 
--- src/picture.rt:123:5
 loop-again : tie.Need-loop-again Inv-loop μ-loop
 loop-again c = search needs
 
--- src/picture.rt:118:1
 returns : tie.Need-returns Inv-loop μ-loop
 returns c = search needs
 

@@ -2,10 +2,6 @@ use Prim.Native.Nat.{_-_}
 use borrow.Author.Needs.{needs}
 use Rattle.pages.proofs.picture.places.Statement.{statement}
 use Rattle.pages.proofs.picture.places.Tie as tie
-use Rattle.pages.proofs.picture.places.Reads as reads
-use Rattle.pages.proofs.picture.places.Lts as lts
-use Rattle.pages.proofs.picture.place.Reads as place-reads
-use Rattle.pages.proofs.picture.shade.Reads as shade-reads
 
 abbrev Inv-loop : tie.InvT-loop
 Inv-loop file h shades end p₀ p = Unit {0}
@@ -13,31 +9,24 @@ Inv-loop file h shades end p₀ p = Unit {0}
 abbrev μ-loop : tie.MeasureT-loop
 μ-loop file h shades end p₀ p = end - p
 
--- src/picture.rt:50:5
 loop-holds : tie.Need-loop-holds Inv-loop μ-loop
 loop-holds c = search needs
 
--- src/picture.rt:51:27
 shade-requires : tie.Need-shade-requires Inv-loop μ-loop
 shade-requires c κs = search needs
 
--- src/picture.rt:51:9
 place-requires : tie.Need-place-requires Inv-loop μ-loop
 place-requires c κs = search needs
 
--- src/picture.rt:52:9
 add-p : tie.Need-add-p Inv-loop μ-loop
 add-p c = search needs
 
--- src/picture.rt:50:5
 loop-less : tie.Need-loop-less Inv-loop μ-loop
 loop-less c = search needs
 
--- src/picture.rt:50:5
 loop-again : tie.Need-loop-again Inv-loop μ-loop
 loop-again c = search needs
 
--- src/picture.rt:45:1
 returns : tie.Need-returns Inv-loop μ-loop
 returns c = search needs
 

@@ -2,9 +2,6 @@ use Prim.Native.Nat.{_-_}
 use borrow.Author.Needs.{needs}
 use Rattle.pages.proofs.show.places.Statement.{statement}
 use Rattle.pages.proofs.show.places.Tie as tie
-use Rattle.pages.proofs.show.places.Reads as reads
-use Rattle.pages.proofs.show.places.Lts as lts
-use Rattle.pages.proofs.show.place.Reads as place-reads
 
 abbrev Inv-loop : tie.InvT-loop
 Inv-loop file h end p₀ p = Unit {0}
@@ -12,27 +9,21 @@ Inv-loop file h end p₀ p = Unit {0}
 abbrev μ-loop : tie.MeasureT-loop
 μ-loop file h end p₀ p = end - p
 
--- src/show.rt:82:5
 loop-holds : tie.Need-loop-holds Inv-loop μ-loop
 loop-holds c = search needs
 
--- src/show.rt:83:9
 place-requires : tie.Need-place-requires Inv-loop μ-loop
 place-requires c κs = search needs
 
--- src/show.rt:84:9
 add-p : tie.Need-add-p Inv-loop μ-loop
 add-p c = search needs
 
--- src/show.rt:82:5
 loop-less : tie.Need-loop-less Inv-loop μ-loop
 loop-less c = search needs
 
--- src/show.rt:82:5
 loop-again : tie.Need-loop-again Inv-loop μ-loop
 loop-again c = search needs
 
--- src/show.rt:77:1
 returns : tie.Need-returns Inv-loop μ-loop
 returns c = search needs
 

@@ -3,48 +3,34 @@ use Rattle.pages.proofs.Origins.{origins-fit}
 use borrow.Author.Needs.{needs}
 use Rattle.pages.proofs.show.transition_origin.Statement.{statement}
 use Rattle.pages.proofs.show.transition_origin.Tie as tie
-use Rattle.pages.proofs.show.transition_origin.Reads as reads
-use Rattle.pages.proofs.show.transition_origin.Lts as lts
-use Rattle.file.proofs.word.get16.Reads as get16-reads
-use Rattle.terminal.proofs.say.form.Reads as form-reads
 
--- src/show.rt:61:13
 slice-aggregate-form : tie.Need-slice-aggregate-form
 slice-aggregate-form c = search needs
 
--- src/show.rt:62:55
 mul-get16 : tie.Need-mul-get16
 mul-get16 c = search needs
 
--- src/show.rt:62:39
 add-get16 : tie.Need-add-get16
 add-get16 c = search needs
 
--- src/show.rt:62:70
 mul-get16-2 : tie.Need-mul-get16-2
 mul-get16-2 c = search needs
 
--- src/show.rt:62:39
 add-get16-2 : tie.Need-add-get16-2
 add-get16-2 c = search needs
 
--- src/show.rt:62:15
 get16-requires : tie.Need-get16-requires
 get16-requires c κs = omega (arith, origins-fit (c .before .before .before .before .before .before .pre .0) (c .before .before .before .if1 .taken))
 
--- src/show.rt:62:13
 slice-aggregate-form-2 : tie.Need-slice-aggregate-form-2
 slice-aggregate-form-2 c = search needs
 
--- src/show.rt:60:9
 form-requires : tie.Need-form-requires
 form-requires c κs = search needs
 
--- src/show.rt:56:1
 returns : tie.Need-returns
 returns c = search needs
 
--- src/show.rt:56:1
 returns-2 : tie.Need-returns-2
 returns-2 c = search needs
 

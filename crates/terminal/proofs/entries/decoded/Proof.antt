@@ -3,31 +3,22 @@ use Rattle.io.proofs.Counting.{counts}
 use borrow.Author.Needs.{needs}
 use Rattle.terminal.proofs.entries.decoded.Statement.{statement}
 use Rattle.terminal.proofs.entries.decoded.Tie as tie
-use Rattle.terminal.proofs.entries.decoded.Reads as reads
-use Rattle.terminal.proofs.entries.decoded.Lts as lts
-use Rattle.criterion.proofs.decode.Reads as decode-reads
 
--- src/entries.rt:53:9
 decode-requires : tie.Need-decode-requires
 decode-requires c κs = search needs
 
--- src/entries.rt:54:9
 same-length : tie.Need-same-length
 same-length c = search needs
 
--- src/entries.rt:54:9
 returns : tie.Need-returns
 returns c = record { many = omega arith; entries = c .before .before .decode .ensures; counts = counts _ _ (omega arith) }
 
--- src/entries.rt:56:5
 decode-requires-2 : tie.Need-decode-requires-2
 decode-requires-2 c κs = search needs
 
--- src/entries.rt:47:1
 same-length-2 : tie.Need-same-length-2
 same-length-2 c = search needs
 
--- src/entries.rt:47:1
 returns-2 : tie.Need-returns-2
 returns-2 c = record { many = omega arith; entries = c .before .before .decode2 .ensures; counts = counts _ _ (omega arith) }
 

@@ -4,11 +4,6 @@ use lib.ListN.{length}
 use borrow.Author.Needs.{needs}
 use Rattle.terminal.proofs.say.form.Statement.{statement}
 use Rattle.terminal.proofs.say.form.Tie as tie
-use Rattle.terminal.proofs.say.form.Reads as reads
-use Rattle.terminal.proofs.say.form.Lts as lts
-use Rattle.terminal.proofs.say.next.Reads as next-reads
-use Rattle.terminal.proofs.say.nth.Reads as nth-reads
-use Rattle.terminal.proofs.say.text.Reads as text-reads
 
 abbrev Inv-loop : tie.InvT-loop
 Inv-loop t numbers from₀ k₀ from k = (from ≤ length t) × (k ≤ from)
@@ -16,55 +11,42 @@ Inv-loop t numbers from₀ k₀ from k = (from ≤ length t) × (k ≤ from)
 abbrev μ-loop : tie.MeasureT-loop
 μ-loop t numbers from₀ k₀ from k = length t - from
 
--- src/say.rt:58:5
 loop-holds : tie.Need-loop-holds Inv-loop μ-loop
 loop-holds c = search needs
 
--- src/say.rt:59:13
 next-requires : tie.Need-next-requires Inv-loop μ-loop
 next-requires c κs = search needs
 
--- src/say.rt:60:14
 sub-text : tie.Need-sub-text Inv-loop μ-loop
 sub-text c = search needs
 
--- src/say.rt:60:14
 part-text-start : tie.Need-part-text-start Inv-loop μ-loop
 part-text-start c = search needs
 
--- src/say.rt:60:14
 part-text-end : tie.Need-part-text-end Inv-loop μ-loop
 part-text-end c = search needs
 
--- src/say.rt:60:9
 text-requires : tie.Need-text-requires Inv-loop μ-loop
 text-requires c κs = search needs
 
--- src/say.rt:62:13
 returns : tie.Need-returns Inv-loop μ-loop
 returns c = search needs
 
--- src/say.rt:64:9
 nth-requires : tie.Need-nth-requires Inv-loop μ-loop
 nth-requires c κs = search needs
 
--- src/say.rt:65:9
 add-k : tie.Need-add-k Inv-loop μ-loop
 add-k c = search needs
 
--- src/say.rt:66:16
 add-from : tie.Need-add-from Inv-loop μ-loop
 add-from c = search needs
 
--- src/say.rt:58:5
 loop-less : tie.Need-loop-less Inv-loop μ-loop
 loop-less c = search needs
 
--- src/say.rt:58:5
 loop-again : tie.Need-loop-again Inv-loop μ-loop
 loop-again c = search needs
 
--- src/say.rt:55:1
 returns-2 : tie.Need-returns-2 Inv-loop μ-loop
 returns-2 c = search needs
 

@@ -7,8 +7,6 @@ use Rattle.terminal.proofs.Marks.{at-mark, past, at-end}
 use borrow.Author.Needs.{needs}
 use Rattle.terminal.proofs.say.next.Statement.{statement}
 use Rattle.terminal.proofs.say.next.Tie as tie
-use Rattle.terminal.proofs.say.next.Reads as reads
-use Rattle.terminal.proofs.say.next.Lts as lts
 
 abbrev Inv-loop : tie.InvT-loop
 Inv-loop t from i₀ i = (from ≤ i) × (i ≤ length t) × (from + unmarked (drop from t) ≡ i + unmarked (drop i t))
@@ -16,15 +14,12 @@ Inv-loop t from i₀ i = (from ≤ i) × (i ≤ length t) × (from + unmarked (d
 abbrev μ-loop : tie.MeasureT-loop
 μ-loop t from i₀ i = length t - i
 
--- src/say.rt:38:5
 loop-holds : tie.Need-loop-holds Inv-loop μ-loop
 loop-holds c = (search needs, search needs, refl)
 
--- src/say.rt:39:12
 shared-slice-read-if1 : tie.Need-shared-slice-read-if1 Inv-loop μ-loop
 shared-slice-read-if1 c = search needs
 
--- src/say.rt:40:13
 returns : tie.Need-returns Inv-loop μ-loop
 returns c =
     record {
@@ -33,19 +28,15 @@ returns c =
       inside = search needs;
     }
 
--- src/say.rt:42:9
 add-i : tie.Need-add-i Inv-loop μ-loop
 add-i c = search needs
 
--- src/say.rt:38:5
 loop-less : tie.Need-loop-less Inv-loop μ-loop
 loop-less c = search needs
 
--- src/say.rt:38:5
 loop-again : tie.Need-loop-again Inv-loop μ-loop
 loop-again c = (search needs, search needs, past _ _ _ (c .before .before .before .loop .inv .2) (c .before .before .loop-test .taken) (c .if1 .left))
 
--- src/say.rt:33:1
 returns-2 : tie.Need-returns-2 Inv-loop μ-loop
 returns-2 c = record { is = at-end _ _ _ (c .before .loop .inv .2) (c .loop-test .left); after = search needs; inside = search needs }
 

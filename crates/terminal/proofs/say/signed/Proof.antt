@@ -12,10 +12,6 @@ use mir.Facts.{toZ-ofZ}
 use borrow.Author.Needs.{needs}
 use Rattle.terminal.proofs.say.signed.Statement.{statement}
 use Rattle.terminal.proofs.say.signed.Tie as tie
-use Rattle.terminal.proofs.say.signed.Reads as reads
-use Rattle.terminal.proofs.say.signed.Lts as lts
-use Rattle.terminal.proofs.say.number.Reads as number-reads
-use Rattle.terminal.proofs.say.text.Reads as text-reads
 
 wide : {z : ℤ} → SFits w32 z → SFits w64 z
 wide f = let h = f .sfits in record { sfits = omega arith }
@@ -35,43 +31,33 @@ not-below : (z : ℤ) → ltZ z (pos 0) ≡ false → SFits w32 z → T (nonNeg 
 not-below (pos a) e f = let h = f .sfits in (tt, record { fits = omega arith })
 not-below (negsuc k) e f = let x : _≡_ {A = ℕ} 0 1 = cc in absurd (omega arith)
 
--- src/say.rt:22:14
 slice-aggregate-text : tie.Need-slice-aggregate-text
 slice-aggregate-text c = search needs
 
--- src/say.rt:22:9
 text-requires : tie.Need-text-requires
 text-requires c κs = search needs
 
--- src/say.rt:23:19
 cast-number : tie.Need-cast-number
 cast-number c = let f = c .before .before .before .fits .n in rw (toZ-ofZ f) (wide f)
 
--- src/say.rt:23:17
 sub-number : tie.Need-sub-number
 sub-number c = let f = c .before .before .before .fits .n in rw (toZ-ofZ f, toZ-ofZ (wide f)) (minus-fits _ f)
 
--- src/say.rt:23:16
 cast-number-2 : tie.Need-cast-number-2
 cast-number-2 c = let f = c .before .before .before .fits .n in rw (toZ-ofZ f, toZ-ofZ (wide f), toZ-ofZ (minus-fits _ f)) (minus-below _ (rw (toZ-ofZ f) at (c .before .before .if1 .taken)) f)
 
--- src/say.rt:23:9
 number-requires : tie.Need-number-requires
 number-requires c κs = search needs
 
--- src/say.rt:24:9
 returns : tie.Need-returns
 returns c = search needs
 
--- src/say.rt:26:12
 cast-number-3 : tie.Need-cast-number-3
 cast-number-3 c = let f = c .before .fits .n in rw (toZ-ofZ f) (not-below _ (rw (toZ-ofZ f) at (c .if1 .left)) f)
 
--- src/say.rt:26:5
 number-requires-2 : tie.Need-number-requires-2
 number-requires-2 c κs = search needs
 
--- src/say.rt:20:1
 returns-2 : tie.Need-returns-2
 returns-2 c = search needs
 
