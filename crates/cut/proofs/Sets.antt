@@ -68,11 +68,6 @@ module _ (s : List ℕ) (h : Header) (Q head next : List ℕ) (b : Below (h .pla
 
 -- ---- the arrays that are lent
 
-pub all-zero : (n p : ℕ) → _≡_ {A = ℕ} (getD {A = ℕ} (replicate n 0) p 0) 0
-all-zero zero p = refl
-all-zero (suc n) zero = refl
-all-zero (suc n) (suc p) = all-zero n p
-
 pub all-same : (n v p : ℕ) → p < length (replicate n v) → getD (replicate n v) p 0 ≡ v
 all-same n v p l = getD-replicate n p v 0 (subst (λ (k : ℕ). p < k) (length-replicate n v) l)
 

@@ -1,1 +1,2 @@
+pub mod Markings
 pub mod Trailer

@@ -6,7 +6,7 @@ ghost use lib.Seq.{sets};
 ghost use Rattle.file.specs.Facts.{Placed};
 ghost use Rattle.file.specs.Layout.{netFrom};
 ghost use Rattle.file.specs.Writing.{originsBytes};
-ghost use Rattle.promise.proofs.Writer.{markingsOf};
+ghost use Rattle.parts.specs.Markings.{keptMarkings};
 ghost use Rattle.parts.specs.Trailer.{trailerFor};
 use file::Header;
 
@@ -15,7 +15,7 @@ pub fn write_markings(plan: &[u8], h: Header, ps: &[u16], buffer: &mut [u8])
     requires { ⌜ Placed (length (now plan)) h ⌝ }
     requires { ⌜ ((i : ℕ) → i < length (now ps) → getD (now ps) i 0 < h .places) ⌝ }
     requires { ⌜ 4 * length (now ps) ≤ length (now buffer) ⌝ }
-    ensures { λ _. ⌜ now (buffer .exit) ≡ sets (now (buffer .entry)) 0 (markingsOf (netFrom (now (plan .entry)) h .marking) (now (ps .entry))) ⌝ }
+    ensures { λ _. ⌜ now (buffer .exit) ≡ sets (now (buffer .entry)) 0 (keptMarkings (netFrom (now (plan .entry)) h .marking) (now (ps .entry))) ⌝ }
 {
     let mut i: usize = 0;
     while i < ps.len() {

@@ -1,30 +1,31 @@
 -- From the parts of a slice file to the file, its length and the answer. Assumes nothing.
-use Prim.Native.Nat.{ℕ, zero, suc, _+_, _-_, _*_, _/_, _≤_, _<_}
+use Prim.Native.Nat.{ℕ, _+_, _-_, _*_, _/_, _≤_, _<_}
 use mathlib.Core.Bool.{true, _&&_}
 use mathlib.Core.List.{List, [], _∷_, _++_, append-assoc}
 use mathlib.Core.Path.{_≡_, refl, sym, ap, subst, subst⁻¹, _∙_}
 use native.Mathlib.Omega.{arith}
-use lib.ListN.{length, getD, take, replicate, length-append}
+use lib.ListN.{length, getD, take, length-append}
 use lib.Seq.{sets}
 use borrow.Author.Tests.{lt-ltb, le-ltb}
 use Rattle.net.specs.Numbers.{among, selected}
-use Rattle.net.specs.Net.{Net}
+use Rattle.net.specs.Net.{Net, below}
 use Rattle.net.specs.Slice.{Slice, restrict, keeping}
 use Rattle.net.specs.declared.Arc.{Arc}
+use Rattle.net.proofs.Markings.{below-at}
 use Rattle.net.proofs.Numbers.{by-cases, among-at, below-passes, selected-rises, length-selected}
 use Rattle.file.specs.Facts.{ArcGood, Sound}
 use Rattle.file.specs.Layout.{arcAt, arcsFrom, netFrom}
 use Rattle.file.specs.Word.{bytes16, bytes32}
 use Rattle.file.specs.Writing.{arcsBytes, originsBytes, sliceBody, trailerBytes, sliceBytes}
 use Rattle.file.specs.declared.Header.{Header}
-use Rattle.file.proofs.Bytes.{length-origins, length-arcs}
+use Rattle.file.proofs.Bytes.{length-markings, length-origins, length-arcs}
 use Rattle.promise.proofs.Cuts.{length-arcsFrom}
-use Rattle.promise.proofs.Writer.{markingsOf, cut-bytes}
 use Rattle.starts.proofs.Reached.{range-at}
 use Rattle.between.specs.Between.{keptArcs, Arcs, ArcsWritten}
 use Rattle.between.proofs.Restricted.{arcs-restricted}
 use Rattle.parts.specs.Trailer.{trailerFor}
-use Rattle.parts.proofs.Steps.{length-markingsOf}
+use Rattle.parts.specs.Markings.{keptMarkings}
+use Rattle.parts.proofs.Steps.{markings-same}
 use Rattle.put.proofs.Sets.{sets-after, sets-first, take-sets}
 use Rattle.sets.specs.Member.{member, countBelow}
 use Rattle.sets.specs.declared.KeptSets.{KeptSets}
@@ -33,12 +34,6 @@ use Rattle.slice.specs.Kept.{Within, Answers, keptSlice}
 use Rattle.slice.specs.Parts.{Lists, Tables}
 use Rattle.slice.specs.declared.Cut.{Cut}
 use Rattle.slice.specs.declared.Cut.the-variants.{Written, Refused}
-
--- an array of zeros
-pub all-zero : (n x : ℕ) → _≡_ {A = ℕ} (getD {A = ℕ} (replicate n 0) x 0) 0
-all-zero zero x = refl
-all-zero (suc n) zero = refl
-all-zero (suc n) (suc x) = all-zero n x
 
 -- the members of a set of numbers below P
 module _ (words : List ℕ) (P : ℕ) (small : P ≤ 1024) (within : (p : ℕ) → member words p ≡ true → p < P) where
@@ -112,7 +107,7 @@ few-arcs s h ps ts = omega (arith, restrict-length ps ts (netFrom s h .arcs), le
 
 module _ (N : Net) (ps ts : List ℕ) where
   abbrev M : List ℕ
-  M = markingsOf (N .marking) ps
+  M = keptMarkings (N .marking) ps
 
   abbrev A : List ℕ
   A = arcsBytes (restrict ps ts (N .arcs))
@@ -124,7 +119,7 @@ module _ (N : Net) (ps ts : List ℕ) where
   body arcs = 4 * length ps + 8 * arcs + 2 * length ps + 2 * length ts
 
   length-1 : length M ≡ 4 * length ps
-  length-1 = length-markingsOf (N .marking) ps
+  length-1 = length-markings (λ i. N .marking (getD ps i 0)) 0 (length ps)
 
   length-2 : length (M ++ A) ≡ 4 * length ps + 8 * n
   length-2 = omega (arith, length-append M A, length-1, length-arcs (restrict ps ts (N .arcs)))
@@ -134,6 +129,14 @@ module _ (N : Net) (ps ts : List ℕ) where
 
   length-4 : length (M ++ A ++ originsBytes ps ++ originsBytes ts) ≡ body n
   length-4 = omega (arith, length-append (M ++ A ++ originsBytes ps) (originsBytes ts), length-3, length-origins ts)
+
+  -- the file's parts
+  file-parts : sliceBytes (keeping N ps ts) ≡ M ++ A ++ originsBytes ps ++ originsBytes ts ++ trailerBytes (keeping N ps ts)
+  unfolding sliceBytes keeping
+  file-parts =
+      ap (λ (l : List ℕ). l ++ A ++ originsBytes ps ++ originsBytes ts ++ trailerBytes (keeping N ps ts))
+      (markings-same (λ i. N .marking (getD ps i 0)) (below (length ps) (λ i. N .marking (getD ps i 0))) 0 (length ps)
+      (λ i l. below-at (length ps) (λ k. N .marking (getD ps k 0)) (0 + i) (omega arith)))
 
   trailer-is : trailerBytes (keeping N ps ts) ≡ trailerFor (body n) (length ps) (length ts) n
   unfolding trailerBytes sliceBody keeping trailerFor
@@ -146,7 +149,7 @@ module _ (N : Net) (ps ts : List ℕ) where
   pub file-length : length (sliceBytes (keeping N ps ts)) ≡ 6 * length ps + 8 * length (restrict ps ts (N .arcs)) + 2 * length ts + 16
   file-length =
       let all = length-append (M ++ A ++ originsBytes ps ++ originsBytes ts) (trailerBytes (keeping N ps ts)) in
-      omega (arith, ap length (cut-bytes N ps ts), all, length-4, length-trailer)
+      omega (arith, ap length (file-parts), all, length-4, length-trailer)
 
   pub kept-places : length ps ≡ keeping N ps ts .net .places
   unfolding keeping
@@ -158,7 +161,7 @@ module _ (N : Net) (ps ts : List ℕ) where
 
   -- the parts stored one after the other are the file
   pub parts-stored : (found : List Arc) (middle : ℕ) (s b₁ b₂ b₃ b₄ b₅ : List ℕ) → found ≡ restrict ps ts (N .arcs)
-      → b₁ ≡ sets s 0 (markingsOf (N .marking) ps)
+      → b₁ ≡ sets s 0 (keptMarkings (N .marking) ps)
       → ArcsWritten b₁ (4 * length ps) (arcsBytes found) b₂ middle
       → b₃ ≡ sets b₂ middle (originsBytes ps)
       → b₄ ≡ sets b₃ (middle + 2 * length ps) (originsBytes ts)
@@ -178,7 +181,7 @@ module _ (N : Net) (ps ts : List ℕ) where
       let from : b₅ ≡ sets b₁ (4 * length ps) (A ++ (P ++ T ++ R)) =
       to₅ ∙ w .same (P ++ T ++ R) (omega (arith, length-append (P ++ T) R, length-trailer)) ∙ ap (λ (l : List Arc). sets b₁ (4 * length ps) (arcsBytes l ++ (P ++ T ++ R))) same in
       let regroup : M ++ (A ++ (P ++ T ++ R)) ≡ M ++ A ++ P ++ T ++ R = simp append-assoc in
-      sets-after M (A ++ (P ++ T ++ R)) s 0 (4 * length ps) e₁ from (omega (arith, length-1)) ∙ ap (sets s 0) (regroup ∙ sym (cut-bytes N ps ts))
+      sets-after M (A ++ (P ++ T ++ R)) s 0 (4 * length ps) e₁ from (omega (arith, length-1)) ∙ ap (sets s 0) (regroup ∙ sym (file-parts))
 
 -- the answers
 module _ (S : Slice) (entry : List ℕ) where

@@ -1,6 +1,7 @@
 use borrow.Author.Needs.{needs}
 use native.Mathlib.Omega.{arith}
-use Rattle.cut.proofs.Sets.{all-zero, all-same, floors-same}
+use Rattle.sets.proofs.Members.{zeros-at}
+use Rattle.cut.proofs.Sets.{all-same, floors-same}
 use Rattle.cut.proofs.kept_large.Statement.{statement}
 use Rattle.cut.proofs.kept_large.Tie as tie
 
@@ -35,7 +36,7 @@ kept-by-requires c κs =
           head-long = start .pre .0 .placed .places;
           next-long = start .pre .0 .placed .arcs;
           rest = all-same 1024 1073741824;
-          none = all-zero 1024;
+          none = zeros-at 1024;
         },
       ),
     )

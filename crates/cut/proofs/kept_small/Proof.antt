@@ -1,6 +1,7 @@
 use borrow.Author.Needs.{needs}
 use native.Mathlib.Omega.{arith}
-use Rattle.cut.proofs.Sets.{all-zero, all-same, floors-same}
+use Rattle.sets.proofs.Members.{zeros-at}
+use Rattle.cut.proofs.Sets.{all-same, floors-same}
 use Rattle.cut.proofs.kept_small.Statement.{statement}
 use Rattle.cut.proofs.kept_small.Tie as tie
 
@@ -35,7 +36,7 @@ kept-by-requires c κs =
           head-long = start .pre .1 .1 .0;
           next-long = start .pre .1 .1 .2;
           rest = all-same 64 1073741824;
-          none = all-zero 64;
+          none = zeros-at 64;
         },
       ),
     )

@@ -1,26 +1,30 @@
 use borrow.Author.Needs.{needs}
 use Prim.Native.Nat.{_-_, _*_, _≤_}
-use mathlib.Core.Path.{_∙_}
+use mathlib.Core.Path.{_≡_, ap, _∙_}
 use native.Mathlib.Omega.{arith}
-use lib.ListN.{length, getD, drop}
+use lib.ListN.{length, getD}
 use Rattle.file.specs.Layout.{netFrom}
 use Rattle.file.specs.Word.{bytes32}
 use Rattle.file.proofs.Bytes.{length-32}
-use Rattle.promise.proofs.Writer.{markingsOf}
+use Rattle.file.specs.Writing.{markingsBytes}
 use Rattle.put.proofs.Storing.{Storing, storing-all, storing-as, storing-part, storing-none}
+use Rattle.parts.specs.Markings.{keptMarkings}
 use Rattle.parts.proofs.Steps.{markings-next, markings-end}
 use Rattle.parts.proofs.write_markings.Statement.{statement}
 use Rattle.parts.proofs.write_markings.Tie as tie
 
 abbrev Inv-loop : tie.InvT-loop
 Inv-loop plan h ps buffer₀ i₀ buffer i =
-    (i ≤ length ps) × Storing buffer₀ 0 (markingsOf (netFrom plan h .marking) ps) buffer (4 * i) (markingsOf (netFrom plan h .marking) (drop i ps))
+    (i ≤ length ps) × Storing buffer₀ 0 (keptMarkings (netFrom plan h .marking) ps) buffer (4 * i) (markingsBytes (λ k. netFrom plan h .marking (getD ps k 0)) i (length ps - i))
 
 abbrev μ-loop : tie.MeasureT-loop
 μ-loop plan h ps buffer₀ i₀ buffer i = length ps - i
 
 loop-holds : tie.Need-loop-holds Inv-loop μ-loop
-loop-holds c = (search needs, storing-all _ _ _)
+loop-holds c =
+    let args = c .before .before .before .args in
+    let all : length (args .ps .now) ≡ length (args .ps .now) - 0 = omega arith in
+    (search needs, storing-as (storing-all _ _ _) (ap (markingsBytes (λ k. netFrom (args .plan .now) (args .h) .marking (getD (args .ps .now) k 0)) 0) all))
 
 mul-p : tie.Need-mul-p Inv-loop μ-loop
 mul-p c = search needs
@@ -53,7 +57,7 @@ loop-again c =
     let call = c .before .before .put32 in
     let M = netFrom (start .args .plan .now) (start .args .h) .marking in
     let p = getD (start .args .ps .now) (at .i) 0 in
-    let next = markings-next (start .args .ps .now) (at .i) M (c .before .before .before .before .before .before .loop-test .taken) in (
+    let next = markings-next (λ k. M (getD (start .args .ps .now) k 0)) (at .i) (length (start .args .ps .now)) (c .before .before .before .before .before .before .loop-test .taken) in (
       omega arith,
       storing-part (bytes32 (M p)) _ _ _ (storing-as (at .inv .1) next) (call .ensures ∙ rw (c .before .before .before .before .marking .ensures .0)) (omega (arith, length-32 (M p))),
     )
@@ -65,7 +69,7 @@ returns : tie.Need-returns Inv-loop μ-loop
 returns c =
     let start = c .before .before .before .before .before in
     let at = c .before .loop in
-    storing-none (storing-as (at .inv .1) (markings-end (start .args .ps .now) (at .i) (netFrom (start .args .plan .now) (start .args .h) .marking) (omega (arith, at .inv .0, c .loop-test .left))))
+    storing-none (storing-as (at .inv .1) (markings-end (λ k. netFrom (start .args .plan .now) (start .args .h) .marking (getD (start .args .ps .now) k 0)) (at .i) (length (start .args .ps .now)) (c .loop-test .left)))
 
 pub write-markings-spec : {M : Type 1} → statement M
 write-markings-spec =

@@ -2,7 +2,7 @@ use borrow.Author.Needs.{needs}
 use Prim.Native.Nat.{ℕ}
 use native.Mathlib.Omega.{arith}
 use lib.ListN.{length-replicate}
-use Rattle.slice.proofs.Laws.{all-zero}
+use Rattle.sets.proofs.Members.{zeros-at}
 use Rattle.slice.proofs.write_large.Statement.{statement}
 use Rattle.slice.proofs.write_large.Tie as tie
 
@@ -27,8 +27,8 @@ write-sets-requires c κs =
         (
           (omega (arith, start .pre .0 .placed .places, length-replicate {A = ℕ} 1024 0), omega (arith, start .pre .0 .placed .transitions, length-replicate {A = ℕ} 1024 0)),
           (
-            record { reach = omega (arith, start .pre .0 .placed .places, length-replicate {A = ℕ} 1024 0); clear = all-zero 1024 },
-            record { reach = omega (arith, start .pre .0 .placed .transitions, length-replicate {A = ℕ} 1024 0); clear = all-zero 1024 },
+            record { reach = omega (arith, start .pre .0 .placed .places, length-replicate {A = ℕ} 1024 0); clear = zeros-at 1024 },
+            record { reach = omega (arith, start .pre .0 .placed .transitions, length-replicate {A = ℕ} 1024 0); clear = zeros-at 1024 },
           ),
         ),
       ),

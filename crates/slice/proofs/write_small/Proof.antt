@@ -2,7 +2,7 @@ use borrow.Author.Needs.{needs}
 use Prim.Native.Nat.{ℕ}
 use native.Mathlib.Omega.{arith}
 use lib.ListN.{length-replicate}
-use Rattle.slice.proofs.Laws.{all-zero}
+use Rattle.sets.proofs.Members.{zeros-at}
 use Rattle.slice.proofs.write_small.Statement.{statement}
 use Rattle.slice.proofs.write_small.Tie as tie
 
@@ -27,8 +27,8 @@ write-sets-requires c κs =
         (
           (omega (arith, start .pre .1 .1 .0, length-replicate {A = ℕ} 64 0), omega (arith, start .pre .1 .1 .1, length-replicate {A = ℕ} 64 0)),
           (
-            record { reach = omega (arith, start .pre .1 .1 .0, length-replicate {A = ℕ} 64 0); clear = all-zero 64 },
-            record { reach = omega (arith, start .pre .1 .1 .1, length-replicate {A = ℕ} 64 0); clear = all-zero 64 },
+            record { reach = omega (arith, start .pre .1 .1 .0, length-replicate {A = ℕ} 64 0); clear = zeros-at 64 },
+            record { reach = omega (arith, start .pre .1 .1 .1, length-replicate {A = ℕ} 64 0); clear = zeros-at 64 },
           ),
         ),
       ),
