@@ -8,7 +8,7 @@ use Rattle.net.specs.declared.Arc.{Arc}
 use Rattle.file.specs.Layout.{arcAt, arcsFrom}
 use Rattle.file.specs.Writing.{arcBytes, arcsBytes}
 use Rattle.file.proofs.Laws.{arcs-cons, arcs-none}
-use Rattle.between.specs.Between.{renumbered, keptArc, keptArcs}
+use Rattle.between.specs.Between.{keptArc, keptArcs}
 
 bytes-append : (l m : List Arc) → arcsBytes (l ++ m) ≡ arcsBytes l ++ arcsBytes m
 unfolding arcsBytes
@@ -25,12 +25,12 @@ module _ (t p : ℕ) (a : Arc) where
   unfolding keptArc
   arc-no-place h e = let one : t ≡ suc (t - 1) = omega (arith, h) in ap (λ (x : ℕ). keptArc x p a) one ∙ rw e
 
-  pub arc-kept : (t ≡ 0 → ⊥) → (p ≡ 0 → ⊥) → keptArc t p a ≡ renumbered t p a ∷ []
+  pub arc-kept : (t ≡ 0 → ⊥) → (p ≡ 0 → ⊥) → length (keptArc t p a) ≡ 1
   unfolding keptArc
   arc-kept h k =
       let one : t ≡ suc (t - 1) = omega (arith, h) in
       let two : p ≡ suc (p - 1) = omega (arith, k) in
-      λ i. keptArc (one i) (two i) a
+      λ i. length (keptArc (one i) (two i) a)
 
 -- the arcs from number j on
 abbrev pub arcsAt : List ℕ → ℕ → ℕ → ℕ → List Arc

@@ -1,16 +1,26 @@
 -- Arcs written one after the other, where one that is not kept is written over. Assumes nothing.
-use Prim.Native.Nat.{ℕ, zero, suc, _+_, _*_, _≤_}
+use Prim.Native.Nat.{ℕ, zero, suc, _+_, _/_, _%_, _≤_}
 use mathlib.Core.List.{List, [], _∷_, _++_, append-assoc, append-nil}
 use mathlib.Core.Path.{_≡_, refl, sym, ap, _∙_}
 use native.Mathlib.Omega.{arith}
 use lib.ListN.{length, length-append}
 use lib.Seq.{sets, length-sets}
 use Rattle.net.specs.declared.Arc.{Arc}
+use Rattle.file.specs.Word.{bytes16}
 use Rattle.file.specs.Writing.{arcBytes, arcsBytes}
 use Rattle.file.proofs.Bytes.{length-arc}
 use Rattle.put.proofs.Sets.{sets-join, sets-over}
 use Rattle.between.specs.Between.{renumbered, keptArc, ArcsWritten}
-use Rattle.between.proofs.Steps.{arc-kept}
+
+-- 65,535 more is one less in 16 bits
+wraps : (n : ℕ) → bytes16 (suc n + 65535) ≡ bytes16 n
+unfolding bytes16
+wraps n =
+    let low : (suc n + 65535) % 256 ≡ n % 256 = omega arith in
+    let more : (suc n + 65535) / 256 ≡ n / 256 + 256 = omega arith in
+    let round : (n / 256 + 256) % 256 ≡ n / 256 % 256 = omega arith in
+    let high : (suc n + 65535) / 256 % 256 ≡ n / 256 % 256 = ap (λ (k : ℕ). k % 256) more ∙ round in
+    λ i. low i ∷ high i ∷ []
 
 -- of `all`, to be written in `entry` from `first` on, `left` is to be written in l from `at` on, and eight bytes or more after it
 pub record Writing (entry : List ℕ) (first : ℕ) (all l : List ℕ) (at : ℕ) (left : List ℕ) : Type 0 where
@@ -51,11 +61,11 @@ module _ {entry : List ℕ} {first : ℕ} {all l : List ℕ} {at : ℕ} where
 
   pub writing-arc : (t p : ℕ) (a : Arc) (left next : List ℕ) (k : ℕ) → Writing entry first all l at (arcsBytes (keptArc t p a) ++ left)
       → next ≡ sets l at (arcBytes (renumbered t p a)) → k ≡ at + length (arcsBytes (keptArc t p a)) → Writing entry first all next k left
-  unfolding keptArc arcsBytes
+  unfolding keptArc arcsBytes arcBytes
   writing-arc zero p a left next k w e f = goes (arcBytes (renumbered zero p a)) left next k (length-arc (renumbered zero p a)) e w (omega (arith, f))
   writing-arc (suc t) zero a left next k w e f = goes (arcBytes (renumbered (suc t) zero a)) left next k (length-arc (renumbered (suc t) zero a)) e w (omega (arith, f))
   writing-arc (suc t) (suc p) a left next k w e f =
       let b = arcBytes (renumbered (suc t) (suc p) a) in
       let eight = length-arc (renumbered (suc t) (suc p) a) in
-      let kept : arcsBytes (keptArc (suc t) (suc p) a) ≡ b = ap arcsBytes (arc-kept (suc t) (suc p) a (λ z. omega arith) (λ z. omega arith)) ∙ append-nil b in
+      let kept : arcsBytes (keptArc (suc t) (suc p) a) ≡ b = append-nil _ ∙ (λ i. sym (wraps t) i ++ (a .direction ∷ 0 ∷ []) ++ sym (wraps p) i ++ bytes16 (a .weight)) in
       stays b left next k eight e (writing-as w (ap (λ (x : List ℕ). x ++ left) kept)) (omega (arith, f, ap length kept, eight))

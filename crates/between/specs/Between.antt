@@ -1,7 +1,7 @@
 -- "every plan arc between" kept places and transitions (document 01, "The two cuts"), as a program finds them that goes through the plan's arcs.
 -- `places` and `transitions` are the tables of the new numbers: one more than it at a kept number, 0 elsewhere.
 -- Assumes nothing.
-use Prim.Native.Nat.{ℕ, zero, suc, _+_, _-_, _*_, _≤_, _<_}
+use Prim.Native.Nat.{ℕ, zero, suc, _+_, _*_, _≤_, _<_}
 use mathlib.Core.List.{List, [], _∷_, _++_}
 use mathlib.Core.Path.{_≡_}
 use lib.ListN.{length, getD}
@@ -9,9 +9,9 @@ use lib.Seq.{sets}
 use Rattle.net.specs.declared.Arc.{Arc}
 use Rattle.file.specs.Layout.{arcAt}
 
--- an arc by the new numbers of its transition and its place
+-- an arc by the entries of its transition and its place: in 16 bits one less than each, the new number
 abbrev pub renumbered : ℕ → ℕ → Arc → Arc
-renumbered t p a = record { transition = t - 1; direction = a .direction; place = p - 1; weight = a .weight }
+renumbered t p a = record { transition = t + 65535; direction = a .direction; place = p + 65535; weight = a .weight }
 
 -- nothing where one of the two is not kept, and its entry is 0
 unfoldable pub keptArc : ℕ → ℕ → Arc → List Arc

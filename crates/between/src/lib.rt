@@ -1,6 +1,6 @@
 // The plan's arcs between kept places and transitions, in one pass over the plan's arcs.
 ghost use mathlib.Core.Path.{_≡_};
-ghost use Prim.Native.Nat.{ℕ, _+_, _-_, _<_, _≤_};
+ghost use Prim.Native.Nat.{ℕ, _+_, _<_, _≤_};
 ghost use lib.ListN.{length};
 ghost use lib.Seq.{sets};
 ghost use Rattle.net.specs.declared.Arc.{Arc};
@@ -45,17 +45,7 @@ pub fn count_arcs(
     total
 }
 
-// The number whose entry it is; 0 where there is none.
-fn number_of(entry: u16) -> usize
-    ensures { λ r. ⌜ r ≡ entry - 1 ⌝ }
-{
-    if entry == 0 {
-        return 0;
-    }
-    (entry - 1) as usize
-}
-
-// Writes an arc by its new numbers. The offset after it where it is kept, else the same offset: it is to be written over.
+// Writes an arc by its new numbers, one less than the entries in 16 bits. The offset after it where it is kept, else the same offset: it is to be written over.
 fn write_arc(a: Arc, transition: u16, place: u16, at: usize, buffer: &mut [u8]) -> usize
     requires { ⌜ a .direction < 256 ⌝ }
     requires { ⌜ at + 8 ≤ length (now buffer) ⌝ }
@@ -63,12 +53,10 @@ fn write_arc(a: Arc, transition: u16, place: u16, at: usize, buffer: &mut [u8]) 
     ensures { λ _. ⌜ now (buffer .exit) ≡ sets (now (buffer .entry)) at (arcBytes (renumbered transition place a)) ⌝ }
 {
     let direction = a.direction;
-    let t = number_of(transition);
-    let p = number_of(place);
     let kept = Arc {
-        transition: t,
+        transition: transition as usize + 65535,
         direction,
-        place: p,
+        place: place as usize + 65535,
         weight: a.weight,
     };
     put::put_arc(buffer, at, kept);

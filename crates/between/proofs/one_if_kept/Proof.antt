@@ -12,7 +12,7 @@ returns-2 : tie.Need-returns-2
 returns-2 c = (omega arith, λ a. sym (ap length (arc-no-place _ _ a (c .before .if1 .left) (c .if2 .taken))))
 
 returns-3 : tie.Need-returns-3
-returns-3 c = (omega arith, λ a. sym (ap length (arc-kept _ _ a (c .before .if1 .left) (c .if2 .left))))
+returns-3 c = (omega arith, λ a. sym (arc-kept _ _ a (c .before .if1 .left) (c .if2 .left)))
 
 pub one-if-kept-spec : {M : Type 1} → statement M
 one-if-kept-spec = tie.close (tie.spec returns returns-2 returns-3)

@@ -1,21 +1,15 @@
 use borrow.Author.Needs.{needs}
-use Prim.Native.Nat.{_*_}
-use mathlib.Core.Path.{_≡_, ap, _∙_}
 use native.Mathlib.Omega.{arith}
-use lib.ListN.{length}
-use lib.Seq.{sets}
-use Rattle.net.specs.declared.Arc.{Arc}
-use Rattle.file.specs.Writing.{arcBytes}
 use Rattle.file.proofs.Bytes.{length-arcs}
-use Rattle.between.specs.Between.{renumbered, keptArc}
+use Rattle.between.specs.Between.{keptArc}
 use Rattle.between.proofs.write_arc.Statement.{statement}
 use Rattle.between.proofs.write_arc.Tie as tie
 
-number-of-requires : tie.Need-number-of-requires
-number-of-requires c κs = search needs
+add-result : tie.Need-add-result
+add-result c = search needs
 
-number-of-requires-2 : tie.Need-number-of-requires-2
-number-of-requires-2 c κs = search needs
+add-t11 : tie.Need-add-t11
+add-t11 c = search needs
 
 put-arc-requires : tie.Need-put-arc-requires
 put-arc-requires c κs = search needs
@@ -26,33 +20,26 @@ one-if-kept-requires c κs = search needs
 mul-result : tie.Need-mul-result
 mul-result c = search needs
 
-add-result : tie.Need-add-result
-add-result c = search needs
+add-result-2 : tie.Need-add-result-2
+add-result-2 c = search needs
 
 same-length : tie.Need-same-length
 same-length c = search needs
 
 returns : tie.Need-returns
 returns c =
-    let start = c .before .before .before .before .before .before .before .before in
-    let a = start .args .a in
-    let t = start .args .transition in
-    let p = start .args .place in
-    let kept : Arc = record { transition = c .before .before .before .before .before .before .number-of .result; direction = a .direction; place = c .before .before .before .before .before .number-of2 .result; weight = a .weight } in
-    let same : kept ≡ renumbered t p a = λ i. record { transition = c .before .before .before .before .before .before .number-of .ensures i; direction = a .direction; place = c .before .before .before .before .before .number-of2 .ensures i; weight = a .weight } in (
-      omega (arith, length-arcs (keptArc t p a), c .one-if-kept .ensures .1 a),
-      c .before .before .before .put-arc .ensures ∙ ap (λ (b : Arc). sets (start .args .buffer .now) (start .args .at) (arcBytes b)) same,
-    )
+    let args = c .before .before .before .before .before .before .args in
+    (omega (arith, length-arcs (keptArc (args .transition) (args .place) (args .a)), c .one-if-kept .ensures .1 (args .a)), c .before .before .before .put-arc .ensures)
 
 pub write-arc-spec : {M : Type 1} → statement M
 write-arc-spec =
     tie.close
     (tie.spec
-    number-of-requires
-    number-of-requires-2
+    add-result
+    add-t11
     put-arc-requires
     one-if-kept-requires
     mul-result
-    add-result
+    add-result-2
     same-length
     returns)
