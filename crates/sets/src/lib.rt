@@ -1,7 +1,7 @@
 // Sets of numbers below 1,024 as sixteen 64-bit words.
 ghost use mathlib.Core.Path.{_≡_};
 ghost use mathlib.Core.Bool.{true, false, not, _&&_, _||_};
-ghost use Prim.Native.Nat.{ℕ, _+_, _<_};
+ghost use Prim.Native.Nat.{ℕ, _+_, _*_, _≤_, _<_};
 ghost use lib.Dec.{eqb};
 ghost use Rattle.sets.specs.Member.{bit, member, countBelow};
 ghost use Rattle.sets.specs.Lowest.{IsLowest};
@@ -87,13 +87,14 @@ fn count_bits(w: u64) -> usize
     u64::count_ones(w) as usize
 }
 
-// How many members there are.
-pub fn count(words: &[u64; 16]) -> usize
-    ensures { λ r. ⌜ r ≡ countBelow (member (now (words .entry))) 1024 ⌝ }
+// How many members the first n words have.
+pub fn count(words: &[u64; 16], n: usize) -> usize
+    requires { ⌜ n ≤ 16 ⌝ }
+    ensures { λ r. ⌜ r ≡ countBelow (member (now (words .entry))) (n * 64) ⌝ }
 {
     let mut total: usize = 0;
     let mut i: usize = 0;
-    while i < 16 {
+    while i < n {
         total += count_bits(words[i]);
         i += 1;
     }

@@ -43,9 +43,10 @@ module _ (words : List ℕ) (P : ℕ) (small : P ≤ 1024) (within : (p : ℕ) �
   pub members-fit : length (selected (member words) 0 1024) ≤ P
   members-fit = omega (arith, ap length members-are, length-selected (member words) 0 P)
 
-  module _ (n : ℕ) (count : n ≡ countBelow (member words) 1024) where
+  -- counted in the first k words
+  module _ (n k : ℕ) (count : n ≡ countBelow (member words) (k * 64)) (reach : P ≤ k * 64) where
     counted : length (selected (member words) 0 1024) ≡ n
-    counted = omega (arith, count, count-selected (member words) 1024)
+    counted = omega (arith, count, count-selected (member words) (k * 64), ap length members-are, ap length (selected-below (member words) P (k * 64) within reach))
 
     pub count-fits : n ≤ P
     count-fits = omega (arith, counted, members-fit)

@@ -112,8 +112,8 @@ fn write_sets(
 {
     let kept_places = kept.places;
     let kept_transitions = kept.transitions;
-    let np = sets::count(&kept_places);
-    let nt = sets::count(&kept_transitions);
+    let np = sets::count(&kept_places, (h.places + 63) / 64);
+    let nt = sets::count(&kept_transitions, (h.transitions + 63) / 64);
     members::members(&kept_places, ps);
     members::members(&kept_transitions, ts);
     write_lists(plan, h, &ps[..np], &ts[..nt], places, transitions, buffer)
