@@ -1,14 +1,13 @@
 -- Selections part by part, and from their lowest number on; the bits of a word as a selection. Assumes nothing.
-use Prim.Native.Nat.{ℕ, zero, suc, _+_, _-_, _*_, _%_, _^_, _≤_, _<_}
+use Prim.Native.Nat.{ℕ, zero, suc, _+_, _-_, _*_, _/_, _%_, _^_, _≤_, _<_, min}
 use mathlib.Core.Bool.{Bool, true, false}
 use mathlib.Core.List.{List, [], _∷_, _++_, append-nil}
-use mathlib.Core.Path.{_≡_, refl, sym, ap, subst⁻¹, _∙_}
+use mathlib.Core.Path.{_≡_, refl, sym, ap, _∙_}
 use mathlib.Core.Logic.{_≢_}
-use native.Mathlib.Nat.{lt-of-not-le}
+use native.Mathlib.Nat.{lt-of-not-le, pow-suc, zero-min, min-zero}
 use native.Mathlib.Omega.{arith}
-use lib.Bits.{bitXor}
-use lib.Count.{trailingZeros}
-use lib.Pow.{pow-lt}
+use lib.Bits.{bitAnd, bitXor, differ, and-step, xor-step, and-self, xor-zero-r}
+use lib.Count.{trailingZeros, under}
 use lib.Dec.{eqb}
 use lib.ListN.{length, getD, length-append}
 use borrow.Author.Tests.{eq-eqb, ne-eqb}
@@ -16,7 +15,7 @@ use Rattle.net.specs.Numbers.{selected}
 use Rattle.net.proofs.Numbers.{by-cases, selected-same}
 use Rattle.net.proofs.Selections.{count-next}
 use Rattle.sets.specs.Member.{bit, member, countBelow}
-use Rattle.sets.proofs.Bits.{differs, bit-xor, bit-pow, bit-zero, shifted-one, trailing-below, trailing-at, trailing-all}
+use Rattle.sets.proofs.Bits.{differs, bit-xor, bit-pow, bit-zero, trailing-below, trailing-at, trailing-all}
 use Rattle.sets.proofs.Members.{member-at}
 use Rattle.members.specs.List.{bitsFrom}
 
@@ -88,30 +87,51 @@ pub bits-none : (base : ℕ) → bitsFrom base 0 ≡ []
 unfolding bitsFrom
 bits-none base = selected-none (λ k. bit 0 (k - base)) base 64 (λ x l u. bit-zero (x - base))
 
--- the code's 1 << z, z being the trailing zeros
-abbrev pub lowBit : ℕ → ℕ
-lowBit w = 1 * 2 ^ trailingZeros 64 w % 2 ^ 64
+-- w & (w - 1) is w without its lowest 1
+without-lowest : (d w : ℕ) → trailingZeros d w < d → bitAnd w (w - 1) ≡ bitXor w (2 ^ trailingZeros d w)
+unfolding trailingZeros
+without-lowest zero w h = absurd (omega arith)
+without-lowest (suc d) w h = go (w % 2) refl h (λ l. without-lowest d (w / 2) l)
+  where
+    go : (r : ℕ) → w % 2 ≡ r → under r (trailingZeros d (w / 2)) < suc d → (trailingZeros d (w / 2) < d → bitAnd (w / 2) (w / 2 - 1) ≡ bitXor (w / 2) (2 ^ trailingZeros d (w / 2)))
+        → bitAnd w (w - 1) ≡ bitXor w (2 ^ under r (trailingZeros d (w / 2)))
+    go zero e h rest =
+        let z = trailingZeros d (w / 2) in
+        let half : (w - 1) / 2 ≡ w / 2 - 1 = omega (arith, e) in
+        let power : 2 ^ suc z / 2 ≡ 2 ^ z = omega (arith, pow-suc 2 z) in
+        let even : 2 ^ suc z % 2 ≡ 0 = omega (arith, pow-suc 2 z) in
+        and-step w (w - 1)
+        ∙ (λ i. bitAnd (w / 2) (half i) * 2 + min (e i) ((w - 1) % 2))
+        ∙ (λ i. rest (omega arith) i * 2 + zero-min ((w - 1) % 2) i)
+        ∙ sym (xor-step w (2 ^ suc z) ∙ (λ i. bitXor (w / 2) (power i) * 2 + differ (e i) (even i)))
+    go (suc r) e h rest =
+        let one : w % 2 ≡ 1 = omega (arith, e) in
+        let half : (w - 1) / 2 ≡ w / 2 = omega (arith, one) in
+        let none : (w - 1) % 2 ≡ 0 = omega (arith, one) in
+        and-step w (w - 1)
+        ∙ (λ i. bitAnd (w / 2) (half i) * 2 + min (w % 2) (none i))
+        ∙ (λ i. and-self (w / 2) i * 2 + min-zero (w % 2) i)
+        ∙ sym (xor-step w 1 ∙ (λ i. bitXor (w / 2) 0 * 2 + differ (one i) 1) ∙ ap (λ (x : ℕ). x * 2 + 0) (xor-zero-r (w / 2)))
 
 module _ (base w : ℕ) (small : w < 2 ^ 64) (some : w ≢ 0) where
-  pub low-lt : trailingZeros 64 w < 64
+  low-lt : trailingZeros 64 w < 64
   low-lt = lt-of-not-le (λ h. some (trailing-all 64 w small h))
 
-  pub low-bit-lt : lowBit w < 2 ^ 64
-  low-bit-lt = subst⁻¹ (λ (x : ℕ). x < 2 ^ 64) (shifted-one (trailingZeros 64 w) low-lt) (pow-lt low-lt)
-
-  pub bits-next : bitsFrom base w ≡ (base + trailingZeros 64 w) ∷ bitsFrom base (bitXor w (lowBit w))
+  bits-next : bitsFrom base w ≡ (base + trailingZeros 64 w) ∷ bitsFrom base (bitXor w (2 ^ trailingZeros 64 w))
   unfolding bitsFrom
   bits-next =
       let z = trailingZeros 64 w in
-      let p = lowBit w in
-      let power : p ≡ 2 ^ z = shifted-one z low-lt in
+      let p : ℕ = 2 ^ z in
       let back : (k : ℕ) → base + k - base ≡ k = λ k. omega arith in
-      let after : (k : ℕ) → bit (bitXor w p) k ≡ differs (bit w k) (eqb k z) = λ k. bit-xor w p k ∙ ap (λ (b : Bool). differs (bit w k) b) (ap (λ (x : ℕ). bit x k) power ∙ bit-pow z k) in
+      let after : (k : ℕ) → bit (bitXor w p) k ≡ differs (bit w k) (eqb k z) = λ k. bit-xor w p k ∙ ap (λ (b : Bool). differs (bit w k) b) (bit-pow z k) in
       selected-lowest (λ k. bit w (k - base)) (λ k. bit (bitXor w p) (k - base)) base z 64 low-lt
       (λ k l. ap (bit w) (back k) ∙ trailing-below 64 w k l)
       (ap (bit w) (back z) ∙ trailing-at 64 w low-lt)
       (ap (bit (bitXor w p)) (back z) ∙ after z ∙ rw (eq-eqb z z refl, trailing-at 64 w low-lt))
       (λ x l q. after (x - base) ∙ rw (ne-eqb (x - base) z (λ e. q (omega arith))) (same-digit (bit w (x - base))))
+
+  pub bits-rest : bitsFrom base w ≡ (base + trailingZeros 64 w) ∷ bitsFrom base (bitAnd w (w - 1))
+  bits-rest = bits-next ∙ ap (λ (x : ℕ). (base + trailingZeros 64 w) ∷ bitsFrom base x) (sym (without-lowest 64 w low-lt))
 
 -- word i of a set
 pub word-bits : (words : List ℕ) (i : ℕ) → selected (member words) (i * 64) 64 ≡ bitsFrom (i * 64) (getD words i 0)

@@ -20,7 +20,7 @@ fn word_members(word: u64, base: usize, from: usize, list: &mut [u16]) -> usize
         let z = u64::trailing_zeros(w) as usize;
         list[n] = (base + z) as u16;
         n += 1;
-        w = w ^ (1u64 << z);
+        w = w & (w - 1);
     }
     n
 }

@@ -1,14 +1,14 @@
 use borrow.Author.Needs.{needs}
-use Prim.Native.Nat.{_+_, _^_, _<_}
+use Prim.Native.Nat.{_+_, _-_, _^_, _<_}
 use mathlib.Core.List.{_∷_}
 use mathlib.Core.Path.{_≡_, ap, _∙_}
 use native.Mathlib.Omega.{arith}
-use lib.Bits.{bitXor, xor-lt}
+use lib.Bits.{bitAnd, and-le-l}
 use lib.Count.{trailingZeros, trailing-le}
 use lib.ListN.{length}
 use Rattle.put.proofs.Storing.{Storing, storing-all, storing-as, storing-one, storing-none, storing-end}
 use Rattle.members.specs.List.{bitsFrom}
-use Rattle.members.proofs.Selected.{bits-none, bits-next, lowBit, low-lt, low-bit-lt}
+use Rattle.members.proofs.Selected.{bits-none, bits-rest}
 use Rattle.members.proofs.word_members.Statement.{statement}
 use Rattle.members.proofs.word_members.Tie as tie
 
@@ -21,12 +21,12 @@ abbrev μ-loop : tie.MeasureT-loop
 -- the lowest bit and the rest
 next : (c : tie.In-loop Inv-loop μ-loop)
     → bitsFrom (c .before .before .args .base) (c .before .loop .w)
-    ≡ (c .before .before .args .base + trailingZeros 64 (c .before .loop .w)) ∷ bitsFrom (c .before .before .args .base) (bitXor (c .before .loop .w) (lowBit (c .before .loop .w)))
-next c = bits-next (c .before .before .args .base) (c .before .loop .w) (c .before .loop .inv .0) (c .loop-test .taken)
+    ≡ (c .before .before .args .base + trailingZeros 64 (c .before .loop .w)) ∷ bitsFrom (c .before .before .args .base) (bitAnd (c .before .loop .w) (c .before .loop .w - 1))
+next c = bits-rest (c .before .before .args .base) (c .before .loop .w) (c .before .loop .inv .0) (c .loop-test .taken)
 
 next-length : (c : tie.In-loop Inv-loop μ-loop)
     → length (bitsFrom (c .before .before .args .base) (c .before .loop .w))
-    ≡ 1 + length (bitsFrom (c .before .before .args .base) (bitXor (c .before .loop .w) (lowBit (c .before .loop .w))))
+    ≡ 1 + length (bitsFrom (c .before .before .args .base) (bitAnd (c .before .loop .w) (c .before .loop .w - 1)))
 next-length c = omega (arith, ap length (next c))
 
 loop-holds : tie.Need-loop-holds Inv-loop μ-loop
@@ -50,15 +50,15 @@ slice-write-list c = omega (arith, next-length c, c .before .loop .inv .1 .long,
 add-n : tie.Need-add-n Inv-loop μ-loop
 add-n c = omega (arith, next-length c, c .before .loop .inv .1 .count, c .before .before .pre .1)
 
-shl-w : tie.Need-shl-w Inv-loop μ-loop
-shl-w c = low-lt (c .before .before .args .base) (c .before .loop .w) (c .before .loop .inv .0) (c .loop-test .taken)
+sub-w : tie.Need-sub-w Inv-loop μ-loop
+sub-w c = omega (arith, c .loop-test .taken)
 
 loop-less : tie.Need-loop-less Inv-loop μ-loop
 loop-less c = omega (arith, next-length c)
 
 loop-again : tie.Need-loop-again Inv-loop μ-loop
 loop-again c = (
-  xor-lt 64 _ _ (c .before .loop .inv .0) (low-bit-lt (c .before .before .args .base) (c .before .loop .w) (c .before .loop .inv .0) (c .loop-test .taken)),
+  omega (arith, c .before .loop .inv .0, and-le-l (c .before .loop .w) (c .before .loop .w - 1)),
   storing-one (storing-as (c .before .loop .inv .1) (next c)),
 )
 
@@ -85,7 +85,7 @@ word-members-spec =
     mul-list
     slice-write-list
     add-n
-    shl-w
+    sub-w
     loop-less
     loop-again
     same-length
