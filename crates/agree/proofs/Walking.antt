@@ -2,7 +2,7 @@
 use Prim.Native.Nat.{ℕ, suc, _+_, _-_, _*_, _/_, _%_, _≤_, _<_}
 use mathlib.Core.Path.{_≡_, refl, sym, ap, _∙_, subst}
 use mathlib.Core.Bool.{Bool, true, false, _&&_}
-use mathlib.Core.List.{List, [], _∷_}
+use mathlib.Core.List.{List, _∷_}
 use native.Mathlib.Omega.{arith}
 use lib.ListN.{length, getD}
 use lib.Bits.{bitOr, bitAnd, bitXor, or-add-and, xor-add-and, and-le-l, and-le-r, or-zero-r}
@@ -17,8 +17,8 @@ use Rattle.net.proofs.Numbers.{by-cases}
 use Rattle.file.specs.Layout.{arcAt, arcsFrom, netFrom, sliceFrom}
 use Rattle.file.specs.Facts.{ArcGood, ArcWord, arcOf}
 use Rattle.file.specs.declared.Header.{Header}
-use Rattle.file.proofs.Laws.{arcs-cons, arcs-none}
 use Rattle.starts.proofs.Reached.{range-at}
+use Rattle.tables.proofs.Rows.{row-cons, row-end, restrict-in, restrict-out, restrict-none}
 use Rattle.agree.specs.Pass.{Ready, joinedOf, keptOf, oddOf, dueOf, Fine, Settled, Same, Walked, Passed}
 use Rattle.agree.proofs.Ends.{Ends, ends, sum-below, due-arc, end-out, arc-fine}
 
@@ -36,34 +36,11 @@ counted-one false = omega arith
 
 -- ---- rows of arcs
 
-row-cons : (s : List ℕ) (start n k : ℕ) → k < n → arcsFrom s (start + 8 * k) (n - k) ≡ arcAt s (start + 8 * k) ∷ arcsFrom s (start + 8 * (k + 1)) (n - (k + 1))
-row-cons s start n k l =
-    let e : start + 8 * k + 8 ≡ start + 8 * (k + 1) = omega arith in
-    let f : n - k - 1 ≡ n - (k + 1) = omega arith in
-    arcs-cons s (start + 8 * k) (n - k) (omega arith)
-    ∙ ap (λ (at : ℕ). arcAt s (start + 8 * k) ∷ arcsFrom s at (n - k - 1)) e
-    ∙ ap (λ (m : ℕ). arcAt s (start + 8 * k) ∷ arcsFrom s (start + 8 * (k + 1)) m) f
-
-row-end : (s : List ℕ) (start n k : ℕ) → n ≤ k → arcsFrom s (start + 8 * k) (n - k) ≡ []
-row-end s start n k l = arcs-none s (start + 8 * k) (n - k) (omega arith)
-
 row-whole : (s : List ℕ) (start n : ℕ) → arcsFrom s (start + 8 * 0) (n - 0) ≡ arcsFrom s start n
 row-whole s start n =
     let e : start + 8 * 0 ≡ start = omega arith in
     let f : n - 0 ≡ n = omega arith in
     ap (λ (at : ℕ). arcsFrom s at (n - 0)) e ∙ ap (arcsFrom s start) f
-
-restrict-in : (ps ts : List ℕ) (a : Arc) (rest : List Arc) → (among (a .place) ps && among (a .transition) ts) ≡ true → restrict ps ts (a ∷ rest) ≡ renumber ps ts a ∷ restrict ps ts rest
-unfolding restrict
-restrict-in ps ts a rest e = rw (e, restrict)
-
-restrict-out : (ps ts : List ℕ) (a : Arc) (rest : List Arc) → (among (a .place) ps && among (a .transition) ts) ≡ false → restrict ps ts (a ∷ rest) ≡ restrict ps ts rest
-unfolding restrict
-restrict-out ps ts a rest e = rw (e, restrict)
-
-restrict-none : (ps ts : List ℕ) → restrict ps ts [] ≡ []
-unfolding restrict
-restrict-none ps ts = refl
 
 -- ---- the walk
 

@@ -14,28 +14,21 @@ use Rattle.net.specs.declared.Arc.{Arc}
 use Rattle.net.proofs.Numbers.{by-cases, by-order}
 use Rattle.file.specs.Layout.{arcAt, arcsFrom, sliceFrom}
 use Rattle.file.specs.declared.Header.{Header}
-use Rattle.file.proofs.Laws.{arcs-cons, arcs-none}
+use Rattle.tables.proofs.Rows.{row-cons, row-end, restrict-in, restrict-out}
 use Rattle.own.proofs.Lookup.{left-out, is-kept, own-number}
 use Rattle.links.specs.Links.{Against, Step, Walk, numbered, arcsLeft, kept}
 
 left-cons : (slice : List ℕ) (hs : Header) (k upto : ℕ) → k < upto → arcsLeft slice hs k upto ≡ arcAt slice (hs .arcstart + 8 * k) ∷ arcsLeft slice hs (k + 1) upto
-left-cons slice hs k upto l =
-    let e : hs .arcstart + 8 * k + 8 ≡ hs .arcstart + 8 * (k + 1) = omega arith in
-    let f : upto - k - 1 ≡ upto - (k + 1) = omega arith in
-    arcs-cons slice (hs .arcstart + 8 * k) (upto - k) (omega arith)
-    ∙ ap (λ (at : ℕ). arcAt slice (hs .arcstart + 8 * k) ∷ arcsFrom slice at (upto - k - 1)) e
-    ∙ ap (λ (n : ℕ). arcAt slice (hs .arcstart + 8 * k) ∷ arcsFrom slice (hs .arcstart + 8 * (k + 1)) n) f
+left-cons slice hs k upto l = row-cons slice (hs .arcstart) upto k l
 
 left-none : (slice : List ℕ) (hs : Header) (k upto : ℕ) → upto ≤ k → arcsLeft slice hs k upto ≡ []
-left-none slice hs k upto l = arcs-none slice (hs .arcstart + 8 * k) (upto - k) (omega arith)
+left-none slice hs k upto l = row-end slice (hs .arcstart) upto k l
 
 kept-out : (ps ts : List ℕ) (a : Arc) (rest : List Arc) → among (a .place) ps ≡ false → restrict ps ts (a ∷ rest) ≡ restrict ps ts rest
-unfolding restrict
-kept-out ps ts a rest e = rw (e, restrict)
+kept-out ps ts a rest e = restrict-out ps ts a rest (rw e)
 
 kept-in : (ps ts : List ℕ) (a : Arc) (rest : List Arc) → among (a .place) ps ≡ true → among (a .transition) ts ≡ true → restrict ps ts (a ∷ rest) ≡ renumber ps ts a ∷ restrict ps ts rest
-unfolding restrict
-kept-in ps ts a rest e f = rw (e, f, restrict)
+kept-in ps ts a rest e f = restrict-in ps ts a rest (rw (e, f))
 
 short : (b : Arc) (m : List Arc) → sameArcs [] (b ∷ m) ≡ false
 unfolding sameArcs
@@ -128,12 +121,7 @@ walked-start plan start from to slice hs first upto l m = record { after = omega
 
 module _ (plan : List ℕ) (start from to : ℕ) (slice : List ℕ) (hs : Header) (first upto j k : ℕ) (x : Walked plan start from to slice hs first upto j k) where
   cons : j < to → arcsFrom plan (start + 8 * j) (to - j) ≡ arcAt plan (start + 8 * j) ∷ arcsFrom plan (start + 8 * (j + 1)) (to - (j + 1))
-  cons l =
-      let e : start + 8 * j + 8 ≡ start + 8 * (j + 1) = omega arith in
-      let f : to - j - 1 ≡ to - (j + 1) = omega arith in
-      arcs-cons plan (start + 8 * j) (to - j) (omega arith)
-      ∙ ap (λ (at : ℕ). arcAt plan (start + 8 * j) ∷ arcsFrom plan at (to - j - 1)) e
-      ∙ ap (λ (n : ℕ). arcAt plan (start + 8 * j) ∷ arcsFrom plan (start + 8 * (j + 1)) n) f
+  cons l = row-cons plan start to j l
 
   module _ (r : ℕ) (l : j < to) (s : Step (arcAt plan (start + 8 * j)) slice hs k upto r) where
     pub walked-next : r ≤ upto → Walked plan start from to slice hs first upto (j + 1) r
@@ -149,7 +137,7 @@ module _ (plan : List ℕ) (start from to : ℕ) (slice : List ℕ) (hs : Header
 
   end : to ≤ j → kept slice hs (arcsFrom plan (start + 8 * j) (to - j)) ≡ []
   unfolding restrict
-  end l = rw (arcs-none plan (start + 8 * j) (to - j) (omega arith))
+  end l = rw (row-end plan start to j l)
 
   left-over : sameArcs (arcsLeft slice hs k upto) [] ≡ eqb k upto
   left-over =
