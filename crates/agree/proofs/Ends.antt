@@ -1,23 +1,22 @@
 -- An arc of the plan by what is kept of its ends, as its sum tells it. Assumes nothing.
 use Prim.Native.Nat.{ℕ, _+_, _-_, _*_, _/_, _%_, _≤_, _<_}
-use mathlib.Core.Path.{_≡_, refl, sym, ap, _∙_}
+use mathlib.Core.Path.{_≡_, refl, ap, _∙_}
 use mathlib.Core.Bool.{Bool, true, false, _&&_}
 use mathlib.Core.List.{List}
 use native.Mathlib.Omega.{arith}
 use native.Mathlib.Nat.{div-div-eq-div-mul}
-use lib.ListN.{length, getD}
+use lib.ListN.{getD}
 use Rattle.net.specs.Numbers.{among, position}
-use Rattle.net.specs.Net.{Net, changes, raises}
+use Rattle.net.specs.Net.{Net}
 use Rattle.net.specs.Slice.{renumber}
-use Rattle.net.specs.declared.Arc.{Arc}
 use Rattle.net.proofs.Numbers.{by-cases, holds, position-lt}
 use Rattle.file.specs.Layout.{sliceFrom}
 use Rattle.file.specs.Facts.{ArcGood, arcOf}
 use Rattle.file.specs.declared.Header.{Header}
 use Rattle.own.proofs.Words.{length-words}
 use Rattle.agree.specs.Entries.{leftPlace, leftTransition, numbered, flagged, marked}
-use Rattle.agree.specs.Pass.{Ready, joinedOf, keptOf, oddOf, dueOf, Fine}
-use Rattle.agree.proofs.Sums.{Flags, low, flags-at, below, above, few-flags, many-flags, no-spare, even-flags, due-is}
+use Rattle.agree.specs.Pass.{Ready, joinedOf, keptOf, oddOf, Fine}
+use Rattle.agree.proofs.Sums.{Flags, flags-at, below, few-flags, many-flags, no-spare, even-flags, Alike, own-is}
 
 numbered-in : (unit : ℕ) (os : List ℕ) (rest x : ℕ) → among x os ≡ true → numbered unit os rest x ≡ unit * (1024 + position x os - x)
 unfolding numbered
@@ -148,13 +147,6 @@ fifteen : (d : ℕ) → d ≡ 0 → (d + 15) / 8 % 2 ≡ 0 → ⊥
 fifteen d e f = let g : _≡_ {A = ℕ} 1 0 = rw e at f in omega arith
 
 module _ {ps ts Q : List ℕ} {w z : ℕ} (dl : arcOf w .direction ≤ 1) where
-  pub sum-above : Ends ps ts Q w z → 4398046512128 ≤ z
-  sum-above (both q ql kp kt x) = above x
-  sum-above (at-place kp kt kq x) = above x
-  sum-above (at-asked kp kt kq x) = above x
-  sum-above (at-transition kp kt x) = above x
-  sum-above (neither kp kt kq x) = above x
-
   pub sum-below : Ends ps ts Q w z → z < 18446744073709551616
   sum-below (both q ql kp kt x) = below x
   sum-below (at-place kp kt kq x) = below x
@@ -162,17 +154,32 @@ module _ {ps ts Q : List ℕ} {w z : ℕ} (dl : arcOf w .direction ≤ 1) where
   sum-below (at-transition kp kt x) = below x
   sum-below (neither kp kt kq x) = below x
 
-  -- both ends are kept, and the slice's arc is the one due
-  pub due-arc : Ends ps ts Q w z → keptOf z ≡ true → (among (arcOf w .place) ps && among (arcOf w .transition) ts ≡ true) × (arcOf (dueOf z) ≡ renumber ps ts (arcOf w))
+  -- both ends are kept
+  pub ends-kept : Ends ps ts Q w z → keptOf z ≡ true → (among (arcOf w .place) ps && among (arcOf w .transition) ts) ≡ true
+  ends-kept (both q ql kp kt x) k = rw (kp, kt)
+  ends-kept (at-place kp kt kq x) k = absurd (omega (arith, few-flags x k .0))
+  ends-kept (at-asked kp kt kq x) k = absurd (omega (arith, few-flags x k .0))
+  ends-kept (at-transition kp kt x) k = absurd (omega (arith, few-flags x k .0))
+  ends-kept (neither kp kt kq x) k = absurd (omega (arith, few-flags x k .0))
+
+  -- and an arc of the slice that is like the sum is the one due
+  pub due-arc : Ends ps ts Q w z → keptOf z ≡ true → (own : ℕ) → ArcGood 1024 1024 (arcOf own) → Alike z own → arcOf own ≡ renumber ps ts (arcOf w)
   unfolding renumber
-  due-arc (both q ql kp kt x) k = (rw (kp, kt), due-is x (arcOf w .direction) dl q ql refl (few-flags x k .1) ∙ own (position (arcOf w .transition) ts) (position (arcOf w .place) ps))
+  due-arc (both q ql kp kt x) k own g like =
+      let e = own-is x (x .small-p) (arcOf w .direction) dl q ql refl (few-flags x k .1) (arcOf own .transition) (arcOf own .direction) (spare own) (arcOf own .place) (arcOf own .weight) own (g .transition) (g .direction) (spare-below own) (g .place) (whole own) like in
+      let t : arcOf own .transition ≡ position (arcOf w .transition) ts = e .0 ∙ less (position (arcOf w .transition) ts) in
+      let p : arcOf own .place ≡ position (arcOf w .place) ps = e .2 ∙ less (position (arcOf w .place) ps) in
+      λ i. record { transition = t i; direction = e .1 i; place = p i; weight = e .3 i }
     where
-      own : (a b : ℕ) → _≡_ {A = Arc} (record { transition = 1024 + a - 1024; direction = arcOf w .direction; place = 1024 + b - 1024; weight = arcOf w .weight }) (record { transition = a; direction = arcOf w .direction; place = b; weight = arcOf w .weight })
-      own a b = let e : 1024 + a - 1024 ≡ a = omega arith in let f : 1024 + b - 1024 ≡ b = omega arith in λ i. record { transition = e i; direction = arcOf w .direction; place = f i; weight = arcOf w .weight }
-  due-arc (at-place kp kt kq x) k = absurd (omega (arith, few-flags x k .0))
-  due-arc (at-asked kp kt kq x) k = absurd (omega (arith, few-flags x k .0))
-  due-arc (at-transition kp kt x) k = absurd (omega (arith, few-flags x k .0))
-  due-arc (neither kp kt kq x) k = absurd (omega (arith, few-flags x k .0))
+      less : (a : ℕ) → 1024 + a - 1024 ≡ a
+      less a = omega arith
+
+      spare-below : (v : ℕ) → spare v < 256
+      spare-below v = omega arith
+  due-arc (at-place kp kt kq x) k own g like = absurd (omega (arith, few-flags x k .0))
+  due-arc (at-asked kp kt kq x) k own g like = absurd (omega (arith, few-flags x k .0))
+  due-arc (at-transition kp kt x) k own g like = absurd (omega (arith, few-flags x k .0))
+  due-arc (neither kp kt kq x) k own g like = absurd (omega (arith, few-flags x k .0))
 
   -- an end is left out
   pub end-out : Ends ps ts Q w z → oddOf z ≡ false → keptOf z ≡ false → (among (arcOf w .place) ps && among (arcOf w .transition) ts) ≡ false

@@ -1,7 +1,7 @@
 -- The tables once they are filled. Assumes nothing.
-use Prim.Native.Nat.{ℕ, _≤_, _<_}
-use mathlib.Core.Path.{_≡_, sym, ap, _∙_, subst}
-use mathlib.Core.Bool.{true, false}
+use Prim.Native.Nat.{ℕ, _<_}
+use mathlib.Core.Path.{_≡_, ap, _∙_}
+use mathlib.Core.Bool.{true}
 use mathlib.Core.List.{List}
 use native.Mathlib.Omega.{arith}
 use lib.ListN.{length, getD}
@@ -12,7 +12,7 @@ use Rattle.file.specs.Facts.{Sound}
 use Rattle.file.specs.Criterion.{criterionRefusal}
 use Rattle.file.specs.declared.Header.{Header}
 use Rattle.criterion.proofs.Places.{passed}
-use Rattle.agree.specs.Entries.{leftPlace, leftTransition, numbered, marked, Numbered, Marked, Reached}
+use Rattle.agree.specs.Entries.{leftPlace, numbered, marked, Numbered, Marked, Reached}
 use Rattle.agree.specs.Pass.{Ready, Blank}
 use Rattle.agree.proofs.Ends.{numbered-out}
 

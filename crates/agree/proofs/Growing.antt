@@ -1,7 +1,7 @@
 -- The two tables while they are filled, origin by origin and place by place. Assumes nothing.
-use Prim.Native.Nat.{ℕ, suc, _+_, _-_, _*_, _/_, _≤_, _<_}
+use Prim.Native.Nat.{ℕ, _+_, _-_, _*_, _<_}
 use mathlib.Core.Path.{_≡_, refl, sym, ap, _∙_, subst}
-use mathlib.Core.Bool.{Bool, true, false}
+use mathlib.Core.Bool.{true, false}
 use mathlib.Core.List.{List, [], _∷_, _++_}
 use native.Mathlib.Omega.{arith}
 use native.Mathlib.Numerals.{add-one}
@@ -9,7 +9,7 @@ use lib.Dec.{eqb}
 use lib.ListN.{length, getD, take, set, length-set}
 use lib.Seq.{length-take-le, take-suc, getD-set-same, getD-set-other}
 use borrow.Author.Tests.{eqb-true, eqb-false}
-use Rattle.net.specs.Numbers.{among, position}
+use Rattle.net.specs.Numbers.{among}
 use Rattle.net.proofs.Numbers.{by-cases}
 use Rattle.file.specs.Facts.{RisingFrom}
 use Rattle.own.proofs.Entries.{among-other, position-other, among-new, position-new, once}

@@ -1,16 +1,15 @@
 -- Arcs that are all gone through: the rules 4 to 8 hold. Assumes nothing.
-use Prim.Native.Nat.{ℕ, zero, suc, _+_, _*_, _≤_, _<_}
+use Prim.Native.Nat.{ℕ, zero, suc, _+_, _*_, _<_}
 use mathlib.Core.Path.{_≡_, refl, sym, ap, _∙_}
 use mathlib.Core.Bool.{Bool, true, false, not, _&&_}
 use mathlib.Core.List.{List}
 use native.Mathlib.Omega.{arith}
-use lib.Dec.{T, eqb, ltb, ltb→lt, eqb→eq, T-not}
+use lib.Dec.{eqb, ltb, ltb→lt, eqb→eq, T-not}
 use borrow.Author.Tests.{eq-eqb}
 use Rattle.net.specs.Numbers.{among, position, any, selected}
-use Rattle.net.specs.Net.{Net, input, output, weightOn, joins, counted, changes, raises, takesFrom}
+use Rattle.net.specs.Net.{input, output, weightOn, joins, counted, changes, raises, takesFrom}
 use Rattle.net.specs.Slice.{arcsOf, restrict, sliceRun, planRun}
 use Rattle.net.specs.Checker.{breaks, rule4, rule5, rule6, rule7, rule8, lacksInput, sameArcs}
-use Rattle.net.specs.declared.Arc.{Arc}
 use Rattle.net.proofs.Numbers.{by-cases, by-order, holds, is-true, is-false, fails, not-not, and-left, and-right, any-finds}
 use Rattle.net.proofs.Weights.{run-restrict}
 use Rattle.net.proofs.Verdict.{same-arcs-refl}

@@ -1,21 +1,21 @@
 -- An arc of a transition left out that its effect settles. Assumes nothing.
 use Prim.Native.Nat.{ℕ, zero, suc, _+_, _-_, _*_, _/_, _%_, _≤_, _<_}
 use mathlib.Core.Path.{_≡_, refl, sym, ap, _∙_, subst}
-use mathlib.Core.Bool.{Bool, true, false, not, cond, _&&_, _||_}
+use mathlib.Core.Bool.{Bool, true, false, cond, _&&_, _||_}
 use mathlib.Core.List.{List}
 use native.Mathlib.Omega.{arith}
-use lib.Dec.{T, ltb, leb, eqb, eqb→eq}
+use lib.Dec.{ltb, eqb, eqb→eq}
 use lib.IntN.{ℤ, pos, negsuc, _-ℤ_}
 use lib.Signed.{leZ}
 use borrow.Author.Tests.{ltb-true, ltb-false, leb-true, le-ltb, eq-eqb}
 use Rattle.net.specs.Numbers.{among}
 use Rattle.net.specs.Net.{Net, input, output, effect, changes, raises}
 use Rattle.net.specs.declared.Arc.{Arc}
-use Rattle.net.proofs.Numbers.{by-cases, holds, is-true, by-or, and-left, and-right}
+use Rattle.net.proofs.Numbers.{holds, is-true, by-or, and-left, and-right}
 use Rattle.file.specs.Layout.{arcAt, netFrom, sliceFrom}
 use Rattle.file.specs.Facts.{ArcWord, arcOf}
 use Rattle.file.specs.declared.Header.{Header}
-use Rattle.agree.specs.Pass.{Ready, joinedOf, Fine, Settled}
+use Rattle.agree.specs.Pass.{Ready, joinedOf, Settled}
 use Rattle.agree.proofs.Ends.{apart, raising, changing}
 use Rattle.agree.proofs.Walking.{good-word, word-ends}
 

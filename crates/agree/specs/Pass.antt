@@ -38,9 +38,9 @@ keptOf z = ltb (z % 4294967296) 262144
 abbrev pub oddOf : ℕ → Bool
 oddOf z = eqb (z / 524288 % 2) 1 || not (eqb (z / 16777216 % 256) 0)
 
--- the slice's arc: less 1024 in both own numbers, and without the criterion's mark
-abbrev pub dueOf : ℕ → ℕ
-dueOf z = (z - 4398046512128) / 262144 * 262144 + (z - 4398046512128) % 131072
+-- every bit is 0 but those of 1024 in both own numbers and the criterion's mark
+abbrev pub quietOf : ℕ → Bool
+quietOf d = eqb (d % 1024) 0 && eqb (d / 2048 % 64) 0 && eqb (d / 262144 % 16777216) 0 && eqb (d / 8796093022208) 0
 
 -- the arc breaks none of the rules 6 to 8
 pub record Fine (N : Net) (ps ts Q : List ℕ) (a : Arc) : Type 0 where
@@ -62,7 +62,7 @@ pub record Walked (plan : List ℕ) (hp : Header) (slice : List ℕ) (hs : Heade
   pub within : j ≤ hp .arcs
   pub behind : k ≤ j
   pub fine : (i : ℕ) → i < j → Fine (netFrom plan hp) (sliceFrom slice hs .placeOrigins) (sliceFrom slice hs .transitionOrigins) Q (arcAt plan (hp .arcstart + 8 * i))
-  pub same : k ≤ hs .arcs → differs ≡ 0
+  pub same : k ≤ hs .arcs → quietOf differs ≡ true
       → arcsFrom slice (hs .arcstart + 8 * k) (hs .arcs - k) ≡ restrict (sliceFrom slice hs .placeOrigins) (sliceFrom slice hs .transitionOrigins) (arcsFrom plan (hp .arcstart + 8 * j) (hp .arcs - j))
       → Same plan hp slice hs
 

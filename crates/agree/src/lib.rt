@@ -12,7 +12,7 @@ ghost use Rattle.file.specs.Layout.{arcAt, wordsFrom, netFrom, sliceFrom};
 ghost use Rattle.file.specs.Criterion.{criterionRefusal};
 ghost use Rattle.own.specs.Own.{Origins};
 ghost use Rattle.agree.specs.Entries.{leftPlace, Numbered, Marked, Reached};
-ghost use Rattle.agree.specs.Pass.{Ready, joinedOf, keptOf, oddOf, dueOf, Settled, Walked, Passed, Blank, Agreed};
+ghost use Rattle.agree.specs.Pass.{Ready, joinedOf, keptOf, oddOf, quietOf, Settled, Walked, Passed, Blank, Agreed};
 use file::Header;
 use file::arcs::arc_of;
 use file::arcs::word;
@@ -98,12 +98,11 @@ fn odd(z: usize) -> bool
     (z / 524288 % 2 == 1) | (z / 16777216 % 256 != 0)
 }
 
-fn due(z: usize) -> usize
-    requires { ⌜ 4398046512128 ≤ z ⌝ }
-    ensures { λ r. ⌜ r ≡ dueOf z ⌝ }
+// Is every bit 0 but those of 1024 in both own numbers and the criterion's mark?
+fn quiet(d: usize) -> bool
+    ensures { λ r. ⌜ r ≡ quietOf d ⌝ }
 {
-    let x = z - 4398046512128;
-    x / 262144 * 262144 + x % 131072
+    (d % 1024 == 0) & (d / 2048 % 64 == 0) & (d / 262144 % 16777216 == 0) & (d / 8796093022208 == 0)
 }
 
 // n where ok, else 0.
@@ -113,12 +112,11 @@ fn chosen(ok: bool, n: usize) -> usize
     if ok { n } else { 0 }
 }
 
-// 0 where the arc is not kept, or the slice's own arc is the one due.
+// Quiet where the arc is not kept, or the slice's own arc is the one due.
 fn unlike(z: usize, own: usize) -> usize
-    requires { ⌜ 4398046512128 ≤ z ⌝ }
-    ensures { λ r. ⌜ r ≡ counted (keptOf z) (bitXor (dueOf z) own) ⌝ }
+    ensures { λ r. ⌜ r ≡ counted (keptOf z) (bitXor z own) ⌝ }
 {
-    chosen(kept(z), due(z) ^ own)
+    chosen(kept(z), z ^ own)
 }
 
 // 1 where the arc is kept, else 0.
@@ -257,7 +255,7 @@ fn pass(
         at = next;
         looks -= 1;
     }
-    (at.differs == 0) & (at.own == hs.arcs)
+    quiet(at.differs) & (at.own == hs.arcs)
 }
 
 // Are the rules 4 to 8 certainly kept? The tables start with what stands for left out.

@@ -1,9 +1,9 @@
 -- Rules 4 to 8 by one pass. Assumes nothing.
-use Prim.Native.Nat.{ℕ, _≤_, _<_}
-use mathlib.Core.Path.{_≡_, refl, _∙_}
+use Prim.Native.Nat.{ℕ, _≤_}
+use mathlib.Core.Path.{_≡_, _∙_}
 use mathlib.Core.List.{List}
 use native.Mathlib.Omega.{arith}
-use lib.ListN.{length, getD, replicate, length-replicate, getD-replicate}
+use lib.ListN.{replicate, length-replicate, getD-replicate}
 use Rattle.net.specs.Net.{Net}
 use Rattle.net.specs.Slice.{Slice}
 use Rattle.net.specs.Checker.{Rule, breaks, breaker, verdictFrom}

@@ -8,7 +8,7 @@ use borrow.Author.Tests.{lt-ltb, le-ltb}
 use Rattle.net.specs.Net.{Net}
 use Rattle.net.specs.Slice.{Slice}
 use Rattle.net.specs.Checker.{Rule, breaker, verdictFrom, verdict, rules, rule1, rule2, rule3, rule4, rule5, rule6, rule7, rule8}
-use Rattle.promise.specs.Calls.{Checked, told}
+use Rattle.promise.specs.Calls.{told}
 use Rattle.checker.specs.Room.{rulesFrom4}
 
 -- the rule is broken: its number and the number that breaks it

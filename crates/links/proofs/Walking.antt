@@ -1,17 +1,17 @@
 -- The plan's run of arcs against the slice's, arc by arc. Assumes nothing.
-use Prim.Native.Nat.{ℕ, suc, _+_, _-_, _*_, _≤_, _<_}
+use Prim.Native.Nat.{ℕ, _+_, _-_, _*_, _≤_, _<_}
 use mathlib.Core.Bool.{Bool, true, false, not, _&&_}
 use mathlib.Core.Path.{_≡_, refl, sym, ap, _∙_}
 use mathlib.Core.List.{List, [], _∷_}
 use native.Mathlib.Omega.{arith}
 use lib.Dec.{eqb}
-use lib.ListN.{length, getD}
+use lib.ListN.{getD}
 use borrow.Author.Tests.{eq-eqb, ne-eqb}
 use Rattle.net.specs.Numbers.{among, position}
 use Rattle.net.specs.Slice.{renumber, restrict}
 use Rattle.net.specs.Checker.{sameArc, sameArcs}
 use Rattle.net.specs.declared.Arc.{Arc}
-use Rattle.net.proofs.Numbers.{by-cases, by-order}
+use Rattle.net.proofs.Numbers.{by-order}
 use Rattle.file.specs.Layout.{arcAt, arcsFrom, sliceFrom}
 use Rattle.file.specs.declared.Header.{Header}
 use Rattle.tables.proofs.Rows.{row-cons, row-end, restrict-in, restrict-out}

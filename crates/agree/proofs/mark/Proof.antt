@@ -1,11 +1,9 @@
-use mathlib.Core.Path.{refl}
-use mathlib.Core.Path.{subst}
+use mathlib.Core.Path.{refl, subst}
 use mathlib.Core.List.{List}
 use lib.Seq.{take-all}
-use Prim.Native.Nat.{ℕ, _-_, _≤_, _<_}
-use mathlib.Core.Path.{_≡_, ap, _∙_, sym}
+use Prim.Native.Nat.{ℕ, _-_, _≤_}
 use native.Mathlib.Omega.{arith}
-use lib.ListN.{length, getD, take}
+use lib.ListN.{length, take}
 use Rattle.agree.specs.Entries.{Marked}
 use Rattle.agree.proofs.Growing.{marked-none, marked-next}
 use borrow.Author.Needs.{needs}

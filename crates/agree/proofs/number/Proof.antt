@@ -1,14 +1,11 @@
-use Prim.Native.Nat.{_+_}
-use mathlib.Core.Path.{refl}
-use mathlib.Core.Path.{subst}
+use Prim.Native.Nat.{_+_, ℕ, _-_, _≤_, _<_}
+use mathlib.Core.Path.{refl, subst, _∙_, sym}
 use mathlib.Core.List.{List}
 use lib.Seq.{take-all}
 use native.Mathlib.Nat.{mul-le-mul}
 use Rattle.own.proofs.Words.{length-words, words-at}
-use Prim.Native.Nat.{ℕ, _-_, _≤_, _<_}
-use mathlib.Core.Path.{_≡_, ap, _∙_, sym}
 use native.Mathlib.Omega.{arith}
-use lib.ListN.{length, getD, take}
+use lib.ListN.{length, take}
 use Rattle.file.specs.Layout.{wordsFrom}
 use Rattle.agree.specs.Entries.{Numbered}
 use Rattle.agree.proofs.Growing.{numbered-none, numbered-next}

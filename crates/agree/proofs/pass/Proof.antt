@@ -1,8 +1,7 @@
 use mathlib.Core.Bool.{_&&_}
 use lib.Dec.{eqb, eqb→eq}
-use Rattle.net.proofs.Numbers.{holds, and-left, and-right}
-use mathlib.Core.Path.{refl, sym, ap, _∙_}
-use native.Mathlib.Omega.{arith}
+use Rattle.net.proofs.Numbers.{holds, is-true, and-left, and-right}
+use mathlib.Core.Path.{refl, sym, _∙_}
 use Rattle.agree.specs.Pass.{Walked}
 use Rattle.agree.proofs.Ends.{apart}
 use Rattle.agree.proofs.Walking.{walked-start, walked-past, walked-end}
@@ -65,13 +64,17 @@ loop-less c = search needs
 loop-again : tie.Need-loop-again Inv-loop μ-loop
 loop-again c = c .stretch2 .ensures
 
+quiet-requires : tie.Need-quiet-requires Inv-loop μ-loop
+quiet-requires c κs = search needs
+
 -- src/lib.rt:222:1
 returns-4 : tie.Need-returns-4 Inv-loop μ-loop
 returns-4 c = λ e.
     let at = c .before .before .before .before .before .before .loop .at in
     let a = c .before .before .before .before .before .before .before .before .before .before .before .before .before .args in
-    let h = holds (eqb (at .differs) 0 && eqb (at .own) (a .hs .arcs)) e in
-    walked-end _ _ _ _ _ _ _ _ (c .before .before .before .before .before .before .loop .inv) (c .before .before .before .if1 .left) (eqb→eq _ _ (and-right (eqb (at .differs) 0) (eqb (at .own) (a .hs .arcs)) h)) (eqb→eq _ _ (and-left (eqb (at .differs) 0) (eqb (at .own) (a .hs .arcs)) h))
+    let calm = c .before .before .quiet .result in
+    let h = holds (calm && eqb (at .own) (a .hs .arcs)) e in
+    walked-end _ _ _ _ _ _ _ _ (c .before .before .before .before .before .before .loop .inv) (c .before .before .before .if1 .left) (eqb→eq _ _ (and-right calm (eqb (at .own) (a .hs .arcs)) h)) (sym (c .before .before .quiet .ensures) ∙ is-true calm (and-left calm (eqb (at .own) (a .hs .arcs)) h))
 
 pub pass-spec : {M : Type 1} → statement M
 pass-spec =
@@ -90,4 +93,5 @@ pass-spec =
     sub-looks
     loop-less
     loop-again
+    quiet-requires
     returns-4)

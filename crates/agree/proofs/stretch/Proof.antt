@@ -1,13 +1,9 @@
-use Prim.Native.Nat.{ℕ, _+_}
+use Prim.Native.Nat.{ℕ, _+_, _-_}
 use mathlib.Core.Path.{sym, ap, _∙_}
 use lib.Bits.{bitOr}
-use Rattle.agree.specs.Pass.{keptOf}
-use Rattle.agree.proofs.Walking.{counted-one}
-use Prim.Native.Nat.{_-_}
+use Rattle.agree.specs.Pass.{keptOf, Walked}
+use Rattle.agree.proofs.Walking.{counted-one, walked-next, joined-fits}
 use native.Mathlib.Omega.{arith}
-use Rattle.agree.specs.Pass.{Walked}
-use Rattle.agree.proofs.Walking.{walked-next, joined-fits, word-ends, good-word}
-use Rattle.agree.proofs.Ends.{sum-above}
 use borrow.Author.Needs.{needs}
 use Rattle.agree.proofs.stretch.Statement.{statement}
 use Rattle.agree.proofs.stretch.Tie as tie
@@ -73,10 +69,7 @@ word-requires-2 c κs = search needs
 
 -- src/lib.rt:194:29
 unlike-requires : tie.Need-unlike-requires Inv-loop μ-loop
-unlike-requires c κs =
-    let r = c .before .before .before .before .before .before .before .before .before .before .before .before .before .before .before .pre .0 in
-    let l = c .before .before .before .before .before .before .before .if1 .taken in
-    sum-above (good-word _ _ _ _ _ _ _ r _ l _ (c .before .before .before .before .word .ensures) (omega arith) .direction) (word-ends _ _ _ _ _ _ _ r _ l _ (c .before .before .before .before .word .ensures) (omega arith) _ (c .before .before .before .joined .ensures))
+unlike-requires c κs = search needs
 
 -- src/lib.rt:195:14
 step-requires : tie.Need-step-requires Inv-loop μ-loop

@@ -1,14 +1,13 @@
 use Prim.Native.Nat.{ℕ}
-use mathlib.Core.Path.{_≡_, sym, ap, _∙_}
+use mathlib.Core.Path.{sym, ap, _∙_}
 use mathlib.Core.List.{List}
 use native.Mathlib.Omega.{arith}
 use denote.Ref.{now}
-use lib.ListN.{length}
 use lib.Seq.{length-take-le}
 use Rattle.net.specs.Checker.{verdict}
 use Rattle.file.specs.Layout.{netFrom, sliceFrom}
 use Rattle.promise.specs.Calls.{Checked, told}
-use Rattle.checker.proofs.Listed.{few-bytes, list-passed, list-is}
+use Rattle.checker.proofs.Listed.{list-passed, list-is}
 use borrow.Author.Needs.{needs}
 use Rattle.checker.proofs.judge_in.Statement.{statement}
 use Rattle.checker.proofs.judge_in.Tie as tie

@@ -1,4 +1,3 @@
-use borrow.Author.Needs.{needs}
 use lib.Dec.{leb, leb→le}
 use mathlib.Core.Bool.{_&&_}
 use Rattle.net.proofs.Numbers.{holds, and-left, and-right}
