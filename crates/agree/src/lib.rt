@@ -1,4 +1,12 @@
 // Are the rules 4 to 8 certainly kept? One pass over the plan's arcs, with no branch on what is kept.
+//
+// An arc's number has the transition in bits 0 to 15, the direction in bit 16, zeros up to 31, the place in 32 to 47 and
+// the weight in 48 to 63. Entries of two tables are added to it, for its place and its transition. They put their own
+// numbers, 1024 more each, in the place of the plan's, and beside the direction, in units of 2 ^ 16, these flags:
+// 2 for a place of the criterion, 15 for a place left out, 7 for a transition left out.
+// So both ends are kept where direction and flags come to less than 4, and bit 3 of them tells an arc to look at:
+// 15 is an input left out (rule 7); of a transition left out, 8 gives to a kept place (rule 8), and 9 and 10 are at a
+// place of the criterion (rule 6).
 ghost use mathlib.Core.Path.{_≡_};
 ghost use mathlib.Core.Bool.{true, _&&_};
 ghost use Prim.Native.Nat.{ℕ, _+_, _*_, _<_, _≤_};
@@ -18,7 +26,7 @@ use file::arcs::arc_of;
 use file::arcs::word;
 use file::word::get16;
 
-// How far the arcs are gone through: the plan's, the slice's own, and 0 where none differs.
+// How far the arcs are gone through: the plan's, the slice's own, and the bits in which some differ.
 pub struct Walk {
     pub arc: usize,
     pub own: usize,
@@ -86,12 +94,14 @@ fn joined(w: usize, places: &[usize], transitions: &[usize]) -> usize
     w + places[p] + transitions[t]
 }
 
+// Are both ends of the arc kept?
 fn kept(z: usize) -> bool
     ensures { λ r. ⌜ r ≡ keptOf z ⌝ }
 {
     z % 4294967296 < 262144
 }
 
+// Does the arc want a closer look?
 fn odd(z: usize) -> bool
     ensures { λ r. ⌜ r ≡ oddOf z ⌝ }
 {
