@@ -13,7 +13,7 @@ use Rattle.net.proofs.Numbers.{by-cases, holds, position-lt}
 use Rattle.file.specs.Layout.{sliceFrom}
 use Rattle.file.specs.Facts.{ArcGood, arcOf}
 use Rattle.file.specs.declared.Header.{Header}
-use Rattle.own.proofs.Words.{length-words}
+use Rattle.file.proofs.Rows.{length-words}
 use Rattle.agree.specs.Entries.{leftPlace, leftTransition, numbered, flagged, marked}
 use Rattle.agree.specs.Pass.{Ready, joinedOf, keptOf, oddOf, Fine}
 use Rattle.agree.proofs.Sums.{Flags, flags-at, below, few-flags, many-flags, no-spare, even-flags, Alike, own-is}

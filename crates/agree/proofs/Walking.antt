@@ -17,7 +17,7 @@ use Rattle.net.proofs.Numbers.{by-cases, holds, and-left, and-right}
 use Rattle.file.specs.Layout.{arcAt, arcsFrom, netFrom, sliceFrom}
 use Rattle.file.specs.Facts.{ArcGood, ArcWord, Sound, arcOf}
 use Rattle.file.specs.declared.Header.{Header}
-use Rattle.starts.proofs.Reached.{range-at}
+use Rattle.file.proofs.Rows.{range-at}
 use Rattle.tables.proofs.Rows.{row-cons, row-end, restrict-in, restrict-out, restrict-none}
 use Rattle.agree.specs.Pass.{Ready, joinedOf, keptOf, oddOf, quietOf, Fine, Settled, Walked, Passed}
 use Rattle.agree.proofs.Sums.{Alike}

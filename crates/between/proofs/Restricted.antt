@@ -1,8 +1,8 @@
 -- The arcs found by the two tables are "every plan arc between" the kept places and transitions. Assumes nothing.
 use Prim.Native.Nat.{ℕ, zero, suc, _+_, _*_, _<_}
-use mathlib.Core.Bool.{Bool, true, false, _&&_}
-use mathlib.Core.List.{List, [], _∷_, _++_}
-use mathlib.Core.Path.{_≡_, refl, sym, ap, subst, _∙_}
+use mathlib.Core.Bool.{true, false}
+use mathlib.Core.List.{List, _∷_, _++_}
+use mathlib.Core.Path.{_≡_, refl, ap, subst, _∙_}
 use native.Mathlib.Omega.{arith}
 use lib.ListN.{length, getD}
 use Rattle.net.specs.Numbers.{among, position}
@@ -12,12 +12,7 @@ use Rattle.net.proofs.Numbers.{by-cases}
 use Rattle.file.specs.Layout.{arcAt, arcsFrom}
 use Rattle.own.specs.Own.{ownEntry, Own}
 use Rattle.between.specs.Between.{keptArc, keptArcs, Arcs}
-
-first : (s : List ℕ) (at : ℕ) → arcAt s (at + 8 * 0) ≡ arcAt s at
-first s at = ap (arcAt s) (let e : at + 8 * 0 ≡ at = omega arith in e)
-
-later : (s : List ℕ) (at j : ℕ) → arcAt s (at + 8 * suc j) ≡ arcAt s (at + 8 + 8 * j)
-later s at j = ap (arcAt s) (let e : at + 8 * suc j ≡ at + 8 + 8 * j = omega arith in e)
+use Rattle.file.proofs.Rows.{first, later}
 
 -- the entry of a kept number, and of one that is not
 module _ (os table : List ℕ) (owns : Own os table) (x : ℕ) (l : x < length table) where

@@ -6,7 +6,7 @@ use native.Mathlib.Omega.{arith}
 use lib.ListN.{length}
 use Rattle.file.specs.Layout.{wordsFrom}
 use Rattle.file.specs.Criterion.{criterionRefusal, criterionOf, criterionBytesRefusal}
-use Rattle.own.proofs.Words.{length-words}
+use Rattle.file.proofs.Rows.{length-words}
 use Rattle.criterion.proofs.Places.{passed, bytes-passed}
 
 -- the C call's places are not more than the plan's

@@ -10,13 +10,14 @@ use lib.ListN.{length, getD, drop}
 use lib.Seq.{drop-cons}
 use borrow.Author.Tests.{eqb-false, leb-false, ltb-false, eq-eqb, ne-eqb}
 use Rattle.net.specs.Numbers.{among}
-use Rattle.net.proofs.Numbers.{by-or, holds}
+use Rattle.net.proofs.Numbers.{by-or}
 use Rattle.file.specs.Word.{le16}
 use Rattle.file.specs.Layout.{wordsFrom}
 use Rattle.file.specs.Refusal.{refuse}
 use Rattle.file.specs.Facts.{RisingFrom}
 use Rattle.file.specs.Criterion.{placesRefusal, criterionRefusal, criterionOf, criterionBytesRefusal}
 use Rattle.file.proofs.Opening.{refuse-0, or-false}
+use Rattle.file.proofs.Rows.{length-words}
 
 -- ---- the loops
 
@@ -78,11 +79,6 @@ empty-9 P Q e = rw (eq-eqb (length Q) 0 e)
 pub some-places : (P : ℕ) (Q : List ℕ) → (length Q ≡ 0 → ⊥) → criterionRefusal P Q ≡ placesRefusal P 0 Q
 unfolding criterionRefusal
 some-places P Q n = rw (ne-eqb (length Q) 0 n)
-
-length-words : (s : List ℕ) (at n : ℕ) → length (wordsFrom s at n) ≡ n
-unfolding wordsFrom
-length-words s at zero = refl
-length-words s at (suc n) = ap suc (length-words s (at + 2) n)
 
 module _ (P : ℕ) (s : List ℕ) where
   pub odd-9 : (length s % 2 ≡ 0 → ⊥) → 9 ≡ criterionBytesRefusal P s

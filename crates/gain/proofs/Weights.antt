@@ -1,18 +1,18 @@
 -- The sum over the run of a transition's arcs in one direction is its weight there. Assumes nothing.
 use Prim.Native.Nat.{ℕ, zero, suc, _+_, _*_, _-_, _≤_, _<_}
-use mathlib.Core.Path.{_≡_, refl, sym, ap, _∙_, subst}
+use mathlib.Core.Path.{_≡_, refl, subst}
 use mathlib.Core.Bool.{Bool, true, false, _&&_}
 use mathlib.Core.List.{List}
 use native.Mathlib.Omega.{arith}
 use native.Mathlib.Decide.{decLt}
 use lib.Dec.{eqb}
-use lib.ListN.{length}
 use borrow.Author.Tests.{eq-eqb, eqb-true}
 use Rattle.net.specs.Net.{counted, joins, weightOn}
 use Rattle.file.specs.Layout.{arcAt, arcsFrom}
 use Rattle.net.specs.declared.Arc.{Arc}
 use Rattle.starts.specs.Table.{slotOf, slotAt, Split}
 use Rattle.gain.specs.Gain
+use Rattle.file.proofs.Rows.{weight-next, weight-none}
 
 share-other : (d p t : ℕ) (a : Arc) → (slotOf a ≡ 2 * t + d → ⊥) → counted (joins d p t a) (a .weight) ≡ 0
 share-other d p t a other = go (eqb (a .transition) t) (eqb (a .direction) d) (eqb (a .place) p) refl refl
@@ -28,20 +28,6 @@ share-run d p t a e f g =
     let h : a .transition ≡ t = omega arith in
     let k : a .direction ≡ d = omega arith in
     rw (eq-eqb (a .transition) t h, eq-eqb (a .direction) d k)
-
-pub weight-none : (d p t : ℕ) (s : List ℕ) (at : ℕ) → weightOn d p t (arcsFrom s at 0) ≡ 0
-unfolding weightOn arcsFrom
-weight-none d p t s at = refl
-
--- one arc more at the end
-pub weight-next : (d p t : ℕ) (s : List ℕ) (at j : ℕ) → weightOn d p t (arcsFrom s at (suc j)) ≡ weightOn d p t (arcsFrom s at j) + counted (joins d p t (arcAt s (at + 8 * j))) (arcAt s (at + 8 * j) .weight)
-unfolding weightOn arcsFrom
-weight-next d p t s at zero =
-    let e : at ≡ at + 8 * 0 = omega arith in
-    omega (arith, ap (λ (k : ℕ). counted (joins d p t (arcAt s k)) (arcAt s k .weight)) e)
-weight-next d p t s at (suc j) =
-    let e : at + 8 + 8 * j ≡ at + 8 * suc j = omega arith in
-    omega (arith, weight-next d p t s (at + 8) j, ap (λ (k : ℕ). counted (joins d p t (arcAt s k)) (arcAt s k .weight)) e)
 
 module _ (d p t : ℕ) (s : List ℕ) (start n b e : ℕ) (dl : d ≤ 1) (ways : (i : ℕ) → i < n → arcAt s (start + 8 * i) .direction ≤ 1) (low : Split s start n (2 * t + d) b) (high : Split s start n (2 * t + d + 1) e) where
   before : (j : ℕ) → j ≤ b → weightOn d p t (arcsFrom s start j) ≡ 0

@@ -2,21 +2,20 @@
 use Prim.Native.Nat.{ℕ, zero, suc, _+_, _*_, _-_, _≤_, _<_}
 use mathlib.Core.Bool.{Bool, true, false, _&&_}
 use mathlib.Core.List.{List}
-use mathlib.Core.Path.{_≡_, refl, sym, ap, _∙_, subst}
+use mathlib.Core.Path.{_≡_, refl, sym, ap, _∙_}
 use native.Mathlib.Omega.{arith}
 use native.Mathlib.Decide.{ℕ-discrete, decLt}
-use lib.Dec.{T, eqb}
-use lib.ListN.{length}
+use lib.Dec.{eqb}
 use borrow.Author.Tests.{eq-eqb, eqb-true}
 use Rattle.net.specs.Net.{counted, joins, weightOn}
-use Rattle.file.specs.Word.{Bytes, le16}
-use Rattle.file.specs.Layout.{arcAt, arcsFrom, netFrom}
+use Rattle.file.specs.Word.{Bytes}
+use Rattle.file.specs.Layout.{arcAt, arcsFrom}
 use Rattle.file.specs.Facts.{ArcGood, Sound}
 use Rattle.file.specs.declared.Header.{Header}
 use Rattle.file.proofs.Bytes.{le16-lt}
 use Rattle.net.specs.declared.Arc.{Arc}
 use Rattle.starts.specs.Table.{slotOf, slotAt, Split}
-use Rattle.starts.proofs.Reached.{range-at}
+use Rattle.file.proofs.Rows.{range-at}
 use Rattle.gain.proofs.Weights.{weight-none, weight-next}
 
 -- arc i of those that start at `start` joins p and t in direction d

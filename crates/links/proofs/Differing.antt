@@ -1,21 +1,21 @@
 -- Rule 4 of one transition: its two runs. Assumes nothing.
-use Prim.Native.Nat.{ℕ, zero, suc, _+_, _-_, _*_, _≤_, _<_}
-use mathlib.Core.Bool.{Bool, true, false, not, _&&_}
-use mathlib.Core.Path.{_≡_, refl, sym, ap, _∙_}
-use mathlib.Core.List.{List, [], _∷_}
+use Prim.Native.Nat.{ℕ, suc, _+_, _-_, _*_, _≤_, _<_}
+use mathlib.Core.Bool.{Bool, true, false, not}
+use mathlib.Core.Path.{_≡_, sym, ap, _∙_}
+use mathlib.Core.List.{List}
 use native.Mathlib.Omega.{arith}
 use lib.ListN.{length, getD}
 use Rattle.net.specs.Numbers.{among, position}
-use Rattle.net.specs.Slice.{Slice, arcsOf, sliceRun, planRun}
+use Rattle.net.specs.Slice.{sliceRun, planRun}
 use Rattle.net.specs.Checker.{breaks, rule4, sameArcs}
-use Rattle.net.specs.declared.Arc.{Arc}
 use Rattle.net.proofs.Numbers.{holds, position-lt}
-use Rattle.file.specs.Layout.{arcAt, arcsFrom, wordsFrom, netFrom, sliceFrom}
+use Rattle.file.specs.Layout.{arcsFrom, netFrom, sliceFrom}
 use Rattle.file.specs.declared.Header.{Header}
 use Rattle.tables.specs.Matched.{Starts, Matched}
 use Rattle.own.proofs.Lookup.{left-out, is-kept, own-number}
 use Rattle.tables.proofs.Runs.{good-at, entry-most, entries-rise, run-own, run-is}
 use Rattle.links.specs.Links.{Run, Walk, Against, arcsLeft, kept}
+use Rattle.file.proofs.Rows.{length-words}
 
 -- what the walk of t's two runs asks, and what its answer says
 pub record Ready (plan : List ℕ) (hp : Header) (slice : List ℕ) (hs : Header) (ownp : List ℕ) (t own from to first upto : ℕ) : Type 0 where
@@ -24,11 +24,6 @@ pub record Ready (plan : List ℕ) (hp : Header) (slice : List ℕ) (hs : Header
   pub against : Against slice hs first upto ownp
   pub answer : (r : Bool) → r ≡ not (sameArcs (arcsLeft slice hs first upto) (kept slice hs (arcsFrom plan (hp .arcstart + 8 * from) (to - from))))
       → r ≡ breaks (rule4 (netFrom plan hp) (sliceFrom slice hs)) t
-
-length-words : (s : List ℕ) (at n : ℕ) → length (wordsFrom s at n) ≡ n
-unfolding wordsFrom
-length-words s at zero = refl
-length-words s at (suc n) = ap suc (length-words s (at + 2) n)
 
 module _ (plan : List ℕ) (hp : Header) (table slice : List ℕ) (hs : Header) (runs ownp ownt : List ℕ) (m : Matched plan hp table slice hs ownp ownt) (st : Starts slice hs runs) (t : ℕ) (l : t < hp .transitions) (own : ℕ) (e : own ≡ getD ownt t 0) where
   -- a transition left out

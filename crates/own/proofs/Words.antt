@@ -1,23 +1,9 @@
--- Numbers of 2 bytes in a row, one by one, and rising lists. Assumes nothing.
-use Prim.Native.Nat.{ℕ, zero, suc, _+_, _*_, _≤_, _<_}
-use mathlib.Core.Path.{_≡_, refl, ap, _∙_}
+-- Rising lists. Assumes nothing.
+use Prim.Native.Nat.{ℕ, zero, suc, _+_, _≤_, _<_}
 use mathlib.Core.List.{List, [], _∷_}
 use native.Mathlib.Omega.{arith}
 use lib.ListN.{length, getD}
-use Rattle.file.specs.Word.{le16}
-use Rattle.file.specs.Layout.{wordsFrom}
 use Rattle.file.specs.Facts.{RisingFrom}
-
-pub length-words : (s : List ℕ) (at n : ℕ) → length (wordsFrom s at n) ≡ n
-unfolding wordsFrom
-length-words s at zero = refl
-length-words s at (suc n) = ap suc (length-words s (at + 2) n)
-
-pub words-at : (s : List ℕ) (at n i : ℕ) → i < n → getD (wordsFrom s at n) i 0 ≡ le16 s (at + 2 * i)
-unfolding wordsFrom
-words-at s at zero i h = absurd (omega arith)
-words-at s at (suc n) zero h = ap (le16 s) (let e : at ≡ at + 2 * 0 = omega arith in e)
-words-at s at (suc n) (suc i) h = words-at s (at + 2) n i (omega arith) ∙ ap (le16 s) (let e : at + 2 + 2 * i ≡ at + 2 * suc i = omega arith in e)
 
 pub least-in : (l : List ℕ) (least : ℕ) → RisingFrom least l → (i : ℕ) → i < length l → least ≤ getD l i 0
 least-in [] least r i h = absurd (omega arith)

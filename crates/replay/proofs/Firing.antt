@@ -11,7 +11,7 @@ use Rattle.file.specs.Layout.{arcAt, arcsFrom, netFrom}
 use Rattle.file.specs.Facts.{ArcGood, Sound}
 use Rattle.file.specs.declared.Header.{Header}
 use Rattle.starts.specs.Table.{Split}
-use Rattle.starts.proofs.Reached.{range-at}
+use Rattle.file.proofs.Rows.{range-at}
 use Rattle.gain.specs.Gain.{part, sumTo, Run, Takes, Gives}
 use Rattle.gain.proofs.Sums.{sum-next, part-here, sum-more}
 use Rattle.gain.proofs.Weights as weights

@@ -20,7 +20,7 @@ use Rattle.file.specs.Writing.{arcsBytes, originsBytes, sliceBody, trailerBytes
 use Rattle.file.specs.declared.Header.{Header}
 use Rattle.file.proofs.Bytes.{length-markings, length-origins, length-arcs}
 use Rattle.promise.proofs.Cuts.{length-arcsFrom}
-use Rattle.starts.proofs.Reached.{range-at}
+use Rattle.file.proofs.Rows.{range-at}
 use Rattle.between.specs.Between.{keptArcs, Arcs, ArcsWritten}
 use Rattle.between.proofs.Restricted.{arcs-restricted}
 use Rattle.parts.specs.Trailer.{trailerFor}

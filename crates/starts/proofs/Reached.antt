@@ -1,44 +1,25 @@
 -- From a file that was read to what the table asks, and from its entries to numbers of arcs. Assumes nothing.
 use Prim.Native.Nat.{ℕ, zero, suc, _+_, _-_, _*_, _≤_, _<_}
-use mathlib.Core.Path.{_≡_, refl, sym, ap, _∙_, subst}
-use mathlib.Core.Bool.{Bool, true, false}
+use mathlib.Core.Path.{_≡_, ap}
+use mathlib.Core.Bool.{true, false}
 use mathlib.Core.List.{List, map}
 use native.Mathlib.Omega.{arith}
 use lib.Dec.{ltb}
-use lib.ListN.{length}
 use borrow.Author.Tests.{lt-ltb, le-ltb}
 use Rattle.file.specs.Layout.{arcAt, arcsFrom}
 use Rattle.file.specs.Refusal.{key}
-use Rattle.file.specs.Facts.{ArcGood, InRange, RisingFrom, Sound}
+use Rattle.file.specs.Facts.{ArcGood, RisingFrom, Sound}
 use Rattle.file.specs.declared.Header.{Header}
 use Rattle.starts.specs.Table
-
--- arc i of a run that starts 8 bytes later
-later : (s : List ℕ) (at i : ℕ) → arcAt s (at + 8 + 8 * i) ≡ arcAt s (at + 8 * suc i)
-later s at i = ap (arcAt s) (let e : at + 8 + 8 * i ≡ at + 8 * suc i = omega arith in e)
-
-first : (s : List ℕ) (at : ℕ) → arcAt s at ≡ arcAt s (at + 8 * 0)
-first s at = ap (arcAt s) (let e : at ≡ at + 8 * 0 = omega arith in e)
-
-pub range-at : (P T : ℕ) (s : List ℕ) (at n i : ℕ) → InRange P T (arcsFrom s at n) → i < n → ArcGood P T (arcAt s (at + 8 * i))
-unfolding arcsFrom
-range-at P T s at zero i r l = absurd (omega arith)
-range-at P T s at (suc n) zero r l = subst (ArcGood P T) (first s at) (r .0)
-range-at P T s at (suc n) (suc i) r l = subst (ArcGood P T) (later s at i) (range-at P T s (at + 8) n i (r .1) (omega arith))
-
-least-at : (s : List ℕ) (at least n i : ℕ) → RisingFrom least (map key (arcsFrom s at n)) → i < n → least ≤ key (arcAt s (at + 8 * i))
-unfolding arcsFrom
-least-at s at least zero i r l = absurd (omega arith)
-least-at s at least (suc n) zero r l = omega (arith, r .0, ap key (first s at))
-least-at s at least (suc n) (suc i) r l = omega (arith, r .0, ap key (later s at i), least-at s (at + 8) _ n i (r .1) (omega arith))
+use native.Mathlib.Decide.{decLt}
+use Rattle.file.proofs.Rows.{first, later, range-at, key-less}
 
 pub order-at : (s : List ℕ) (at least n i j : ℕ) → RisingFrom least (map key (arcsFrom s at n)) → i ≤ j → j < n → key (arcAt s (at + 8 * i)) ≤ key (arcAt s (at + 8 * j))
-unfolding arcsFrom
-order-at s at least zero i j r l h = absurd (omega arith)
-order-at s at least (suc n) zero zero r l h = omega arith
-order-at s at least (suc n) zero (suc j) r l h = omega (arith, ap key (first s at), ap key (later s at j), least-at s (at + 8) _ n j (r .1) (omega arith))
-order-at s at least (suc n) (suc i) zero r l h = absurd (omega arith)
-order-at s at least (suc n) (suc i) (suc j) r l h = omega (arith, ap key (later s at i), ap key (later s at j), order-at s (at + 8) _ n i j (r .1) (omega arith) (omega arith))
+order-at s at least n i j r l h = go (decLt i j)
+  where
+    go : Dec (i < j) → key (arcAt s (at + 8 * i)) ≤ key (arcAt s (at + 8 * j))
+    go (yes k) = omega (arith, key-less s at least n i j r k h)
+    go (no k) = let e : i ≡ j = omega (arith, k, l) in omega (arith, ap (λ (x : ℕ). key (arcAt s (at + 8 * x))) e)
 
 -- a file that was read has what the table asks
 pub tabled : (s : List ℕ) (h : Header) (size : ℕ) → Sound s h → 2 * h .transitions < size → Table.Tabled s (h .arcstart) (h .arcs) (h .transitions) size

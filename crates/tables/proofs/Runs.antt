@@ -1,12 +1,12 @@
 -- A transition's arcs stand in a row, between two entries of the table of starts. Assumes nothing.
 use Prim.Native.Nat.{ℕ, zero, suc, _+_, _-_, _*_, _≤_, _<_}
-use mathlib.Core.Bool.{Bool, true, false}
-use mathlib.Core.Path.{_≡_, refl, sym, ap, _∙_, subst}
+use mathlib.Core.Bool.{true, false}
+use mathlib.Core.Path.{_≡_, refl, sym, ap, _∙_}
 use mathlib.Core.List.{List, [], _∷_, _++_, append-nil}
 use native.Mathlib.Omega.{arith}
 use native.Mathlib.Decide.{decLt}
 use lib.Dec.{eqb}
-use lib.ListN.{length, getD}
+use lib.ListN.{getD}
 use borrow.Author.Tests.{eq-eqb, ne-eqb, eqb-true}
 use Rattle.net.specs.Net.{weightOn}
 use Rattle.net.specs.Slice.{arcsOf}
@@ -17,30 +17,13 @@ use Rattle.file.specs.Layout.{arcAt, arcsFrom, netFrom}
 use Rattle.file.specs.Facts.{ArcGood, Sound}
 use Rattle.file.specs.declared.Header.{Header}
 use Rattle.starts.specs.Table.{slotAt, Split}
-use Rattle.starts.proofs.Reached.{range-at}
+use Rattle.file.proofs.Rows.{arcs-append, first, later, range-at}
 use Rattle.gain.specs.Gain.{sumTo, part}
-use Rattle.gain.proofs.Sums.{sum-next, sum-more, part-here, part-other}
+use Rattle.gain.proofs.Sums.{sum-next, sum-more, part-here}
 use Rattle.gain.proofs.Weights.{weight-run}
 use Rattle.tables.specs.Matched.{Starts}
 
 -- ---- rows of arcs
-
-first : (s : List ℕ) (at : ℕ) → arcAt s (at + 8 * 0) ≡ arcAt s at
-first s at = ap (arcAt s) (let e : at + 8 * 0 ≡ at = omega arith in e)
-
-later : (s : List ℕ) (at i : ℕ) → arcAt s (at + 8 * suc i) ≡ arcAt s (at + 8 + 8 * i)
-later s at i = ap (arcAt s) (let e : at + 8 * suc i ≡ at + 8 + 8 * i = omega arith in e)
-
-arcs-append : (s : List ℕ) (at b m : ℕ) → arcsFrom s at (b + m) ≡ arcsFrom s at b ++ arcsFrom s (at + 8 * b) m
-unfolding arcsFrom
-arcs-append s at zero m =
-    let e : 0 + m ≡ m = omega arith in
-    let f : at ≡ at + 8 * 0 = omega arith in
-    rw e (ap (λ (k : ℕ). arcsFrom s k m) f)
-arcs-append s at (suc b) m =
-    let e : suc b + m ≡ suc (b + m) = omega arith in
-    let f : at + 8 + 8 * b ≡ at + 8 * suc b = omega arith in
-    rw e (ap (λ (l : List Arc). arcAt s at ∷ l) (arcs-append s (at + 8) b m ∙ ap (λ (k : ℕ). arcsFrom s (at + 8) b ++ arcsFrom s k m) f))
 
 -- where no arc is of transition t, and where each is
 arcs-none : (t : ℕ) (s : List ℕ) (at n : ℕ) → ((i : ℕ) → i < n → arcAt s (at + 8 * i) .transition ≡ t → ⊥) → arcsOf t (arcsFrom s at n) ≡ []

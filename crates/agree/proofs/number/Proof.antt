@@ -3,7 +3,7 @@ use mathlib.Core.Path.{refl, subst, _∙_, sym}
 use mathlib.Core.List.{List}
 use lib.Seq.{take-all}
 use native.Mathlib.Nat.{mul-le-mul}
-use Rattle.own.proofs.Words.{length-words, words-at}
+use Rattle.file.proofs.Rows.{length-words, words-at}
 use native.Mathlib.Omega.{arith}
 use lib.ListN.{length, take}
 use Rattle.file.specs.Layout.{wordsFrom}

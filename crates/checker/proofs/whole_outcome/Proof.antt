@@ -7,7 +7,7 @@ use Rattle.net.specs.Checker.{verdictFrom, verdict}
 use Rattle.file.specs.Layout.{netFrom, sliceFrom}
 use Rattle.promise.specs.Calls.{told}
 use Rattle.checker.specs.Room.{rulesFrom4, KnownIn}
-use Rattle.own.proofs.Words.{length-words}
+use Rattle.file.proofs.Rows.{length-words}
 use Rattle.kept.proofs.Keeping.{places-known, transitions-known}
 use Rattle.checker.proofs.Steps.{broken-here, holds-here, range1, range2, range3, all-rules}
 use Rattle.checker.proofs.OnePass.{agreed-told}

@@ -1,10 +1,10 @@
 use borrow.Author.Needs.{needs}
-use Prim.Native.Nat.{ℕ, _+_, _*_, _-_, _≤_, _<_}
-use mathlib.Core.Path.{_≡_, refl, sym, ap, _∙_}
+use Prim.Native.Nat.{_-_, _<_}
+use mathlib.Core.Path.{_≡_, sym, _∙_}
 use native.Mathlib.Omega.{arith}
 use denote.Ref.{now}
 use Rattle.file.specs.Layout.{wordsFrom}
-use Rattle.own.proofs.Words.{length-words, words-at}
+use Rattle.file.proofs.Rows.{length-words, words-at}
 use Rattle.kept.proofs.Firsts.{unknown-none, last-decides}
 use Rattle.kept.proofs.first_unknown.Statement.{statement}
 use Rattle.kept.proofs.first_unknown.Tie as tie

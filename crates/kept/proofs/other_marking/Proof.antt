@@ -1,12 +1,12 @@
 use borrow.Author.Needs.{needs}
-use Prim.Native.Nat.{ℕ, _+_, _*_, _-_, _≤_, _<_}
-use mathlib.Core.Path.{_≡_, refl, sym, ap, _∙_}
+use Prim.Native.Nat.{ℕ, _-_, _≤_, _<_}
+use mathlib.Core.Path.{_≡_, sym, ap, _∙_}
 use native.Mathlib.Omega.{arith}
 use denote.Ref.{now}
 use lib.ListN.{length, getD}
 use borrow.Author.Count.{below-more}
 use Rattle.file.specs.Layout.{netFrom, sliceFrom}
-use Rattle.own.proofs.Words.{length-words, words-at}
+use Rattle.file.proofs.Rows.{length-words, words-at}
 use Rattle.kept.proofs.Reached.{place-origins}
 use Rattle.kept.proofs.Keeping.{Alike, marking-found, marking-none}
 use Rattle.kept.proofs.other_marking.Statement.{statement}

@@ -1,12 +1,12 @@
 use borrow.Author.Needs.{needs}
-use Prim.Native.Nat.{ℕ, _+_, _*_, _-_, _≤_, _<_}
-use mathlib.Core.Path.{_≡_, refl, sym, ap, _∙_}
+use Prim.Native.Nat.{ℕ, _-_, _≤_, _<_}
+use mathlib.Core.Path.{_≡_, _∙_}
 use native.Mathlib.Omega.{arith}
 use denote.Ref.{now}
 use lib.ListN.{getD}
 use borrow.Author.Count.{below-more}
 use Rattle.file.specs.Layout.{wordsFrom}
-use Rattle.own.proofs.Words.{words-at}
+use Rattle.file.proofs.Rows.{words-at}
 use Rattle.kept.proofs.Firsts.{unknown-at, unknown-none}
 use Rattle.kept.proofs.scan.Statement.{statement}
 use Rattle.kept.proofs.scan.Tie as tie

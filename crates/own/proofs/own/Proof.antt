@@ -1,6 +1,6 @@
 use borrow.Author.Needs.{needs}
 use denote.Ref.{now}
-use Prim.Native.Nat.{ℕ, _+_, _-_, _≤_, _<_}
+use Prim.Native.Nat.{ℕ, _-_, _≤_}
 use mathlib.Core.Path.{_≡_, sym, _∙_, subst, refl}
 use mathlib.Core.List.{List}
 use native.Mathlib.Omega.{arith}
@@ -8,7 +8,7 @@ use lib.ListN.{length, take}
 use lib.Seq.{take-all}
 use Rattle.file.specs.Layout.{wordsFrom}
 use Rattle.own.specs.Own.{Own}
-use Rattle.own.proofs.Words.{length-words, words-at}
+use Rattle.file.proofs.Rows.{length-words, words-at}
 use Rattle.own.proofs.Entries.{own-none, own-next}
 use Rattle.own.proofs.own.Statement.{statement}
 use Rattle.own.proofs.own.Tie as tie

@@ -1,11 +1,12 @@
 use native.Mathlib.Omega.{arith}
 use borrow.Author.Needs.{needs}
 use borrow.Author.Tests.{not-false, ltb-false, leb-false, leb-true}
-use mathlib.Core.Path.{_≡_, refl, sym, ap, _∙_}
-use mathlib.Core.Bool.{Bool, true, false, _||_}
-use Prim.Native.Nat.{ℕ, _+_, _*_, _-_, _≤_, _<_}
+use mathlib.Core.Path.{_≡_, sym, ap, _∙_}
+use mathlib.Core.Bool.{Bool, true, false}
+use Prim.Native.Nat.{ℕ, _+_, _*_, _-_, _≤_}
 use lib.ListN.{length}
 use Rattle.file.specs.Sweep.{bothFit, FitIn}
+use Rattle.file.proofs.Opening.{or-false}
 use Rattle.file.proofs.Marks.{both-fit, narrow, Reached, at-start, one-on, two-on, all-done}
 use Rattle.file.proofs.sweep.all_good.Statement.{statement}
 use Rattle.file.proofs.sweep.all_good.Tie as tie
@@ -18,10 +19,6 @@ use Rattle.file.proofs.sweep.sweep_key.Reads as sweep-key-reads
 
 never : {A : Type 0} → _≡_ {A = Bool} false true → A
 never e = let z : _≡_ {A = ℕ} 0 1 = cc in absurd (omega (arith, z))
-
-or-sides : (a b : Bool) → (a || b) ≡ false → (a ≡ false) × (b ≡ false)
-or-sides true b e = let z : _≡_ {A = ℕ} 0 1 = cc in absurd (omega (arith, z))
-or-sides false b e = (refl, e)
 
 abbrev Inv-loop : tie.InvT-loop
 Inv-loop file places transitions start count room at₀ least₀ left₀ at least left =
@@ -112,7 +109,7 @@ loop-again : tie.Need-loop-again Inv-loop μ-loop
 loop-again c =
     let start = c .before .before .before .before .before .before .before .before .before .before .before in
     let loop = c .before .before .before .before .before .before .before .before .loop in
-    let order = or-sides _ _ (c .if2 .left) in (
+    let order = or-false _ _ (c .if2 .left) in (
       search needs,
       two-on (start .args .file .now) (start .args .places) (start .args .transitions) (start .args .start) (start .args .count) (loop .at) (loop .least) (loop .left)
           (c .before .before .before .before .before .before .word .result) (c .before .before .before .before .before .word2 .result) (c .before .before .sweep-key .result) (c .before .sweep-key2 .result)
