@@ -15,8 +15,7 @@ use Rattle.file.specs.declared.Header.{Header}
 use Rattle.file.proofs.Bytes.{le16-lt}
 use Rattle.net.specs.declared.Arc.{Arc}
 use Rattle.starts.specs.Table.{slotOf, slotAt, Split}
-use Rattle.file.proofs.Rows.{range-at}
-use Rattle.gain.proofs.Weights.{weight-none, weight-next}
+use Rattle.file.proofs.Rows.{range-at, weight-none, weight-next}
 
 -- arc i of those that start at `start` joins p and t in direction d
 pub record Joins (d p t : ℕ) (s : List ℕ) (start i : ℕ) : Type 0 where

@@ -14,7 +14,7 @@ use borrow.Author.Tests.{eq-eqb, ne-eqb}
 use Rattle.net.specs.Net.{counted, joins, weightOn}
 use Rattle.net.specs.declared.Arc.{Arc}
 use Rattle.file.specs.Layout.{arcAt, arcsFrom}
-use Rattle.gain.proofs.Weights.{weight-none, weight-next}
+use Rattle.file.proofs.Rows.{weight-none, weight-next}
 use Rattle.index.specs.Rows
 
 -- what arc j adds to the sum of p in direction d
