@@ -1,6 +1,6 @@
--- The arcs of one transition and direction by their places: a search by halving, and the sum at one place. Assumes nothing.
+-- The arcs of one transition and direction by their places: the sum at one place. Assumes nothing.
 use Prim.Native.Nat.{ℕ, zero, suc, _+_, _-_, _*_, _≤_, _<_}
-use mathlib.Core.Path.{_≡_, refl, sym, ap, _∙_, subst}
+use mathlib.Core.Path.{_≡_, sym, ap, _∙_}
 use mathlib.Core.List.{List}
 use native.Mathlib.Omega.{arith}
 use Rattle.file.specs.Layout.{arcAt}
@@ -9,53 +9,9 @@ use Rattle.gain.specs.Gain.{sumTo, part}
 use Rattle.gain.proofs.Sums.{sum-next, part-here, part-other}
 use Rattle.firing.specs.Runs.{Within, FromPlace}
 
--- the arcs before `low` have a place below p, those from `high` on have not
-pub record Halving (s : List ℕ) (start from to p low high : ℕ) : Type 0 where
-  pub run : Within s start from to
-  pub first : from ≤ low
-  pub rising : low ≤ high
-  pub within : high ≤ to
-  pub below : (i : ℕ) → from ≤ i → i < low → arcAt s (start + 8 * i) .place < p
-  pub above : (i : ℕ) → high ≤ i → i < to → p ≤ arcAt s (start + 8 * i) .place
-
-pub halving-start : {s : List ℕ} {start from to p : ℕ} → Within s start from to → Halving s start from to p from to
-halving-start w = record {
-  run = w;
-  first = omega arith;
-  rising = w .rising;
-  within = omega arith;
-  below = λ i l m. absurd (omega (arith, l, m));
-  above = λ i l m. absurd (omega (arith, l, m));
-}
-
-module _ {s : List ℕ} {start from to p low high : ℕ} (x : Halving s start from to p low high) (middle : ℕ) (more : low ≤ middle) (less : middle < high) {place : ℕ} (e : place ≡ arcAt s (start + 8 * middle) .place) where
-  pub halving-up : place < p → Halving s start from to p (middle + 1) high
-  halving-up l = record {
-    run = x .run;
-    first = omega (arith, x .first, more);
-    rising = omega (arith, less);
-    within = x .within;
-    below = λ i f h. omega (arith, e, l, x .run .order i middle f (omega (arith, h)) (omega (arith, less, x .within)));
-    above = x .above;
-  }
-
-  pub halving-down : p ≤ place → Halving s start from to p low middle
-  halving-down l = record {
-    run = x .run;
-    first = x .first;
-    rising = more;
-    within = omega (arith, less, x .within);
-    below = x .below;
-    above = λ i h g. omega (arith, e, l, x .run .order middle i (omega (arith, x .first, more)) h g);
-  }
-
-pub halving-end : {s : List ℕ} {start from to p low high : ℕ} → Halving s start from to p low high → high ≤ low → FromPlace s start from to p low
-halving-end x h = record {
-  after = x .first;
-  within = omega (arith, x .rising, x .within);
-  below = x .below;
-  above = λ i l m. x .above i (omega (arith, l, h)) m;
-}
+-- the place of arc i
+abbrev pub placeAt : List ℕ → ℕ → ℕ → ℕ
+placeAt s start i = arcAt s (start + 8 * i) .place
 
 -- arcs at other places add nothing
 skip-by : (s : List ℕ) (start p a k : ℕ) → ((i : ℕ) → a ≤ i → i < a + k → arcAt s (start + 8 * i) .place ≡ p → ⊥) → sumTo s start p (a + k) ≡ sumTo s start p a

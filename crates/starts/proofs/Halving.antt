@@ -1,51 +1,50 @@
--- The search by halving: where the arcs with a slot below k end. Assumes nothing.
-use Prim.Native.Nat.{ℕ, _+_, _*_, _≤_, _<_}
+-- A search by halving, in numbers that do not fall: where those below k end. Assumes nothing.
+use Prim.Native.Nat.{ℕ, _+_, _≤_, _<_}
 use mathlib.Core.Path.{_≡_}
-use mathlib.Core.List.{List}
 use native.Mathlib.Omega.{arith}
-use Rattle.starts.specs.Table
 
--- the arcs before `low` have a slot below k, those from `high` on have not
-pub record Halving (s : List ℕ) (start n k low high : ℕ) : Type 0 where
-  pub ordered : Table.Ordered s start n
+-- of the numbers f from..to, those before `low` are below k, those from `high` on are not; what else is given stays so
+pub record Halving (A : Type 0) (f : ℕ → ℕ) (from to k low high : ℕ) : Type 0 where
+  pub given : A
+  pub order : (i j : ℕ) → from ≤ i → i ≤ j → j < to → f i ≤ f j
+  pub first : from ≤ low
   pub rising : low ≤ high
-  pub within : high ≤ n
-  pub below : (i : ℕ) → i < low → Table.slotAt s start i < k
-  pub above : (i : ℕ) → high ≤ i → i < n → k ≤ Table.slotAt s start i
+  pub within : high ≤ to
+  pub below : (i : ℕ) → from ≤ i → i < low → f i < k
+  pub above : (i : ℕ) → high ≤ i → i < to → k ≤ f i
 
-pub halving-start : {s : List ℕ} {start n k : ℕ} → Table.Ordered s start n → Halving s start n k 0 n
-halving-start o = record {
-  ordered = o;
-  rising = omega arith;
+pub halving-start : {A : Type 0} {f : ℕ → ℕ} {from to k : ℕ} → A → ((i j : ℕ) → from ≤ i → i ≤ j → j < to → f i ≤ f j) → from ≤ to → Halving A f from to k from to
+halving-start a o l = record {
+  given = a;
+  order = o;
+  first = omega arith;
+  rising = l;
   within = omega arith;
-  below = λ i l. absurd (omega arith);
-  above = λ i l m. absurd (omega arith);
+  below = λ i g h. absurd (omega (arith, g, h));
+  above = λ i g h. absurd (omega (arith, g, h));
 }
 
-module _ {s : List ℕ} {start n k low high : ℕ} (x : Halving s start n k low high) (middle : ℕ) (less : middle < high) {slot : ℕ} (e : slot ≡ Table.slotAt s start middle) where
-  -- arc `middle` is below k: so are those before it
-  pub halving-up : slot < k → Halving s start n k (middle + 1) high
+module _ {A : Type 0} {f : ℕ → ℕ} {from to k low high : ℕ} (x : Halving A f from to k low high) (middle : ℕ) (more : low ≤ middle) (less : middle < high) {v : ℕ} (e : v ≡ f middle) where
+  -- number `middle` is below k: so are those before it
+  pub halving-up : v < k → Halving A f from to k (middle + 1) high
   halving-up l = record {
-    ordered = x .ordered;
-    rising = omega arith;
+    given = x .given;
+    order = x .order;
+    first = omega (arith, x .first, more);
+    rising = omega (arith, less);
     within = x .within;
-    below = λ i h. omega (arith, e, x .within, x .ordered .order i middle (omega arith) (omega (arith, x .within)));
+    below = λ i g h. omega (arith, e, l, x .order i middle g (omega (arith, h)) (omega (arith, less, x .within)));
     above = x .above;
   }
 
   -- it is not: nor are those after it
-  pub halving-down : low ≤ middle → k ≤ slot → Halving s start n k low middle
-  halving-down m l = record {
-    ordered = x .ordered;
-    rising = m;
-    within = omega (arith, x .within);
+  pub halving-down : k ≤ v → Halving A f from to k low middle
+  halving-down l = record {
+    given = x .given;
+    order = x .order;
+    first = x .first;
+    rising = more;
+    within = omega (arith, less, x .within);
     below = x .below;
-    above = λ i h g. omega (arith, e, x .ordered .order middle i h g);
+    above = λ i g h. omega (arith, e, l, x .order middle i (omega (arith, x .first, more)) g h);
   }
-
-pub halving-end : {s : List ℕ} {start n k low high : ℕ} → Halving s start n k low high → high ≤ low → Table.Split s start n k low
-halving-end x h = record {
-  within = omega (arith, x .within, x .rising);
-  below = x .below;
-  above = λ i l m. x .above i (omega arith) m;
-}

@@ -3,7 +3,9 @@ use native.Mathlib.Omega.{arith}
 use mathlib.Core.Path.{ap}
 use Prim.Native.Nat.{_-_}
 use Rattle.net.specs.declared.Arc.{Arc}
-use Rattle.firing.proofs.Places.{Halving, halving-start, halving-up, halving-down, halving-end}
+use Rattle.firing.specs.Runs.{Within}
+use Rattle.firing.proofs.Places.{placeAt}
+use Rattle.starts.proofs.Halving.{Halving, halving-start, halving-up, halving-down}
 use Rattle.firing.proofs.place_from.Statement.{statement}
 use Rattle.firing.proofs.place_from.Tie as tie
 use Rattle.firing.proofs.place_from.Reads as reads
@@ -11,14 +13,14 @@ use Rattle.firing.proofs.place_from.Lts as lts
 use Rattle.file.proofs.arcs.arc.Reads as arc-reads
 
 abbrev Inv-loop : tie.InvT-loop
-Inv-loop file start from to place low₀ high₀ low high = Halving file start from to place low high
+Inv-loop file start from to place low₀ high₀ low high = Halving (Within file start from to) (placeAt file start) from to place low high
 
 abbrev μ-loop : tie.MeasureT-loop
 μ-loop file start from to place low₀ high₀ low high = high - low
 
 -- src/lib.rt:21:5
 loop-holds : tie.Need-loop-holds Inv-loop μ-loop
-loop-holds c = halving-start (c .before .pre)
+loop-holds c = halving-start (c .before .pre) (c .before .pre .order) (c .before .pre .rising)
 
 -- src/lib.rt:22:23
 add-middle : tie.Need-add-middle Inv-loop μ-loop
@@ -58,7 +60,14 @@ loop-again-2 c = halving-down (c .before .before .before .before .loop .inv) _ (
 
 -- src/lib.rt:15:1
 returns : tie.Need-returns Inv-loop μ-loop
-returns c = halving-end (c .before .loop .inv) (c .loop-test .left)
+returns c =
+    let x = c .before .loop .inv in
+    record {
+      after = x .first;
+      within = omega (arith, x .rising, x .within);
+      below = x .below;
+      above = λ i l m. x .above i (omega (arith, l, c .loop-test .left)) m;
+    }
 
 pub place-from-spec : {M : Type 1} → statement M
 place-from-spec =

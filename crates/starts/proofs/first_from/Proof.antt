@@ -2,8 +2,8 @@ use borrow.Author.Needs.{needs}
 use native.Mathlib.Omega.{arith}
 use mathlib.Core.Path.{_≡_, _∙_, ap}
 use Prim.Native.Nat.{_+_, _-_, _/_}
-use Rattle.starts.specs.Table.{slotOf, slotAt}
-use Rattle.starts.proofs.Halving.{Halving, halving-start, halving-up, halving-down, halving-end}
+use Rattle.starts.specs.Table.{slotOf, slotAt, Ordered}
+use Rattle.starts.proofs.Halving.{Halving, halving-start, halving-up, halving-down}
 use Rattle.starts.proofs.first_from.Statement.{statement}
 use Rattle.starts.proofs.first_from.Tie as tie
 use Rattle.starts.proofs.first_from.Reads as reads
@@ -12,7 +12,7 @@ use Rattle.file.proofs.arcs.arc.Reads as arc-reads
 use Rattle.starts.proofs.slot.Reads as slot-reads
 
 abbrev Inv-loop : tie.InvT-loop
-Inv-loop file start count k low₀ high₀ low high = Halving file start count k low high
+Inv-loop file start count k low₀ high₀ low high = Halving (Ordered file start count) (slotAt file start) 0 count k low high
 
 abbrev μ-loop : tie.MeasureT-loop
 μ-loop file start count k low₀ high₀ low high = high - low
@@ -24,7 +24,7 @@ slot-is c = c .slot .ensures .0 ∙ ap slotOf (c .before .arc .ensures .0)
 
 -- src/lib.rt:80:5
 loop-holds : tie.Need-loop-holds Inv-loop μ-loop
-loop-holds c = halving-start (c .before .pre)
+loop-holds c = halving-start (c .before .pre) (λ i j f. c .before .pre .order i j) (omega arith)
 
 -- src/lib.rt:81:23
 add-middle : tie.Need-add-middle Inv-loop μ-loop
@@ -56,7 +56,7 @@ loop-less c = search needs
 
 -- src/lib.rt:80:5
 loop-again : tie.Need-loop-again Inv-loop μ-loop
-loop-again c = halving-up (c .before .before .before .before .loop .inv) _ (omega (arith, c .before .before .before .loop-test .taken)) (slot-is (c .before)) (c .if1 .taken)
+loop-again c = halving-up (c .before .before .before .before .loop .inv) _ (omega (arith, c .before .before .before .loop-test .taken)) (omega (arith, c .before .before .before .loop-test .taken)) (slot-is (c .before)) (c .if1 .taken)
 
 -- src/lib.rt:80:5
 loop-less-2 : tie.Need-loop-less-2 Inv-loop μ-loop
@@ -64,11 +64,17 @@ loop-less-2 c = search needs
 
 -- src/lib.rt:80:5
 loop-again-2 : tie.Need-loop-again-2 Inv-loop μ-loop
-loop-again-2 c = halving-down (c .before .before .before .before .loop .inv) _ (omega (arith, c .before .before .before .loop-test .taken)) (slot-is (c .before)) (omega (arith, c .before .before .before .loop-test .taken)) (c .if1 .left)
+loop-again-2 c = halving-down (c .before .before .before .before .loop .inv) _ (omega (arith, c .before .before .before .loop-test .taken)) (omega (arith, c .before .before .before .loop-test .taken)) (slot-is (c .before)) (c .if1 .left)
 
 -- src/lib.rt:74:1
 returns : tie.Need-returns Inv-loop μ-loop
-returns c = halving-end (c .before .loop .inv) (c .loop-test .left)
+returns c =
+    let x = c .before .loop .inv in
+    record {
+      within = omega (arith, x .rising, x .within);
+      below = λ i l. x .below i (omega arith) l;
+      above = λ i l m. x .above i (omega (arith, l, c .loop-test .left)) m;
+    }
 
 pub first-from-spec : {M : Type 1} → statement M
 first-from-spec =
