@@ -19,8 +19,9 @@ use Rattle.file.specs.Facts.{Sound}
 use Rattle.file.specs.declared.Header.{Header}
 use Rattle.starts.specs.Table.{choose}
 use Rattle.gain.specs.Gain.{pulls}
-use Rattle.index.specs.Rows.{placeAt, transitionAt, drawsBy, Last, Rows}
-use Rattle.index.proofs.Arcs.{good-at, has-arc, weight-le}
+use Rattle.gain.specs.Ways.{placeAt, transitionAt}
+use Rattle.index.specs.Rows.{drawsBy, Last, Rows}
+use Rattle.gain.proofs.Arcs.{good-at, has-arc, weight-le}
 use Rattle.search.specs.Search.{Between, Grows}
 use Rattle.cut.specs.Kept.{growthOf}
 use Rattle.cut.specs.Limits.{limitOf}

@@ -1,4 +1,3 @@
-pub mod Arcs
 pub mod Sums
 pub mod Linking
 pub mod Runs

@@ -13,6 +13,7 @@ use borrow.Author.Tests.{eq-eqb}
 use Rattle.net.proofs.Numbers.{holds, fails}
 use Rattle.starts.specs.Table.{choose}
 use Rattle.gain.specs.Gain.{pulls, pullsAt, Rested}
+use Rattle.gain.specs.Ways.{placeAt, transitionAt}
 use Rattle.index.specs.Rows
 
 -- the row that h leads to is one of the arcs from `from` on
@@ -49,11 +50,11 @@ record New (draws : ℕ → ℕ → Bool) (s : List ℕ) (start from j p t v : �
 
 module _ (draws : ℕ → ℕ → Bool) (s : List ℕ) (start from to P t : ℕ) (limit was : List ℕ) (a : Rows.Agrees draws s start from to P t limit was)
     (j : ℕ) (fj : from ≤ j) (jt : j < to) (column head next : List ℕ) (x : Linking draws s start from j P t was column head next)
-    (p : ℕ) (e : p ≡ Rows.placeAt s start j) (l : p < P) where
-  own : Rows.transitionAt s start j ≡ t
+    (p : ℕ) (e : p ≡ placeAt s start j) (l : p < P) where
+  own : transitionAt s start j ≡ t
   own = a .own j fj jt
 
-  draws-own : T (draws p (Rows.transitionAt s start j)) → T (draws p t)
+  draws-own : T (draws p (transitionAt s start j)) → T (draws p t)
   draws-own h = subst (λ (k : ℕ). T (draws p k)) own h
 
   last : Rows.Last draws s start j p (getD head p 0)
@@ -64,10 +65,10 @@ module _ (draws : ℕ → ℕ → Bool) (s : List ℕ) (start from to P t : ℕ)
   new (same q) true f = record {
     last = record {
       within = omega arith;
-      at = λ i g. let z : j ≡ i = omega arith in sym (ap (Rows.placeAt s start) z) ∙ sym e;
+      at = λ i g. let z : j ≡ i = omega arith in sym (ap (placeAt s start) z) ∙ sym e;
       draws-it = λ i g.
           let z : j ≡ i = omega arith in
-          subst (λ (k : ℕ). T (draws p (Rows.transitionAt s start k))) z
+          subst (λ (k : ℕ). T (draws p (transitionAt s start k))) z
           (subst (λ (k : ℕ). T (draws p k)) (sym own) (holds (draws p t) (a .tells p l ∙ ap (pulls (getD limit p 0)) (sym q) ∙ f)));
       rest = λ k g h. absurd (omega arith);
     };
@@ -80,14 +81,14 @@ module _ (draws : ℕ → ℕ → Bool) (s : List ℕ) (start from to P t : ℕ)
           within = let w = last .within in omega arith;
           at = last .at;
           draws-it = last .draws-it;
-          rest = λ k g h m d. older k g h m d (ℕ-discrete k j) (λ z. absurd (no (draws-own (subst (λ (i : ℕ). T (draws p (Rows.transitionAt s start i))) z d))));
+          rest = λ k g h m d. older k g h m d (ℕ-discrete k j) (λ z. absurd (no (draws-own (subst (λ (i : ℕ). T (draws p (transitionAt s start i))) z d))));
         };
         found = λ h. absurd (no h);
       }
     where
-      older : (k : ℕ) → getD head p 0 ≤ k → k < j + 1 → Rows.placeAt s start k ≡ p → T (draws p (Rows.transitionAt s start k)) → Dec (k ≡ j)
-          → (k ≡ j → (0 < getD head p 0) × (Rows.transitionAt s start k ≡ Rows.transitionAt s start (getD head p 0 - 1)))
-          → (0 < getD head p 0) × (Rows.transitionAt s start k ≡ Rows.transitionAt s start (getD head p 0 - 1))
+      older : (k : ℕ) → getD head p 0 ≤ k → k < j + 1 → placeAt s start k ≡ p → T (draws p (transitionAt s start k)) → Dec (k ≡ j)
+          → (k ≡ j → (0 < getD head p 0) × (transitionAt s start k ≡ transitionAt s start (getD head p 0 - 1)))
+          → (0 < getD head p 0) × (transitionAt s start k ≡ transitionAt s start (getD head p 0 - 1))
       older k g h m d (yes z) at-j = at-j z
       older k g h m d (no z) at-j = last .rest k g (omega arith) m d
   new (seen q f) true g = apart (pullsAt limit column p) g (at-rest (getD limit p 0) (getD column p 0) q)
@@ -101,15 +102,15 @@ module _ (draws : ℕ → ℕ → Bool) (s : List ℕ) (start from to P t : ℕ)
     found = f;
   }
     where
-      older : (k : ℕ) → getD head p 0 ≤ k → k < j + 1 → Rows.placeAt s start k ≡ p → T (draws p (Rows.transitionAt s start k)) → Dec (k ≡ j)
-          → (0 < getD head p 0) × (Rows.transitionAt s start k ≡ Rows.transitionAt s start (getD head p 0 - 1))
+      older : (k : ℕ) → getD head p 0 ≤ k → k < j + 1 → placeAt s start k ≡ p → T (draws p (transitionAt s start k)) → Dec (k ≡ j)
+          → (0 < getD head p 0) × (transitionAt s start k ≡ transitionAt s start (getD head p 0 - 1))
       older k g h m d (yes z) =
-          let y = f (draws-own (subst (λ (i : ℕ). T (draws p (Rows.transitionAt s start i))) z d)) in
+          let y = f (draws-own (subst (λ (i : ℕ). T (draws p (transitionAt s start i))) z d)) in
           let w = last .within in
           let v = y .leads in
           let r : getD head p 0 - 1 ≡ y .row = omega arith in
           let u = y .late in
-          (omega arith, ap (Rows.transitionAt s start) z ∙ own ∙ sym (a .own (y .row) u (omega arith)) ∙ ap (Rows.transitionAt s start) (sym r))
+          (omega arith, ap (transitionAt s start) z ∙ own ∙ sym (a .own (y .row) u (omega arith)) ∙ ap (transitionAt s start) (sym r))
       older k g h m d (no z) = last .rest k g (omega arith) m d
 
   module _ (cl : p < length column) (hl : p < length head) (nl : j < length next) where
@@ -130,16 +131,16 @@ module _ (draws : ℕ → ℕ → Bool) (s : List ℕ) (start from to P t : ℕ)
           rest = λ k g h m d. older k g h m d (ℕ-discrete k j);
         })
       where
-        older : (k : ℕ) → getD head q 0 ≤ k → k < j + 1 → Rows.placeAt s start k ≡ q → T (draws q (Rows.transitionAt s start k)) → Dec (k ≡ j)
-            → (0 < getD head q 0) × (Rows.transitionAt s start k ≡ Rows.transitionAt s start (getD head q 0 - 1))
-        older k g h m′ d (yes y) = absurd (z (sym m′ ∙ ap (Rows.placeAt s start) y ∙ sym e))
+        older : (k : ℕ) → getD head q 0 ≤ k → k < j + 1 → placeAt s start k ≡ q → T (draws q (transitionAt s start k)) → Dec (k ≡ j)
+            → (0 < getD head q 0) × (transitionAt s start k ≡ transitionAt s start (getD head q 0 - 1))
+        older k g h m′ d (yes y) = absurd (z (sym m′ ∙ ap (placeAt s start) y ∙ sym e))
         older k g h m′ d (no y) = x .rows .heads q m .rest k g (omega arith) m′ d
 
-    nexts-now : (i : ℕ) → i < j + 1 → Dec (i ≡ j) → Rows.Last draws s start i (Rows.placeAt s start i) (getD (set next j (getD head p 0)) i 0)
+    nexts-now : (i : ℕ) → i < j + 1 → Dec (i ≡ j) → Rows.Last draws s start i (placeAt s start i) (getD (set next j (getD head p 0)) i 0)
     nexts-now i m (yes z) =
-        subst (λ (k : ℕ). Rows.Last draws s start k (Rows.placeAt s start k) (getD (set next j (getD head p 0)) k 0)) (sym z)
-        (subst (Rows.Last draws s start j (Rows.placeAt s start j)) (sym (getD-set-same next j (getD head p 0) 0 nl)) (subst (λ (k : ℕ). Rows.Last draws s start j k (getD head p 0)) e last))
-    nexts-now i m (no z) = subst (Rows.Last draws s start i (Rows.placeAt s start i)) (sym (getD-set-other next j i (getD head p 0) 0 z)) (x .rows .nexts i (omega arith))
+        subst (λ (k : ℕ). Rows.Last draws s start k (placeAt s start k) (getD (set next j (getD head p 0)) k 0)) (sym z)
+        (subst (Rows.Last draws s start j (placeAt s start j)) (sym (getD-set-same next j (getD head p 0) 0 nl)) (subst (λ (k : ℕ). Rows.Last draws s start j k (getD head p 0)) e last))
+    nexts-now i m (no z) = subst (Rows.Last draws s start i (placeAt s start i)) (sym (getD-set-other next j i (getD head p 0) 0 z)) (x .rows .nexts i (omega arith))
 
     each-now : (q : ℕ) → q < P → Dec (q ≡ p) → Stands (draws q t) from was (set column p 1073741824) (set head p (choose (pullsAt limit column p) (j + 1) (getD head p 0))) q
     each-now q m (yes z) =
@@ -170,18 +171,18 @@ linking-none draws s start from P t was head next x = record { rows = x; each = 
 pub rested-none : (s : List ℕ) (start from : ℕ) (was : List ℕ) → Rested s start from from was was
 rested-none s start from was = record { long = refl; here = λ i l h. absurd (omega arith); other = λ p. inl refl }
 
-module _ (s : List ℕ) (start from j : ℕ) (was column : List ℕ) (x : Rested s start from j was column) (p : ℕ) (e : p ≡ Rows.placeAt s start j) (l : p < length column) where
+module _ (s : List ℕ) (start from j : ℕ) (was column : List ℕ) (x : Rested s start from j was column) (p : ℕ) (e : p ≡ placeAt s start j) (l : p < length column) where
   pub rested-more : (column′ : List ℕ) → column′ ≡ set column p 1073741824 → Rested s start from (j + 1) was column′
   rested-more column′ y = subst (Rested s start from (j + 1) was) (sym y) (record {
     long = length-set column p 1073741824 ∙ x .long;
-    here = λ i a b. rest i a b (ℕ-discrete (Rows.placeAt s start i) p) (ℕ-discrete i j);
+    here = λ i a b. rest i a b (ℕ-discrete (placeAt s start i) p) (ℕ-discrete i j);
     other = λ q. stands q (ℕ-discrete q p) (x .other q);
   })
     where
-      rest : (i : ℕ) → from ≤ i → i < j + 1 → Dec (Rows.placeAt s start i ≡ p) → Dec (i ≡ j) → getD (set column p 1073741824) (Rows.placeAt s start i) 0 ≡ 1073741824
+      rest : (i : ℕ) → from ≤ i → i < j + 1 → Dec (placeAt s start i ≡ p) → Dec (i ≡ j) → getD (set column p 1073741824) (placeAt s start i) 0 ≡ 1073741824
       rest i a b (yes q) d = ap (λ (k : ℕ). getD (set column p 1073741824) k 0) q ∙ getD-set-same column p 1073741824 0 l
-      rest i a b (no q) (yes d) = absurd (q (ap (Rows.placeAt s start) d ∙ sym e))
-      rest i a b (no q) (no d) = getD-set-other column p (Rows.placeAt s start i) 1073741824 0 q ∙ x .here i a (omega arith)
+      rest i a b (no q) (yes d) = absurd (q (ap (placeAt s start) d ∙ sym e))
+      rest i a b (no q) (no d) = getD-set-other column p (placeAt s start i) 1073741824 0 q ∙ x .here i a (omega arith)
 
       stands : (q : ℕ) → Dec (q ≡ p) → (getD column q 0 ≡ getD was q 0) ⊎ (getD column q 0 ≡ 1073741824)
           → (getD (set column p 1073741824) q 0 ≡ getD was q 0) ⊎ (getD (set column p 1073741824) q 0 ≡ 1073741824)
@@ -211,7 +212,7 @@ linked-none s start from to limit was before after l = record {
 }
 
 module _ (s : List ℕ) (start from to j : ℕ) (limit was before after column head next : List ℕ) (x : Linked s start from to j limit was before after column head next) (l : j < to)
-    (p : ℕ) (e : p ≡ Rows.placeAt s start j) (cl : p < length was) (hl : p < length before) (nl : j < length after) where
+    (p : ℕ) (e : p ≡ placeAt s start j) (cl : p < length was) (hl : p < length before) (nl : j < length after) where
   pub linked-more : (column′ head′ next′ : List ℕ) → Rows.LinkedArc p j limit column head next column′ head′ next′ → Linked s start from to (j + 1) limit was before after column′ head′ next′
   linked-more column′ head′ next′ y = record {
     rising = let r = x .rising in omega arith;

@@ -16,82 +16,34 @@ use Rattle.file.specs.declared.Header.{Header}
 use Rattle.starts.specs.Table.{slotOf, slotAt, Split}
 use Rattle.gain.specs.Gain.{pulls, Rested}
 use Rattle.index.specs.Rows
-use Rattle.index.proofs.Arcs.{good-at, weight-le, has-arc}
-use Rattle.index.proofs.Sums.{sum-run}
-
--- the arcs of t stand from b to e
-pub record Stretch (s : List ℕ) (h : Header) (t b e : ℕ) : Type 0 where
-  pub bytes : Bytes s
-  pub sound : Sound s h
-  pub start : Split s (h .arcstart) (h .arcs) (2 * t) b
-  pub end : Split s (h .arcstart) (h .arcs) (2 * t + 2) e
+use Rattle.gain.proofs.Arcs.{good-at, has-arc}
+use Rattle.gain.proofs.Stretch.{Stretch, ways, rises, own, in-run, sums, small}
 
 module _ (s : List ℕ) (h : Header) (t b e : ℕ) (r : Stretch s h t b e) where
-  ways : (i : ℕ) → i < h .arcs → arcAt s (h .arcstart + 8 * i) .direction ≤ 1
-  ways i l = good-at s h (r .sound) i l .direction
-
-  pub rises : b ≤ e
-  unfolding slotAt
-  rises = go (decLt e b)
-    where
-      go : Dec (e < b) → b ≤ e
-      go (yes l) = absurd (omega (arith, r .start .below e l, r .end .above e (omega arith) (omega (arith, r .start .within))))
-      go (no l) = omega arith
-
-  earlier : (i : ℕ) → i < b → Rows.transitionAt s (h .arcstart) i ≢ t
-  unfolding slotAt
-  earlier i l q = omega (arith, q, r .start .below i l)
-
-  pub own : (i : ℕ) → b ≤ i → i < e → Rows.transitionAt s (h .arcstart) i ≡ t
-  unfolding slotAt
-  own i l k = omega (arith, r .start .above i l (omega (arith, r .end .within)), r .end .below i k, ways i (omega (arith, r .end .within)))
-
-  later : (i : ℕ) → e ≤ i → i < h .arcs → Rows.transitionAt s (h .arcstart) i ≢ t
-  unfolding slotAt
-  later i l k q = omega (arith, q, r .end .above i l k, ways i k)
-
-  -- an arc of t is one of them
-  in-run : (i : ℕ) → i < h .arcs → Rows.transitionAt s (h .arcstart) i ≡ t → (b ≤ i) × (i < e)
-  in-run i l q = (from (decLt i b), to (decLt i e))
-    where
-      from : Dec (i < b) → b ≤ i
-      from (yes k) = absurd (earlier i k q)
-      from (no k) = omega arith
-
-      to : Dec (i < e) → i < e
-      to (yes k) = k
-      to (no k) = absurd (later i (omega arith) l q)
-
-  sums : (d p : ℕ) → Rows.sumOn d s (h .arcstart) p e ≡ Rows.sumOn d s (h .arcstart) p b + weightOn d p t (netFrom s h .arcs)
-  sums d p = sum-run d p t s (h .arcstart) (h .arcs) b e earlier own later rises (r .end .within)
-
-  small : (d p : ℕ) → weightOn d p t (netFrom s h .arcs) ≤ 268431360
-  small d p = omega (arith, weight-le d p t s (r .bytes) (h .arcstart) (h .arcs), r .sound .placed .arcs)
-
   module _ (column : List ℕ) (long : h .places ≤ length column) (rest : Rows.AtRest column) where
     pub shiftable : Rows.Shiftable s (h .arcstart) b e column
     shiftable = record {
       run = record {
-        rising = rises;
+        rising = rises r;
         fit = omega (arith, r .end .within, r .sound .placed .arcsFit, r .sound .placed .originsFit);
         short = r .sound .placed .short;
         places = λ i l. omega (arith, good-at s h (r .sound) i (omega (arith, r .end .within)) .place);
       };
-      ways = λ i l. ways i (omega (arith, r .end .within));
+      ways = λ i l. ways r i (omega (arith, r .end .within));
       rest = rest;
-      small = λ d p. omega (arith, sums d p, small d p);
+      small = λ d p. omega (arith, sums r d p, small r d p);
     }
 
     module _ (now : List ℕ) (x : Rows.Shifted s (h .arcstart) b e column now) where
       -- the column tells the effect
       effect-at : (p : ℕ) → p < length column → getD now p 0 + weightOn 0 p t (netFrom s h .arcs) ≡ 1073741824 + weightOn 1 p t (netFrom s h .arcs)
-      effect-at p l = omega (arith, x .at p l, sums 0 p, sums 1 p)
+      effect-at p l = omega (arith, x .at p l, sums r 0 p, sums r 1 p)
 
       pub agrees : (limit : List ℕ) → Rows.Agrees (Rows.drawsBy limit (netFrom s h)) s (h .arcstart) b e (h .places) t limit now
       unfolding Rows.drawsBy input output
       agrees limit = record {
         places = λ i l. good-at s h (r .sound) i (omega (arith, r .end .within)) .place;
-        own = own;
+        own = own r;
         tells = λ p l.
             let q : 1073741824 + weightOn 1 p t (netFrom s h .arcs) - weightOn 0 p t (netFrom s h .arcs) ≡ getD now p 0 = omega (arith, effect-at p (omega arith)) in
             ap (pulls (getD limit p 0)) q;
@@ -105,11 +57,11 @@ module _ (s : List ℕ) (h : Header) (t b e : ℕ) (r : Stretch s h t b e) where
           go (inl q) (yes f) (yes g) = omega (arith, effect-at p (omega (arith, z .long, x .long)))
           go (inl q) (yes f) (no g) =
               let j = has-arc 1 p t s (h .arcstart) (h .arcs) (omega arith) in
-              let i = in-run (j .at) (j .below) (j .joins-it .transition) in
+              let i = in-run r (j .at) (j .below) (j .joins-it .transition) in
               ap (λ (k : ℕ). getD column′ k 0) (sym (j .joins-it .place)) ∙ z .here (j .at) (i .0) (i .1)
           go (inl q) (no f) g =
               let j = has-arc 0 p t s (h .arcstart) (h .arcs) (omega arith) in
-              let i = in-run (j .at) (j .below) (j .joins-it .transition) in
+              let i = in-run r (j .at) (j .below) (j .joins-it .transition) in
               ap (λ (k : ℕ). getD column′ k 0) (sym (j .joins-it .place)) ∙ z .here (j .at) (i .0) (i .1)
 
 -- ---- the first and the last start

@@ -11,14 +11,7 @@ use Rattle.file.specs.Facts.{Sound}
 use Rattle.file.specs.declared.Header.{Header}
 use Rattle.starts.specs.Table.{choose, Split}
 use Rattle.gain.specs.Gain.{pulls, pullsAt, Run, Rested}
-
--- the place of arc i of those that start at `start`
-abbrev pub placeAt : List ℕ → ℕ → ℕ → ℕ
-placeAt s start i = arcAt s (start + 8 * i) .place
-
--- its transition
-abbrev pub transitionAt : List ℕ → ℕ → ℕ → ℕ
-transitionAt s start i = arcAt s (start + 8 * i) .transition
+use Rattle.gain.specs.Ways.{placeAt, transitionAt, sumOn}
 
 -- p draws in t: the effect of t on p, counted from 2 ^ 30, is above the limit of p and not 0;
 -- with the limit 2 ^ 30 "t raises p", with the limit 0 "t changes p"
@@ -53,11 +46,6 @@ pub record Room (s : List ℕ) (h : Header) (limit column head next : List ℕ) 
 pub record Starts (s : List ℕ) (h : Header) (table : List ℕ) : Type 0 where
   pub long : 2 * h .transitions < length table
   pub splits : (k : ℕ) → k ≤ 2 * h .transitions → Split s (h .arcstart) (h .arcs) k (getD table k 0)
-
--- the weights of the first j arcs that are at p and go in direction d
-unfoldable pub sumOn : ℕ → List ℕ → ℕ → ℕ → ℕ → ℕ
-sumOn d s start p zero = 0
-sumOn d s start p (suc j) = sumOn d s start p j + counted (eqb (arcAt s (start + 8 * j) .direction) d && eqb (placeAt s start j) p) (arcAt s (start + 8 * j) .weight)
 
 -- arcs whose weights the columns at rest can be moved by
 pub record Shiftable (s : List ℕ) (start from to : ℕ) (column : List ℕ) : Type 0 where

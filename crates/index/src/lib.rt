@@ -5,7 +5,7 @@ ghost use lib.ListN.{length, getD};
 ghost use Rattle.file.specs.Layout.{netFrom};
 ghost use Rattle.starts.specs.Table.{choose};
 ghost use Rattle.gain.specs.Gain.{pulls};
-ghost use Rattle.index.specs.Rows.{placeAt, drawsBy, Rows, AtRest, Room, Starts, Shiftable, Shifted, LinkedArc, LinkedRun};
+ghost use Rattle.index.specs.Rows.{drawsBy, Rows, AtRest, Room, Starts, Shiftable, Shifted, LinkedArc, LinkedRun};
 use file::Header;
 use file::word::get16;
 

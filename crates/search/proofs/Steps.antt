@@ -18,8 +18,9 @@ use Rattle.starts.specs.Table.{Split}
 use Rattle.gain.specs.Gain.{Run}
 use Rattle.gain.proofs.Weights.{rising}
 use Rattle.pending.specs.Growing.{Inserted, Words, PlacesKept}
-use Rattle.index.specs.Rows.{placeAt, Starts}
-use Rattle.index.proofs.Arcs.{good-at, has-arc, arc-has, joins-in, in-joins}
+use Rattle.gain.specs.Ways.{placeAt}
+use Rattle.index.specs.Rows.{Starts}
+use Rattle.gain.proofs.Arcs.{good-at, has-arc, arc-has, joins-in, in-joins}
 use Rattle.search.specs.Search
 
 -- ---- places kept

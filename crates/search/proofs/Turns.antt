@@ -19,8 +19,9 @@ use Rattle.file.specs.Facts.{Sound}
 use Rattle.file.specs.declared.Header.{Header}
 use Rattle.sets.specs.Member.{member}
 use Rattle.pending.specs.Growing.{Words, PlacesKept}
-use Rattle.index.specs.Rows.{placeAt, transitionAt, Last, Rows, Starts}
-use Rattle.index.proofs.Arcs.{good-at, has-arc}
+use Rattle.gain.specs.Ways.{placeAt, transitionAt}
+use Rattle.index.specs.Rows.{Last, Rows, Starts}
+use Rattle.gain.proofs.Arcs.{good-at, has-arc}
 use Rattle.search.specs.Search
 
 -- ---- the search, while the rows of the place f are followed in any order

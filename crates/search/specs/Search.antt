@@ -13,7 +13,8 @@ use Rattle.file.specs.Facts.{Sound}
 use Rattle.file.specs.declared.Header.{Header}
 use Rattle.sets.specs.Member.{member}
 use Rattle.pending.specs.Growing.{Words, PlacesKept}
-use Rattle.index.specs.Rows.{placeAt, transitionAt, Rows, Starts}
+use Rattle.gain.specs.Ways.{placeAt, transitionAt}
+use Rattle.index.specs.Rows.{Rows, Starts}
 
 -- k is the place of one of the n arcs from `from` on
 unfoldable pub placedIn : List ℕ → ℕ → ℕ → ℕ → ℕ → Bool

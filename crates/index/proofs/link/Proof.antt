@@ -3,8 +3,8 @@ use Prim.Native.Nat.{ℕ, _+_, _*_, _-_, _≤_, _<_}
 use mathlib.Core.Path.{_≡_, refl, sym, ap, _∙_, subst}
 use native.Mathlib.Omega.{arith}
 use lib.ListN.{length}
-use Rattle.index.specs.Rows.{placeAt}
-use Rattle.index.proofs.Arcs.{good-at}
+use Rattle.gain.specs.Ways.{placeAt}
+use Rattle.gain.proofs.Arcs.{good-at}
 use Rattle.index.proofs.Linking.{Linked, linked-none, linked-more, linked-end}
 use Rattle.index.proofs.link.Statement.{statement}
 use Rattle.index.proofs.link.Tie as tie

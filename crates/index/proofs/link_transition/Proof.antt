@@ -6,7 +6,8 @@ use Rattle.file.specs.Word.{Bytes}
 use Rattle.file.specs.Layout.{netFrom}
 use Rattle.starts.specs.Table.{Split}
 use Rattle.index.specs.Rows.{drawsBy, Rows}
-use Rattle.index.proofs.Runs.{Stretch, rises, shiftable, agrees, at-rest-again}
+use Rattle.gain.proofs.Stretch.{Stretch, rises}
+use Rattle.index.proofs.Runs.{shiftable, agrees, at-rest-again}
 use Rattle.index.proofs.link_transition.Statement.{statement}
 use Rattle.index.proofs.link_transition.Tie as tie
 
@@ -70,7 +71,7 @@ link-requires c κs =
         head-long = room .head-long;
         next-long = room .next-long;
       },
-      rises _ _ _ _ _ r,
+      rises r,
       r .end .within,
     )
 

@@ -4,7 +4,7 @@ use mathlib.Core.Path.{_≡_, refl, ap, subst}
 use native.Mathlib.Omega.{arith}
 use lib.ListN.{length, getD, set}
 use Rattle.net.specs.declared.Arc.{Arc}
-use Rattle.index.specs.Rows.{placeAt}
+use Rattle.gain.specs.Ways.{placeAt}
 use Rattle.index.proofs.Sums.{Shifting, shifting-none, shifting-more, shifting-end, inside, low, high}
 use Rattle.index.proofs.shift.Statement.{statement}
 use Rattle.index.proofs.shift.Tie as tie

@@ -6,7 +6,7 @@ use native.Mathlib.Omega.{arith}
 use Rattle.net.specs.declared.Arc.{Arc}
 use lib.Dec.{eqb}
 use Rattle.pending.specs.Growing.{PlacesKept}
-use Rattle.index.specs.Rows.{placeAt}
+use Rattle.gain.specs.Ways.{placeAt}
 use Rattle.search.specs.Search.{placedIn}
 use Rattle.search.proofs.Steps.{places-none, places-as, places-join, placed-none, placed-more}
 use Rattle.search.proofs.keep_places.Statement.{statement}

@@ -3,7 +3,7 @@ use Prim.Native.Nat.{ℕ, suc, _+_, _*_, _-_, _≤_, _<_}
 use mathlib.Core.Path.{_≡_, refl, sym, ap, _∙_, subst}
 use native.Mathlib.Omega.{arith}
 use Rattle.net.specs.declared.Arc.{Arc}
-use Rattle.index.proofs.Arcs.{good-at}
+use Rattle.gain.proofs.Arcs.{good-at}
 use Rattle.search.proofs.Turns.{Turning, turning-none, turning-more, turning-end}
 use Rattle.search.proofs.turn.Statement.{statement}
 use Rattle.search.proofs.turn.Tie as tie

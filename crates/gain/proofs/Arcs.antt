@@ -82,6 +82,14 @@ module _ (s : List ℕ) (h : Header) (sound : Sound s h) where
   pub good-at : (i : ℕ) → i < h .arcs → ArcGood (h .places) (h .transitions) (arcAt s (h .arcstart + 8 * i))
   good-at i l = range-at (h .places) (h .transitions) s (h .arcstart) (h .arcs) i (sound .arcs) l
 
+  -- no arc is at a number past the places
+  pub none-past : (d p t : ℕ) → h .places ≤ p → weightOn d p t (arcsFrom s (h .arcstart) (h .arcs)) ≡ 0
+  none-past d p t l = go (ℕ-discrete (weightOn d p t (arcsFrom s (h .arcstart) (h .arcs))) 0)
+    where
+      go : Dec (weightOn d p t (arcsFrom s (h .arcstart) (h .arcs)) ≡ 0) → weightOn d p t (arcsFrom s (h .arcstart) (h .arcs)) ≡ 0
+      go (yes e) = e
+      go (no e) = let j = has-arc d p t s (h .arcstart) (h .arcs) (omega (arith, e)) in absurd (omega (arith, good-at (j .at) (j .below) .place, j .joins-it .place))
+
   -- the arcs of t in direction d stand between two starts
   module _ (d t b e : ℕ) (dl : d ≤ 1) (low : Split s (h .arcstart) (h .arcs) (2 * t + d) b) (high : Split s (h .arcstart) (h .arcs) (2 * t + d + 1) e) where
     pub joins-in : (p i : ℕ) → i < h .arcs → Joins d p t s (h .arcstart) i → (b ≤ i) × (i < e)
