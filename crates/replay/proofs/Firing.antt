@@ -8,15 +8,15 @@ use lib.ListN.{length, getD, List·getD-eq-default}
 use Rattle.net.specs.Net.{input, output, fire, weightOn}
 use Rattle.net.specs.declared.Arc.{Arc}
 use Rattle.file.specs.Layout.{arcAt, arcsFrom, netFrom}
-use Rattle.file.specs.Facts.{ArcGood, Sound}
+use Rattle.file.specs.Facts.{Sound}
 use Rattle.file.specs.declared.Header.{Header}
 use Rattle.starts.specs.Table.{Split}
-use Rattle.file.proofs.Rows.{range-at}
 use Rattle.gain.specs.Gain.{part, sumTo, Run, Takes, Gives}
 use Rattle.gain.proofs.Sums.{sum-next, part-here, sum-more}
+use Rattle.gain.proofs.Arcs.{good-at, weight-le, none-past}
 use Rattle.gain.proofs.Weights as weights
-use Rattle.replay.specs.Steps.{arcOn, held, Ready, Firable, Holds}
-use Rattle.replay.proofs.Sums as sums
+use Rattle.ahead.specs.Steps.{held, Ready, Holds}
+use Rattle.replay.specs.Steps.{arcOn, Firable}
 
 -- what arc j brings fits
 pub fits : (s : List ℕ) (start from j : ℕ) (was is : List ℕ) (a : Arc) → a ≡ arcAt s (start + 8 * j) → a .place < length was → (to : ℕ) → j < to → Gives s start from j was is
@@ -25,15 +25,6 @@ fits s start from j was is a e inside to l x room =
     omega (arith, x .at (a .place) inside, room (a .place), sum-next s start (a .place) j, ap (part (a .place)) (sym e), part-here a (a .place) refl, sum-more s start (a .place) (j + 1) to (omega arith))
 
 module _ {s : List ℕ} {h : Header} (w : Sound s h) where
-  pub good-arc : (i : ℕ) → i < h .arcs → ArcGood (h .places) (h .transitions) (arcOn s h i)
-  good-arc i l = range-at (h .places) (h .transitions) s (h .arcstart) (h .arcs) i (w .arcs) l
-
-  -- no arc is at a number past the places
-  pub none-past : (d p t : ℕ) → h .places ≤ p → weightOn d p t (arcsFrom s (h .arcstart) (h .arcs)) ≡ 0
-  none-past d p t l =
-      sums.sum-same d p t s (h .arcstart) 0 (h .arcs) (omega arith) (λ i a b. sums.share-unless d p t (arcOn s h i) (λ e f g. omega (arith, good-arc i b .place)))
-      ∙ sums.sum-none d p t s (h .arcstart)
-
   pub arcs-fit : h .arcstart + 8 * h .arcs ≤ length s
   arcs-fit = omega (arith, w .placed .arcsFit, w .placed .originsFit)
 
@@ -42,13 +33,13 @@ module _ {s : List ℕ} {h : Header} (w : Sound s h) where
     rising = l;
     fit = omega (arith, arcs-fit);
     short = w .placed .short;
-    places = λ i a. good-arc i (omega arith) .place;
+    places = λ i a. good-at s h w i (omega arith) .place;
   }
 
   -- the sums over the runs of t: arcs that split at 2t + d and at one more
   run-sum : (d p t b e : ℕ) → d ≤ 1 → Split s (h .arcstart) (h .arcs) (2 * t + d) b → Split s (h .arcstart) (h .arcs) (2 * t + d + 1) e
       → sumTo s (h .arcstart) p e ≡ sumTo s (h .arcstart) p b + weightOn d p t (arcsFrom s (h .arcstart) (h .arcs))
-  run-sum d p t b e l low high = weights.weight-run d p t s (h .arcstart) (h .arcs) b e l (λ i a. good-arc i a .direction) low high
+  run-sum d p t b e l low high = weights.weight-run d p t s (h .arcstart) (h .arcs) b e l (λ i a. good-at s h w i a .direction) low high
 
 -- t's inputs are the arcs from..middle, its outputs middle..to
 pub record Runs (s : List ℕ) (h : Header) (t from middle to : ℕ) : Type 0 where
@@ -102,7 +93,7 @@ module _ {s : List ℕ} {h : Header} {table m : List ℕ} (r : Ready s h table m
 
       few : (p : ℕ) → output (netFrom s h) p t ≤ 65535 * h .arcs
       unfolding output
-      few p = sums.sum-bound 1 p t s (h .arcstart) (r .bytes) (h .arcs)
+      few p = weight-le 1 p t s (r .bytes) (h .arcstart) (h .arcs)
 
       pub give-fits : (p : ℕ) → getD m₁ p 0 + sumTo s (h .arcstart) p to < 2 ^ 64 + sumTo s (h .arcstart) p middle
       give-fits p = omega (arith, y .at p, inputs p, outputs p, f .low p, few p, r .sound .placed .arcs)
@@ -115,7 +106,7 @@ module _ {s : List ℕ} {h : Header} {table m : List ℕ} (r : Ready s h table m
             omega (
               arith,
               l,
-              none-past (r .sound) 1 p t (omega (arith, l)),
+              none-past s h (r .sound) 1 p t (omega (arith, l)),
               List·getD-eq-default m 0 {n = p} (omega (arith, l, r .places)),
               List·getD-eq-default m₂ 0 {n = p} (omega (arith, l, z .long, y .long, r .places)),
             )

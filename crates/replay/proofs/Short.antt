@@ -16,25 +16,12 @@ use Rattle.file.specs.Facts.{Sound}
 use Rattle.file.specs.declared.Header.{Header}
 use Rattle.starts.specs.Table.{slotAt, Split}
 use Rattle.starts.proofs.Reached.{order-at}
-use Rattle.replay.specs.Steps.{arcOn, InputAt, needAt, held}
-use Rattle.replay.proofs.Firing.{good-arc}
+use Rattle.ahead.specs.Steps.{held}
+use Rattle.replay.specs.Steps.{arcOn, InputAt, needAt}
+use Rattle.gain.proofs.Arcs.{good-at}
 use Rattle.replay.proofs.Sums.{share-unless, sum-none, sum-next, sum-same, sum-more}
 
 module _ (N : Net) (t : ℕ) (M : Marking) where
-  -- where no place below P is short
-  pub short-none : ((p : ℕ) → input N p t ≤ M p) → N .places ≤ shortPlace N t M
-  unfolding shortPlace
-  short-none low = go (decLt (first (λ p. ltb (M p) (input N p t)) 0 (N .places)) (N .places))
-    where
-      f : ℕ → Bool
-      f = λ p. ltb (M p) (input N p t)
-
-      go : Dec (first f 0 (N .places) < N .places) → N .places ≤ first f 0 (N .places)
-      go (yes l) =
-          let q = first f 0 (N .places) in
-          absurd (omega (arith, low q, ltb-true (M q) (input N q t) (is-true (f q) (first-passes f 0 (N .places) (omega arith)))))
-      go (no l) = omega (arith, l)
-
   pub short-is : (q : ℕ) → q < N .places → M q < input N q t → ((p : ℕ) → p < q → input N p t ≤ M p) → shortPlace N t M ≡ q
   unfolding shortPlace
   short-is q l short low = go (decLt (first (λ p. ltb (M p) (input N p t)) 0 (N .places)) q)
@@ -83,11 +70,11 @@ module _ {s : List ℕ} {h : Header} {t from middle : ℕ} {m : List ℕ} where
 
       is-input : arcOn s h j .direction ≡ 0
       unfolding slotAt
-      is-input = omega (arith, c .first .above j (c .begun) known, c .second .below j l, good-arc (c .sound) j known .direction)
+      is-input = omega (arith, c .first .above j (c .begun) known, c .second .below j l, good-at s h (c .sound) j known .direction)
 
       mine : arcOn s h j .transition ≡ t
       unfolding slotAt
-      mine = omega (arith, c .first .above j (c .begun) known, c .second .below j l, good-arc (c .sound) j known .direction)
+      mine = omega (arith, c .first .above j (c .begun) known, c .second .below j l, good-at s h (c .sound) j known .direction)
 
       pub input-at : InputAt s h j
       input-at = record { sound = c .sound; known = known; input = is-input }
@@ -96,7 +83,7 @@ module _ {s : List ℕ} {h : Header} {t from middle : ℕ} {m : List ℕ} where
       need-is = ap (input (netFrom s h) (arcOn s h j .place)) mine
 
       pub place-known : arcOn s h j .place < h .places
-      place-known = good-arc (c .sound) j known .place
+      place-known = good-at s h (c .sound) j known .place
 
       pub covered-next : needAt s h j ≤ getD m (arcOn s h j .place) 0 → Covered s h t from middle m (j + 1)
       unfolding input
@@ -135,6 +122,3 @@ module _ {s : List ℕ} {h : Header} {t from middle : ℕ} {m : List ℕ} where
       c .enough p,
       sum-same 0 p t s (h .arcstart) j (h .arcs) (c .within) (λ i a b. share-unless 0 p t (arcOn s h i) (λ e d g. omega (arith, c .second .above i (omega arith) b))),
     )
-
-    pub short-nowhere : middle ≤ j → h .places ≤ shortPlace (netFrom s h) t (held m)
-    short-nowhere l = short-none (netFrom s h) t (held m) (enabled l)

@@ -9,9 +9,7 @@ use borrow.Author.Tests.{eqb-true, eq-eqb}
 use lib.Dec.{eqb}
 use Rattle.net.specs.Net.{counted, joins, weightOn}
 use Rattle.net.specs.declared.Arc.{Arc}
-use Rattle.file.specs.Word.{Bytes}
 use Rattle.file.specs.Layout.{arcAt, arcsFrom}
-use Rattle.file.proofs.Bytes.{le16-lt}
 
 -- one arc's part in a sum
 abbrev pub share : ℕ → ℕ → ℕ → Arc → ℕ
@@ -29,13 +27,6 @@ share-unless d p t a other = go (eqb (a .transition) t) (eqb (a .direction) d) (
     go true false z e f g = refl
     go true true false e f g = refl
     go true true true e f g = absurd (other (eqb-true _ _ e) (eqb-true _ _ f) (eqb-true _ _ g))
-
-share-most : (d p t : ℕ) (a : Arc) → share d p t a ≤ a .weight
-share-most d p t a = go (joins d p t a)
-  where
-    go : (x : Bool) → counted x (a .weight) ≤ a .weight
-    go true = omega arith
-    go false = omega arith
 
 module _ (d p t : ℕ) (s : List ℕ) where
   pub sum-none : (at : ℕ) → weightOn d p t (arcsFrom s at 0) ≡ 0
@@ -80,7 +71,3 @@ module _ (d p t : ℕ) (s : List ℕ) where
     sum-more j k l =
         let e : j + (k - j) ≡ k = omega arith in
         omega (arith, ap (λ (n : ℕ). weightOn d p t (arcsFrom s at n)) e, sum-more-by j (k - j))
-
-    pub sum-bound : Bytes s → (n : ℕ) → weightOn d p t (arcsFrom s at n) ≤ 65535 * n
-    sum-bound b zero = omega (arith, sum-none at)
-    sum-bound b (suc n) = omega (arith, sum-suc at n, share-most d p t (arcAt s (at + 8 * n)), le16-lt s b (at + 8 * n + 6), sum-bound b n)

@@ -10,7 +10,9 @@ ghost use Rattle.gain.specs.Gain.{sumTo, Run, Takes, Gives};
 ghost use Rattle.promise.specs.Calls.{written};
 ghost use Rattle.promise.specs.Firing.{replayTold, replayOr};
 ghost use Rattle.replay.specs.Told.{outcomeNumbers, heldBack};
-ghost use Rattle.replay.specs.Steps.{InputAt, needAt, held, Ready, Firable, Holds, Listed, Passed};
+ghost use Rattle.ahead.specs.Steps.{held, Ready, Holds, Listed};
+ghost use Rattle.replay.specs.Steps.{InputAt, needAt, Firable, Passed};
+use ahead::entry;
 use file::Header;
 use file::arcs::arc;
 
@@ -68,14 +70,6 @@ fn give(file: &[u8], start: usize, from: usize, to: usize, marking: &mut [u64])
     }
 }
 
-// The number of arcs whose slot is below k: inputs of t have slot 2t, outputs 2t + 1.
-fn entry(table: &[u16], k: usize) -> usize
-    requires { ⌜ k < length (now table) ⌝ }
-    ensures { λ r. ⌜ r ≡ getD (now (table .entry)) k 0 ⌝ }
-{
-    table[k] as usize
-}
-
 // Fires t, which is enabled.
 fn fire(file: &[u8], h: Header, table: &[u16], t: usize, marking: &mut [u64])
     requires { ⌜ Ready (now file) h (now table) (now marking) ⌝ }
@@ -96,7 +90,7 @@ fn run(file: &[u8], h: Header, table: &[u16], list: &[u16], marking: &mut [u64])
     ensures { λ r. ⌜ outcomeNumbers r ≡ replayTold (replayFrom (netFrom (now (file .entry)) h) 0 (held (now (marking .entry))) (now (list .entry)) .answer) ⌝ }
     ensures { λ _. ⌜ Holds (now (marking .entry)) (now (marking .exit)) (replayFrom (netFrom (now (file .entry)) h) 0 (held (now (marking .entry))) (now (list .entry)) .marking) ⌝ }
 {
-    let mut k: usize = 0;
+    let mut k = ahead::ahead(file, h, table, list, marking);
     'firings: loop {
         if list.len() <= k {
             break 'firings Outcome::Fired;

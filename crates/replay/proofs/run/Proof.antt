@@ -1,19 +1,22 @@
--- Outer loop: the marking after k firings, from which the rest of the list replays as the whole list does from the start (`Underway`).
+-- Outer loop: what was the marking after k₀ firings is that after k, from which the rest of the list replays as the whole list does from the start (`Underway`).
 -- Inner loop: every place has enough for the input arcs passed (`Covered`). Assumes nothing.
 use Rattle.replay.specs.Steps.{needAt}
-use Prim.Native.Nat.{_*_, _+_, _-_}
+use Prim.Native.Nat.{ℕ, _*_, _+_, _-_}
 use mathlib.Core.Path.{ap, sym, _∙_}
 use mathlib.Core.Bool.{true}
 use native.Mathlib.Omega.{arith}
 use borrow.Author.Tests.{ltb-true, ltb-false}
 use lib.ListN.{length, getD}
+use mathlib.Core.List.{List}
 use Rattle.net.specs.Net.{Replay}
 use Rattle.net.specs.declared.Arc.{Arc}
 use Rattle.promise.specs.Firing.{ReplayAnswer, replayTold}
 use Rattle.replay.proofs.Firing.{arcs-fit, split-by}
-use Rattle.replay.proofs.Short.{Covered, covered-none, covered-next, input-at, place-known}
+use Rattle.replay.proofs.Short.{Covered, covered-none, covered-next, enabled, input-at, place-known}
 use Rattle.replay.proofs.Short as short
-use Rattle.replay.proofs.Underway.{Underway, underway-begin, all-fired, tokens-left, known, stuck-at, firable, ready-still, fired-on}
+use Rattle.ahead.specs.Steps.{Underway}
+use Rattle.ahead.proofs.Underway.{known, ready-still, fired-on}
+use Rattle.replay.proofs.Underway.{all-fired, tokens-left, stuck-at, firable}
 use borrow.Author.Needs.{needs}
 use Rattle.replay.proofs.run.Statement.{statement}
 use Rattle.replay.proofs.run.Tie as tie
@@ -25,13 +28,20 @@ abbrev μ-loop : tie.MeasureT-loop
 μ-loop file h table list marking k t from middle j₀ j = h .arcs - j
 
 abbrev Inv-firings : tie.InvT-firings
-Inv-firings file h table list marking₀ k₀ marking k = Underway file h list marking₀ marking k
+Inv-firings file h table list marking₀ k₀ marking k = (m : List ℕ) → Underway file h list m marking₀ k₀ → Underway file h list m marking k
 
 abbrev μ-firings : tie.MeasureT-firings
 μ-firings file h table list marking₀ k₀ marking k = length list - k
 
+-- the marking after k firings, of those ahead and of the loop
+here : (c : tie.At-firings Inv-loop μ-loop Inv-firings μ-firings) → Underway (c .before .before .before .before .before .before .before .before .before .args .file .now) (c .before .before .before .before .before .before .before .before .before .args .h) (c .before .before .before .before .before .before .before .before .before .args .list .now) (c .before .before .before .before .before .before .before .before .before .args .marking .now) (c .firings .marking) (c .firings .k)
+here c = c .firings .inv (c .before .before .before .before .before .before .before .before .before .args .marking .now) (c .before .before .before .ahead .ensures)
+
+ahead-requires : tie.Need-ahead-requires Inv-loop μ-loop Inv-firings μ-firings
+ahead-requires c κs = search needs
+
 firings-holds : tie.Need-firings-holds Inv-loop μ-loop Inv-firings μ-firings
-firings-holds c = underway-begin (c .before .before .before .before .pre .1)
+firings-holds c = λ m u. u
 
 mul-t : tie.Need-mul-t Inv-loop μ-loop Inv-firings μ-firings
 mul-t c = search needs
@@ -43,25 +53,25 @@ cast-t : tie.Need-cast-t Inv-loop μ-loop Inv-firings μ-firings
 cast-t c = omega (arith, c .shared-slice-known4 .given (c .before .before .firings .k))
 
 mul-entry : tie.Need-mul-entry Inv-loop μ-loop Inv-firings μ-firings
-mul-entry c = omega (arith, known (c .before .before .firings .inv) (c .before .if1 .left), c .before .before .before .before .before .before .before .pre .0 .sound .placed .transitions)
+mul-entry c = omega (arith, known (here (c .before .before)) (c .before .if1 .left), c .before .before .before .before .before .before .before .before .before .before .before .pre .0 .sound .placed .transitions)
 
 entry-requires : tie.Need-entry-requires Inv-loop μ-loop Inv-firings μ-firings
-entry-requires c κs = omega (arith, known (c .before .before .firings .inv) (c .before .if1 .left), c .before .before .before .before .before .before .before .pre .0 .long)
+entry-requires c κs = omega (arith, known (here (c .before .before)) (c .before .if1 .left), c .before .before .before .before .before .before .before .before .before .before .before .pre .0 .long)
 
 mul-entry-2 : tie.Need-mul-entry-2 Inv-loop μ-loop Inv-firings μ-firings
-mul-entry-2 c = omega (arith, known (c .before .before .before .firings .inv) (c .before .before .if1 .left), c .before .before .before .before .before .before .before .before .pre .0 .sound .placed .transitions)
+mul-entry-2 c = omega (arith, known (here (c .before .before .before)) (c .before .before .if1 .left), c .before .before .before .before .before .before .before .before .before .before .before .before .pre .0 .sound .placed .transitions)
 
 add-entry : tie.Need-add-entry Inv-loop μ-loop Inv-firings μ-firings
-add-entry c = omega (arith, known (c .before .before .before .firings .inv) (c .before .before .if1 .left), c .before .before .before .before .before .before .before .before .pre .0 .sound .placed .transitions)
+add-entry c = omega (arith, known (here (c .before .before .before)) (c .before .before .if1 .left), c .before .before .before .before .before .before .before .before .before .before .before .before .pre .0 .sound .placed .transitions)
 
 entry-requires-2 : tie.Need-entry-requires-2 Inv-loop μ-loop Inv-firings μ-firings
-entry-requires-2 c κs = omega (arith, known (c .before .before .before .firings .inv) (c .before .before .if1 .left), c .before .before .before .before .before .before .before .before .pre .0 .long)
+entry-requires-2 c κs = omega (arith, known (here (c .before .before .before)) (c .before .before .if1 .left), c .before .before .before .before .before .before .before .before .before .before .before .before .pre .0 .long)
 
 loop-holds : tie.Need-loop-holds Inv-loop μ-loop Inv-firings μ-firings
 loop-holds c =
-    let l = known (c .before .before .before .before .firings .inv) (c .before .before .before .if1 .left) in
-    let t = (getD (c .before .before .before .before .before .before .before .before .before .args .list .now) (c .before .before .before .before .firings .k) 0) in
-    covered-none (c .before .before .before .before .before .before .before .before .before .pre .0 .sound) (split-by (c .before .before .before .before .before .before .before .before .before .pre .0) (2 * t) (omega arith) (c .before .entry .ensures)) (split-by (c .before .before .before .before .before .before .before .before .before .pre .0) (2 * t + 1) (omega arith) (c .entry2 .ensures))
+    let l = known (here (c .before .before .before .before)) (c .before .before .before .if1 .left) in
+    let t = (getD (c .before .before .before .before .before .before .before .before .before .before .before .before .before .args .list .now) (c .before .before .before .before .firings .k) 0) in
+    covered-none (c .before .before .before .before .before .before .before .before .before .before .before .before .before .pre .0 .sound) (split-by (c .before .before .before .before .before .before .before .before .before .before .before .before .before .pre .0) (2 * t) (omega arith) (c .before .entry .ensures)) (split-by (c .before .before .before .before .before .before .before .before .before .before .before .before .before .pre .0) (2 * t + 1) (omega arith) (c .entry2 .ensures))
 
 mul-arc : tie.Need-mul-arc Inv-loop μ-loop Inv-firings μ-firings
 mul-arc c = omega (arith, short.known (c .before .loop .inv) (c .loop-test .taken), c .before .loop .inv .sound .placed .arcs)
@@ -76,13 +86,13 @@ mul-short-at : tie.Need-mul-short-at Inv-loop μ-loop Inv-firings μ-firings
 mul-short-at c = omega (arith, c .arc .ensures .1 .place)
 
 slice-read-short-at : tie.Need-slice-read-short-at Inv-loop μ-loop Inv-firings μ-firings
-slice-read-short-at c = omega (arith, place-known (c .before .before .before .before .loop .inv) (c .before .before .before .loop-test .taken), ap (λ (x : Arc). x .place) (c .before .arc .ensures .0), c .before .before .before .before .before .before .before .before .before .firings .inv .long, c .before .before .before .before .before .before .before .before .before .before .before .before .before .before .pre .0 .places)
+slice-read-short-at c = omega (arith, place-known (c .before .before .before .before .loop .inv) (c .before .before .before .loop-test .taken), ap (λ (x : Arc). x .place) (c .before .arc .ensures .0), here (c .before .before .before .before .before .before .before .before .before) .long, c .before .before .before .before .before .before .before .before .before .before .before .before .before .before .before .before .before .before .pre .0 .places)
 
 short-at-requires : tie.Need-short-at-requires Inv-loop μ-loop Inv-firings μ-firings
 short-at-requires c κs = input-at (c .before .before .before .before .loop .inv) (c .before .before .before .loop-test .taken)
 
 cast-index : tie.Need-cast-index Inv-loop μ-loop Inv-firings μ-firings
-cast-index c = omega (arith, (c .before .before .before .before .before .before .before .before .before .before .if1 .left), c .before .before .before .before .before .before .before .before .before .before .before .firings .inv .listed .short)
+cast-index c = omega (arith, (c .before .before .before .before .before .before .before .before .before .before .if1 .left), here (c .before .before .before .before .before .before .before .before .before .before .before) .listed .short)
 
 cast-place : tie.Need-cast-place Inv-loop μ-loop Inv-firings μ-firings
 cast-place c = omega (arith, c .before .before .before .arc .ensures .1 .place)
@@ -94,37 +104,39 @@ loop-less : tie.Need-loop-less Inv-loop μ-loop Inv-firings μ-firings
 loop-less c = omega (arith, short.known (c .before .before .before .before .before .before .loop .inv) (c .before .before .before .before .before .loop-test .taken))
 
 loop-again : tie.Need-loop-again Inv-loop μ-loop Inv-firings μ-firings
-loop-again c = covered-next (c .before .before .before .before .before .before .loop .inv) (c .before .before .before .before .before .loop-test .taken) (omega (arith, ltb-false (getD (c .before .before .before .before .before .before .before .before .before .before .before .firings .marking) (c .before .before .before .arc .result .place) 0) (needAt (c .before .before .before .before .before .before .before .before .before .before .before .before .before .before .before .before .args .file .now) (c .before .before .before .before .before .before .before .before .before .before .before .before .before .before .before .before .args .h) (c .before .before .before .before .before .before .loop .j)) (sym (c .before .short-at .ensures) ∙ c .if2 .left), ap (λ (x : Arc). getD (c .before .before .before .before .before .before .before .before .before .before .before .firings .marking) (x .place) 0) (c .before .before .before .arc .ensures .0)))
+loop-again c = covered-next (c .before .before .before .before .before .before .loop .inv) (c .before .before .before .before .before .loop-test .taken) (omega (arith, ltb-false (getD (c .before .before .before .before .before .before .before .before .before .before .before .firings .marking) (c .before .before .before .arc .result .place) 0) (needAt (c .before .before .before .before .before .before .before .before .before .before .before .before .before .before .before .before .before .before .before .before .args .file .now) (c .before .before .before .before .before .before .before .before .before .before .before .before .before .before .before .before .before .before .before .before .args .h) (c .before .before .before .before .before .before .loop .j)) (sym (c .before .short-at .ensures) ∙ c .if2 .left), ap (λ (x : Arc). getD (c .before .before .before .before .before .before .before .before .before .before .before .firings .marking) (x .place) 0) (c .before .before .before .arc .ensures .0)))
 
 fire-requires : tie.Need-fire-requires Inv-loop μ-loop Inv-firings μ-firings
-fire-requires c κs = (ready-still (c .before .before .before .before .before .before .before .firings .inv) (c .before .before .before .before .before .before .if1 .left) (c .before .before .loop .inv) (c .before .before .before .before .before .before .before .before .before .before .before .before .pre .0), firable (c .before .before .before .before .before .before .before .firings .inv) (c .before .before .before .before .before .before .if1 .left) (c .before .before .loop .inv) (c .before .loop-test .left))
+fire-requires c κs = (ready-still (here (c .before .before .before .before .before .before .before)) (c .before .before .before .before .before .before .before .before .before .before .before .before .before .before .before .before .pre .0), firable (here (c .before .before .before .before .before .before .before)) (c .before .before .before .before .before .before .if1 .left) (c .before .before .loop .inv) (c .before .loop-test .left))
 
 add-k : tie.Need-add-k Inv-loop μ-loop Inv-firings μ-firings
-add-k c = omega (arith, (c .before .before .before .before .before .before .before .before .before .if1 .left), c .before .before .before .before .before .before .before .before .before .before .firings .inv .listed .short)
+add-k c = omega (arith, (c .before .before .before .before .before .before .before .before .before .if1 .left), here (c .before .before .before .before .before .before .before .before .before .before) .listed .short)
 
 firings-less : tie.Need-firings-less Inv-loop μ-loop Inv-firings μ-firings
 firings-less c = omega (arith, (c .before .before .before .before .before .before .before .before .before .if1 .left))
 
 firings-again : tie.Need-firings-again Inv-loop μ-loop Inv-firings μ-firings
-firings-again c = fired-on (c .before .before .before .before .before .before .before .before .before .before .firings .inv) (c .before .before .before .before .before .before .before .before .before .if1 .left) (c .before .before .before .before .before .loop .inv) (c .before .before .before .before .before .before .before .before .before .before .before .before .before .before .before .pre .0) (c .before .before .before .before .loop-test .left) (c .before .before .fire .ensures)
+firings-again c = λ m u.
+    let r = c .before .before .before .before .before .before .before .before .before .before .before .before .before .before .before .before .before .before .before .pre .0 in
+    fired-on (c .before .before .before .before .before .before .before .before .before .before .firings .inv m u) (c .before .before .before .before .before .before .before .before .before .if1 .left) (r .sound) (r .bytes) (enabled (c .before .before .before .before .before .loop .inv) (c .before .before .before .before .loop-test .left)) (c .before .before .fire .ensures)
 
 same-length : tie.Need-same-length Inv-loop μ-loop Inv-firings μ-firings
-same-length c = c .before .firings .inv .long
+same-length c = here (c .before) .long
 
 returns : tie.Need-returns Inv-loop μ-loop Inv-firings μ-firings
 returns c =
-    let e = all-fired (c .before .firings .inv) (c .if1 .taken) in
-    (ap (λ (R : Replay). replayTold (R .answer)) (sym e), tokens-left (c .before .firings .inv) e)
+    let e = all-fired (here (c .before)) (c .if1 .taken) in
+    (ap (λ (R : Replay). replayTold (R .answer)) (sym e), tokens-left (here (c .before)) e)
 
 same-length-2 : tie.Need-same-length-2 Inv-loop μ-loop Inv-firings μ-firings
-same-length-2 c = c .before .before .before .before .before .before .before .before .before .before .before .firings .inv .long
+same-length-2 c = here (c .before .before .before .before .before .before .before .before .before .before .before) .long
 
 returns-2 : tie.Need-returns-2 Inv-loop μ-loop Inv-firings μ-firings
 returns-2 c =
     let k = c .before .before .before .before .before .before .before .before .before .before .before .firings .k in
-    let e = stuck-at (c .before .before .before .before .before .before .before .before .before .before .before .firings .inv) (c .before .before .before .before .before .before .before .before .before .before .if1 .left) (c .before .before .before .before .before .before .loop .inv) (c .before .before .before .before .before .loop-test .taken) (omega (arith, ltb-true (getD (c .before .before .before .before .before .before .before .before .before .before .before .firings .marking) (c .before .before .before .arc .result .place) 0) (needAt (c .before .before .before .before .before .before .before .before .before .before .before .before .before .before .before .before .args .file .now) (c .before .before .before .before .before .before .before .before .before .before .before .before .before .before .before .before .args .h) (c .before .before .before .before .before .before .loop .j)) (sym (c .before .short-at .ensures) ∙ c .if2 .taken), ap (λ (x : Arc). getD (c .before .before .before .before .before .before .before .before .before .before .before .firings .marking) (x .place) 0) (c .before .before .before .arc .ensures .0))) in
+    let e = stuck-at (here (c .before .before .before .before .before .before .before .before .before .before .before)) (c .before .before .before .before .before .before .before .before .before .before .if1 .left) (c .before .before .before .before .before .before .loop .inv) (c .before .before .before .before .before .loop-test .taken) (omega (arith, ltb-true (getD (c .before .before .before .before .before .before .before .before .before .before .before .firings .marking) (c .before .before .before .arc .result .place) 0) (needAt (c .before .before .before .before .before .before .before .before .before .before .before .before .before .before .before .before .before .before .before .before .args .file .now) (c .before .before .before .before .before .before .before .before .before .before .before .before .before .before .before .before .before .before .before .before .args .h) (c .before .before .before .before .before .before .loop .j)) (sym (c .before .short-at .ensures) ∙ c .if2 .taken), ap (λ (x : Arc). getD (c .before .before .before .before .before .before .before .before .before .before .before .firings .marking) (x .place) 0) (c .before .before .before .arc .ensures .0))) in
     let told : Arc → ReplayAnswer = λ a. record { refusal = 0; stuck = true; index = k; place = a .place } in
-    (ap told (c .before .before .before .arc .ensures .0) ∙ ap (λ (R : Replay). replayTold (R .answer)) (sym e), tokens-left (c .before .before .before .before .before .before .before .before .before .before .before .firings .inv) e)
+    (ap told (c .before .before .before .arc .ensures .0) ∙ ap (λ (R : Replay). replayTold (R .answer)) (sym e), tokens-left (here (c .before .before .before .before .before .before .before .before .before .before .before)) e)
 
 pub run-spec : {M : Type 1} → statement M
 run-spec =
@@ -134,6 +146,7 @@ run-spec =
     μ-loop
     Inv-firings
     μ-firings
+    ahead-requires
     firings-holds
     mul-t
     shared-slice-read-t

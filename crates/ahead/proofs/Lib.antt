@@ -1,0 +1,4 @@
+pub mod Underway
+pub mod Moving
+pub mod Raising
+pub mod Marching
