@@ -141,18 +141,18 @@ word-bits words i = selected-same (member words) (λ k. bit (getD words i 0) (k 
     ap (member words) (sym e) ∙ member-at words i (x - i * 64) (omega arith))
 
 -- the members from word i on: those of word i, and those from the next word on
-module _ (words : List ℕ) (i : ℕ) (h : i < 16) where
-  pub members-next : selected (member words) (i * 64) (1024 - i * 64) ≡ bitsFrom (i * 64) (getD words i 0) ++ selected (member words) ((i + 1) * 64) (1024 - (i + 1) * 64)
+module _ (words : List ℕ) (i m : ℕ) (h : i < m) where
+  pub members-next : selected (member words) (i * 64) (m * 64 - i * 64) ≡ bitsFrom (i * 64) (getD words i 0) ++ selected (member words) ((i + 1) * 64) (m * 64 - (i + 1) * 64)
   members-next =
-      let e : 1024 - i * 64 ≡ 64 + (1024 - (i + 1) * 64) = omega arith in
+      let e : m * 64 - i * 64 ≡ 64 + (m * 64 - (i + 1) * 64) = omega arith in
       let d : i * 64 + 64 ≡ (i + 1) * 64 = omega arith in
-      ap (selected (member words) (i * 64)) e ∙ selected-parts (member words) (i * 64) 64 (1024 - (i + 1) * 64)
-      ∙ (λ j. word-bits words i j ++ selected (member words) (d j) (1024 - (i + 1) * 64))
+      ap (selected (member words) (i * 64)) e ∙ selected-parts (member words) (i * 64) 64 (m * 64 - (i + 1) * 64)
+      ∙ (λ j. word-bits words i j ++ selected (member words) (d j) (m * 64 - (i + 1) * 64))
 
-  pub members-count : length (selected (member words) (i * 64) (1024 - i * 64)) ≡ length (bitsFrom (i * 64) (getD words i 0)) + length (selected (member words) ((i + 1) * 64) (1024 - (i + 1) * 64))
-  members-count = ap length members-next ∙ length-append (bitsFrom (i * 64) (getD words i 0)) (selected (member words) ((i + 1) * 64) (1024 - (i + 1) * 64))
+  pub members-count : length (selected (member words) (i * 64) (m * 64 - i * 64)) ≡ length (bitsFrom (i * 64) (getD words i 0)) + length (selected (member words) ((i + 1) * 64) (m * 64 - (i + 1) * 64))
+  members-count = ap length members-next ∙ length-append (bitsFrom (i * 64) (getD words i 0)) (selected (member words) ((i + 1) * 64) (m * 64 - (i + 1) * 64))
 
--- nothing from word 16 on
-pub selected-end : (f : ℕ → Bool) (i : ℕ) → 16 ≤ i → selected f (i * 64) (1024 - i * 64) ≡ []
+-- nothing from word m on
+pub selected-end : (f : ℕ → Bool) (i m : ℕ) → m ≤ i → selected f (i * 64) (m * 64 - i * 64) ≡ []
 unfolding selected
-selected-end f i h = let e : 1024 - i * 64 ≡ 0 = omega arith in rw (e, selected)
+selected-end f i m h = let e : m * 64 - i * 64 ≡ 0 = omega arith in rw (e, selected)

@@ -1,6 +1,6 @@
 // The members of a set as a rising list, and the places of the members in it.
 ghost use mathlib.Core.Path.{_≡_};
-ghost use Prim.Native.Nat.{_+_, _<_, _≤_};
+ghost use Prim.Native.Nat.{_+_, _*_, _<_, _≤_};
 ghost use lib.ListN.{length};
 ghost use lib.Seq.{sets};
 ghost use Rattle.net.specs.Numbers.{selected};
@@ -25,14 +25,15 @@ fn word_members(word: u64, base: usize, from: usize, list: &mut [u16]) -> usize
     n
 }
 
-// Stores the members, rising, from the first entry on.
-pub fn members(words: &[u64; 16], list: &mut [u16])
-    requires { ⌜ length (selected (member (now words)) 0 1024) ≤ length (now list) ⌝ }
-    ensures { λ _. ⌜ now (list .exit) ≡ sets (now (list .entry)) 0 (selected (member (now (words .entry))) 0 1024) ⌝ }
+// Stores the members that the first words have, rising, from the first entry on.
+pub fn members(words: &[u64; 16], count: usize, list: &mut [u16])
+    requires { ⌜ count ≤ 16 ⌝ }
+    requires { ⌜ length (selected (member (now words)) 0 (count * 64)) ≤ length (now list) ⌝ }
+    ensures { λ _. ⌜ now (list .exit) ≡ sets (now (list .entry)) 0 (selected (member (now (words .entry))) 0 (count * 64)) ⌝ }
 {
     let mut n: usize = 0;
     let mut i: usize = 0;
-    while i < 16 {
+    while i < count {
         n = word_members(words[i], i * 64, n, list);
         i += 1;
     }

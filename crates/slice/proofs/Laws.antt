@@ -36,26 +36,27 @@ use Rattle.slice.specs.declared.Cut.{Cut}
 use Rattle.slice.specs.declared.Cut.the-variants.{Written, Refused}
 
 -- the members of a set of numbers below P
-module _ (words : List ℕ) (P : ℕ) (small : P ≤ 1024) (within : (p : ℕ) → member words p ≡ true → p < P) where
-  members-are : selected (member words) 0 1024 ≡ selected (member words) 0 P
-  members-are = selected-below (member words) P 1024 within small
+module _ (words : List ℕ) (P : ℕ) (within : (p : ℕ) → member words p ≡ true → p < P) where
+  -- in the first k words
+  module _ (k : ℕ) (reach : P ≤ k * 64) where
+    members-are : selected (member words) 0 (k * 64) ≡ selected (member words) 0 P
+    members-are = selected-below (member words) P (k * 64) within reach
 
-  pub members-fit : length (selected (member words) 0 1024) ≤ P
-  members-fit = omega (arith, ap length members-are, length-selected (member words) 0 P)
+    pub members-fit : length (selected (member words) 0 (k * 64)) ≤ P
+    members-fit = omega (arith, ap length members-are, length-selected (member words) 0 P)
 
-  -- counted in the first k words
-  module _ (n k : ℕ) (count : n ≡ countBelow (member words) (k * 64)) (reach : P ≤ k * 64) where
-    counted : length (selected (member words) 0 1024) ≡ n
-    counted = omega (arith, count, count-selected (member words) (k * 64), ap length members-are, ap length (selected-below (member words) P (k * 64) within reach))
+    module _ (n : ℕ) (count : n ≡ countBelow (member words) (k * 64)) where
+      counted : length (selected (member words) 0 (k * 64)) ≡ n
+      counted = omega (arith, count, count-selected (member words) (k * 64))
 
-    pub count-fits : n ≤ P
-    count-fits = omega (arith, counted, members-fit)
+      pub count-fits : n ≤ P
+      count-fits = omega (arith, counted, members-fit)
 
-    pub members-listed : (l stored : List ℕ) → P ≤ length l → stored ≡ sets l 0 (selected (member words) 0 1024) → take n stored ≡ selected (member words) 0 P
-    members-listed l stored h e = ap (take n) e ∙ take-sets (selected (member words) 0 1024) l n counted (omega (arith, members-fit)) ∙ members-are
+      pub members-listed : (l stored : List ℕ) → P ≤ length l → stored ≡ sets l 0 (selected (member words) 0 (k * 64)) → take n stored ≡ selected (member words) 0 P
+      members-listed l stored h e = ap (take n) e ∙ take-sets (selected (member words) 0 (k * 64)) l n counted (omega (arith, members-fit)) ∙ members-are
 
-    pub listed-length : (l stored : List ℕ) → P ≤ length l → stored ≡ sets l 0 (selected (member words) 0 1024) → n ≡ length (take n stored)
-    listed-length l stored h e = omega (arith, counted, ap length members-are, ap length (members-listed l stored h e))
+      pub listed-length : (l stored : List ℕ) → P ≤ length l → stored ≡ sets l 0 (selected (member words) 0 (k * 64)) → n ≡ length (take n stored)
+      listed-length l stored h e = omega (arith, counted, ap length members-are, ap length (members-listed l stored h e))
 
   member-known : (i : ℕ) → i < length (selected (member words) 0 P) → getD (selected (member words) 0 P) i 0 < P
   member-known i l = below-passes (member words) P (getD (selected (member words) 0 P) i 0) (among-at (selected (member words) 0 P) i l) .0
@@ -69,8 +70,8 @@ lists-kept kept h w p t ps ts e f =
       few-transitions = omega (arith, length-selected (member (kept .transitions)) 0 (h .transitions));
       places-rise = selected-rises (member (kept .places)) 0 (h .places);
       transitions-rise = selected-rises (member (kept .transitions)) 0 (h .transitions);
-      places-known = member-known (kept .places) (h .places) p (w .places);
-      transitions-known = member-known (kept .transitions) (h .transitions) t (w .transitions);
+      places-known = member-known (kept .places) (h .places) (w .places);
+      transitions-known = member-known (kept .transitions) (h .transitions) (w .transitions);
     }))
 
 pub slice-kept : (s : List ℕ) (h : Header) (kept : KeptSets) (ps ts entry exit : List ℕ) (r : Cut)

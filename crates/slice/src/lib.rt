@@ -112,24 +112,49 @@ fn write_sets(
 {
     let kept_places = kept.places;
     let kept_transitions = kept.transitions;
-    let np = sets::count(&kept_places, (h.places + 63) / 64);
-    let nt = sets::count(&kept_transitions, (h.transitions + 63) / 64);
-    members::members(&kept_places, ps);
-    members::members(&kept_transitions, ts);
+    let wp = (h.places + 63) / 64;
+    let wt = (h.transitions + 63) / 64;
+    let np = sets::count(&kept_places, wp);
+    let nt = sets::count(&kept_transitions, wt);
+    members::members(&kept_places, wp, ps);
+    members::members(&kept_transitions, wt, ts);
     write_lists(plan, h, &ps[..np], &ts[..nt], places, transitions, buffer)
 }
 
-// With tables for 64 places and transitions.
+// With tables for 16 places and transitions.
 fn write_small(plan: &[u8], h: Header, kept: KeptSets, buffer: &mut [u8]) -> Cut
     requires { ⌜ Sound (now plan) h ⌝ }
     requires { ⌜ Within kept h ⌝ }
-    requires { ⌜ (h .places ≤ 64) × (h .transitions ≤ 64) ⌝ }
+    requires { ⌜ (h .places ≤ 16) × (h .transitions ≤ 16) ⌝ }
     ensures { λ r. ⌜ Answers (keptSlice (now (plan .entry)) h kept) (now (buffer .entry)) (now (buffer .exit)) r ⌝ }
 {
-    let mut ps = [0u16; 64];
-    let mut ts = [0u16; 64];
-    let mut places = [0u16; 64];
-    let mut transitions = [0u16; 64];
+    let mut ps = [0u16; 16];
+    let mut ts = [0u16; 16];
+    let mut places = [0u16; 16];
+    let mut transitions = [0u16; 16];
+    write_sets(
+        plan,
+        h,
+        kept,
+        &mut ps,
+        &mut ts,
+        &mut places,
+        &mut transitions,
+        buffer,
+    )
+}
+
+// With tables for 128 places and transitions.
+fn write_middle(plan: &[u8], h: Header, kept: KeptSets, buffer: &mut [u8]) -> Cut
+    requires { ⌜ Sound (now plan) h ⌝ }
+    requires { ⌜ Within kept h ⌝ }
+    requires { ⌜ (h .places ≤ 128) × (h .transitions ≤ 128) ⌝ }
+    ensures { λ r. ⌜ Answers (keptSlice (now (plan .entry)) h kept) (now (buffer .entry)) (now (buffer .exit)) r ⌝ }
+{
+    let mut ps = [0u16; 128];
+    let mut ts = [0u16; 128];
+    let mut places = [0u16; 128];
+    let mut transitions = [0u16; 128];
     write_sets(
         plan,
         h,
@@ -171,9 +196,14 @@ pub fn write(plan: &[u8], h: Header, kept: KeptSets, buffer: &mut [u8]) -> Cut
     ensures answer { λ r. ⌜ cutNumbers r ≡ cutAnswer (roomRefusal (length (now (buffer .entry))) (keptSlice (now (plan .entry)) h kept)) (length (sliceBytes (keptSlice (now (plan .entry)) h kept))) (keptSlice (now (plan .entry)) h kept) ⌝ }
     ensures buffer { λ r. ⌜ now (buffer .exit) ≡ written (roomRefusal (length (now (buffer .entry))) (keptSlice (now (plan .entry)) h kept)) (sliceBytes (keptSlice (now (plan .entry)) h kept)) (now (buffer .entry)) ⌝ }
 {
-    if h.places <= 64 {
-        if h.transitions <= 64 {
+    if h.places <= 16 {
+        if h.transitions <= 16 {
             return write_small(plan, h, kept, buffer);
+        }
+    }
+    if h.places <= 128 {
+        if h.transitions <= 128 {
+            return write_middle(plan, h, kept, buffer);
         }
     }
     write_large(plan, h, kept, buffer)

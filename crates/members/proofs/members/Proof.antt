@@ -1,6 +1,7 @@
 use borrow.Author.Needs.{needs}
 use Prim.Native.Nat.{_-_, _*_, _≤_}
 use native.Mathlib.Omega.{arith}
+use mathlib.Core.Path.{_≡_, ap}
 use lib.ListN.{getD}
 use Rattle.net.specs.Numbers.{selected}
 use Rattle.sets.specs.Member.{member}
@@ -11,13 +12,17 @@ use Rattle.members.proofs.members.Statement.{statement}
 use Rattle.members.proofs.members.Tie as tie
 
 abbrev Inv-loop : tie.InvT-loop
-Inv-loop words list₀ n₀ i₀ list n i = (i ≤ 16) × Storing list₀ 0 (selected (member words) 0 1024) list n (selected (member words) (i * 64) (1024 - i * 64))
+Inv-loop words count list₀ n₀ i₀ list n i = (i ≤ count) × Storing list₀ 0 (selected (member words) 0 (count * 64)) list n (selected (member words) (i * 64) (count * 64 - i * 64))
 
 abbrev μ-loop : tie.MeasureT-loop
-μ-loop words list₀ n₀ i₀ list n i = 16 - i
+μ-loop words count list₀ n₀ i₀ list n i = count - i
 
 loop-holds : tie.Need-loop-holds Inv-loop μ-loop
-loop-holds c = (omega arith, storing-all _ _ _)
+loop-holds c =
+    let words = c .before .args .words .now in
+    let count = c .before .args .count in
+    let e : count * 64 ≡ count * 64 - 0 * 64 = omega arith in
+    (omega arith, storing-as (storing-all _ _ _) (ap (selected (member words) 0) e))
 
 mul-word-members : tie.Need-mul-word-members Inv-loop μ-loop
 mul-word-members c = search needs
@@ -32,8 +37,8 @@ word-members-requires : tie.Need-word-members-requires Inv-loop μ-loop
 word-members-requires c κs =
     let at = c .before .before .before .loop in
     let start = c .before .before .before .before .before in (
-      omega (arith, at .inv .0),
-      omega (arith, members-count (start .args .words .now) (at .i) (c .before .before .loop-test .taken), at .inv .1 .long, at .inv .1 .count, start .pre),
+      omega (arith, at .inv .0, start .pre .0),
+      omega (arith, members-count (start .args .words .now) (at .i) (start .args .count) (c .before .before .loop-test .taken), at .inv .1 .long, at .inv .1 .count, start .pre .1),
     )
 
 add-i : tie.Need-add-i Inv-loop μ-loop
@@ -48,7 +53,7 @@ loop-again c =
     let words = c .before .before .before .before .before .before .before .before .args .words .now in
     let call = c .before .before .word-members in (
       omega arith,
-      storing-part (bitsFrom (at .i * 64) (getD words (at .i) 0)) _ _ _ (storing-as (at .inv .1) (members-next words (at .i) (c .before .before .before .before .before .loop-test .taken))) (call .ensures .1) (call .ensures .0),
+      storing-part (bitsFrom (at .i * 64) (getD words (at .i) 0)) _ _ _ (storing-as (at .inv .1) (members-next words (at .i) (c .before .before .before .before .before .before .before .before .args .count) (c .before .before .before .before .before .loop-test .taken))) (call .ensures .1) (call .ensures .0),
     )
 
 same-length : tie.Need-same-length Inv-loop μ-loop
@@ -58,7 +63,7 @@ returns : tie.Need-returns Inv-loop μ-loop
 returns c =
     let at = c .before .loop in
     let start = c .before .before .before in
-    let s = storing-as (at .inv .1) (selected-end (member (start .args .words .now)) (at .i) (omega (arith, c .loop-test .left))) in
+    let s = storing-as (at .inv .1) (selected-end (member (start .args .words .now)) (at .i) (start .args .count) (omega (arith, c .loop-test .left))) in
     storing-none s
 
 pub members-spec : {M : Type 1} → statement M

@@ -25,10 +25,10 @@ write-sets-requires c κs =
       (
         start .pre .1 .0,
         (
-          (omega (arith, start .pre .1 .1 .0, length-replicate {A = ℕ} 64 0), omega (arith, start .pre .1 .1 .1, length-replicate {A = ℕ} 64 0)),
+          (omega (arith, start .pre .1 .1 .0, length-replicate {A = ℕ} 16 0), omega (arith, start .pre .1 .1 .1, length-replicate {A = ℕ} 16 0)),
           (
-            record { reach = omega (arith, start .pre .1 .1 .0, length-replicate {A = ℕ} 64 0); clear = zeros-at 64 },
-            record { reach = omega (arith, start .pre .1 .1 .1, length-replicate {A = ℕ} 64 0); clear = zeros-at 64 },
+            record { reach = omega (arith, start .pre .1 .1 .0, length-replicate {A = ℕ} 16 0); clear = zeros-at 16 },
+            record { reach = omega (arith, start .pre .1 .1 .1, length-replicate {A = ℕ} 16 0); clear = zeros-at 16 },
           ),
         ),
       ),

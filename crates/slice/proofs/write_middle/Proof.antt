@@ -1,0 +1,53 @@
+use borrow.Author.Needs.{needs}
+use Prim.Native.Nat.{ℕ}
+use native.Mathlib.Omega.{arith}
+use lib.ListN.{length-replicate}
+use Rattle.sets.proofs.Members.{zeros-at}
+use Rattle.slice.proofs.write_middle.Statement.{statement}
+use Rattle.slice.proofs.write_middle.Tie as tie
+
+slice-aggregate-write-sets : tie.Need-slice-aggregate-write-sets
+slice-aggregate-write-sets c = search needs
+
+slice-aggregate-write-sets-2 : tie.Need-slice-aggregate-write-sets-2
+slice-aggregate-write-sets-2 c = search needs
+
+slice-aggregate-write-sets-3 : tie.Need-slice-aggregate-write-sets-3
+slice-aggregate-write-sets-3 c = search needs
+
+slice-aggregate-write-sets-4 : tie.Need-slice-aggregate-write-sets-4
+slice-aggregate-write-sets-4 c = search needs
+
+write-sets-requires : tie.Need-write-sets-requires
+write-sets-requires c κs =
+    let start = c .before .before .before .before .before .before .before in (
+      start .pre .0,
+      (
+        start .pre .1 .0,
+        (
+          (omega (arith, start .pre .1 .1 .0, length-replicate {A = ℕ} 128 0), omega (arith, start .pre .1 .1 .1, length-replicate {A = ℕ} 128 0)),
+          (
+            record { reach = omega (arith, start .pre .1 .1 .0, length-replicate {A = ℕ} 128 0); clear = zeros-at 128 },
+            record { reach = omega (arith, start .pre .1 .1 .1, length-replicate {A = ℕ} 128 0); clear = zeros-at 128 },
+          ),
+        ),
+      ),
+    )
+
+same-length : tie.Need-same-length
+same-length c = search needs
+
+returns : tie.Need-returns
+returns c = search needs
+
+pub write-middle-spec : {M : Type 1} → statement M
+write-middle-spec =
+    tie.close
+    (tie.spec
+    slice-aggregate-write-sets
+    slice-aggregate-write-sets-2
+    slice-aggregate-write-sets-3
+    slice-aggregate-write-sets-4
+    write-sets-requires
+    same-length
+    returns)
