@@ -151,8 +151,12 @@ fn replay_all(file: &[u8], h: Header, list: &[u16], marking: &mut [u64]) -> Outc
     ensures { λ r. ⌜ outcomeNumbers r ≡ replayTold (replayOf (netFrom (now (file .entry)) h) (now (list .entry)) .answer) ⌝ }
     ensures { λ _. ⌜ now (marking .exit) ≡ tokens (netFrom (now (file .entry)) h) (replayOf (netFrom (now (file .entry)) h) (now (list .entry)) .marking) ⌝ }
 {
-    if h.transitions <= 64 {
-        let mut table: [u16; 129] = [0; 129];
+    if h.transitions <= 16 {
+        let mut table: [u16; 33] = [0; 33];
+        return replay_by(file, h, list, &mut table, marking);
+    }
+    if h.transitions <= 128 {
+        let mut table: [u16; 257] = [0; 257];
         return replay_by(file, h, list, &mut table, marking);
     }
     let mut table: [u16; 2049] = [0; 2049];
