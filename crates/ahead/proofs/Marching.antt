@@ -10,11 +10,10 @@ use Rattle.file.specs.Layout.{arcAt, netFrom}
 use Rattle.file.specs.declared.Header.{Header}
 use Rattle.starts.specs.Table.{slotAt, Split}
 use Rattle.starts.proofs.Reached.{order-at}
-use Rattle.gain.specs.Ways.{sumOn}
 use Rattle.gain.proofs.Arcs.{good-at, none-past}
 use Rattle.gain.proofs.Stretch.{Stretch, rises, own, sums, small}
 use Rattle.gain.proofs.Ways.{sum-quiet, sum-rises}
-use Rattle.ahead.specs.Steps.{held, Ready, Holds, Listed, Underway}
+use Rattle.ahead.specs.Steps.{Ready, Listed, Underway}
 use Rattle.ahead.specs.Moves.{lowAt, lowered, MovesOf, Movable, Moved, Lifted, Shifted, Raised, Marched}
 use Rattle.ahead.proofs.Underway.{underway-begin, fired-on}
 use Rattle.ahead.proofs.Raising.{lowered-at, lowered-long, lowered-is}

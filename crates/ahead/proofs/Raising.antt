@@ -1,12 +1,12 @@
 -- Entries that are put above their tokens, and left with their tokens again. Assumes nothing.
-use Prim.Native.Nat.{ℕ, _+_, _*_, _-_, _%_, _^_, _≤_, _<_}
-use mathlib.Core.List.{List, map}
+use Prim.Native.Nat.{ℕ, _+_, _-_, _%_, _^_, _≤_, _<_}
+use mathlib.Core.List.{List}
 use mathlib.Core.Path.{_≡_, refl, sym, ap, _∙_}
 use native.Mathlib.Omega.{arith}
 use borrow.Author.Count.{below-none, below-more}
 use lib.ListN.{length, getD, set, length-set, length-map, List·getD-map}
 use lib.Seq.{getD-set-same, getD-set-other, ext-getD}
-use Rattle.ahead.specs.Moves.{low, lowAt, lowered, Lifted, Plain, Raised}
+use Rattle.ahead.specs.Moves.{low, lowAt, lowered, Plain, Raised}
 
 -- the first n entries are changed by f, and the others are as they were
 pub record Changed (f : ℕ → ℕ) (was is : List ℕ) (n : ℕ) : Type 0 where

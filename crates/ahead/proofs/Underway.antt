@@ -1,5 +1,5 @@
 -- A replay, firing by firing. Assumes nothing.
-use Prim.Native.Nat.{ℕ, suc, _+_, _*_, _^_, _<_, _≤_}
+use Prim.Native.Nat.{ℕ, suc, _+_, _*_, _<_, _≤_}
 use mathlib.Core.Path.{_≡_, refl, ap, sym, _∙_, fun-ext}
 use mathlib.Core.Bool.{Bool, true}
 use mathlib.Core.List.{List, _∷_}
@@ -11,7 +11,7 @@ use lib.Dec.{ltb}
 use lib.ListN.{length, getD, drop, drop-of-length-le}
 use lib.Seq.{drop-cons}
 use Rattle.net.specs.Numbers.{first}
-use Rattle.net.specs.Net.{Net, Marking, Answer, fired, stuck, Replay, input, output, fire, shortPlace, replayFrom}
+use Rattle.net.specs.Net.{Net, Marking, fired, stuck, input, output, fire, shortPlace, replayFrom}
 use Rattle.net.proofs.Numbers.{is-true, first-passes}
 use Rattle.file.specs.Word.{Bytes}
 use Rattle.file.specs.Layout.{netFrom}

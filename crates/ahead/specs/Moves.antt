@@ -4,7 +4,6 @@ use mathlib.Core.List.{List, map}
 use mathlib.Core.Path.{_≡_}
 use lib.Dec.{eqb}
 use lib.ListN.{length, getD}
-use Rattle.net.specs.declared.Arc.{Arc}
 use Rattle.file.specs.Word.{Bytes}
 use Rattle.file.specs.Layout.{arcAt}
 use Rattle.file.specs.Facts.{Sound}

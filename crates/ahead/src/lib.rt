@@ -1,7 +1,7 @@
 // A quick way through the firings of a list. One number for each arc says what the arc does to its place,
 // and every entry of the marking stands 2^40 above its tokens meanwhile, so that a place that would be short shows in bit 40.
 ghost use mathlib.Core.Path.{_≡_};
-ghost use Prim.Native.Nat.{ℕ, _+_, _*_, _<_, _≤_};
+ghost use Prim.Native.Nat.{_<_};
 ghost use lib.ListN.{length, getD};
 ghost use Rattle.ahead.specs.Steps.{Ready, Listed, Underway};
 ghost use Rattle.ahead.specs.Moves.{moveOf, MoveFits, Readable, MovesOf, Movable, Shifted, Moved, lowered, Plain, Lifted, Raised, Marched};
@@ -42,7 +42,7 @@ fn moves_of(file: &[u8], h: Header, moves: &mut [u64])
     }
 }
 
-// Moves each place by the arcs of the file from `from` to `to`. The answer is 0 if bit 40 was 0 after one of them.
+// Moves each place by the arcs from `from` to `to`; `file` and `h` only say whose arcs. The answer is 0 if bit 40 was 0 after one of them.
 fn shift(file: &[u8], h: Header, moves: &[u64], from: usize, to: usize, marking: &mut [u64]) -> u64
     requires { ⌜ Movable (now file) h (now moves) from to (now marking) ⌝ }
     ensures { λ r. ⌜ Shifted (now (file .entry)) h from to (now (marking .entry)) (now (marking .exit)) r ⌝ }

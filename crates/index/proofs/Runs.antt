@@ -1,19 +1,17 @@
 -- The arcs of one transition: what it takes and gives in the column, and the column at rest again. Assumes nothing.
-use Prim.Native.Nat.{ℕ, zero, suc, _+_, _*_, _-_, _≤_, _<_}
+use Prim.Native.Nat.{ℕ, _+_, _*_, _-_, _≤_, _<_}
 use mathlib.Core.Bool.{Bool}
 use mathlib.Core.List.{List}
-use mathlib.Core.Logic.{_⊎_, inl, inr, _≢_}
+use mathlib.Core.Logic.{_⊎_, inl, inr}
 use mathlib.Core.Path.{_≡_, refl, sym, ap, _∙_, subst}
 use native.Mathlib.Omega.{arith}
 use native.Mathlib.Decide.{ℕ-discrete, decLt}
-use lib.Dec.{T}
-use lib.ListN.{length, getD, List·getD-eq-default}
+use lib.ListN.{length, getD}
 use Rattle.net.specs.Net.{weightOn, input, output}
-use Rattle.file.specs.Word.{Bytes}
-use Rattle.file.specs.Layout.{arcAt, netFrom}
+use Rattle.file.specs.Layout.{netFrom}
 use Rattle.file.specs.Facts.{Sound}
 use Rattle.file.specs.declared.Header.{Header}
-use Rattle.starts.specs.Table.{slotOf, slotAt, Split}
+use Rattle.starts.specs.Table.{slotAt, Split}
 use Rattle.gain.specs.Gain.{pulls, Rested}
 use Rattle.index.specs.Rows
 use Rattle.gain.proofs.Arcs.{good-at, has-arc}

@@ -1,12 +1,12 @@
 -- The arcs of each place that draw in their transition, linked. Assumes nothing.
-use Prim.Native.Nat.{ℕ, zero, suc, _+_, _*_, _-_, _≤_, _<_}
-use mathlib.Core.Bool.{Bool, _&&_}
+use Prim.Native.Nat.{ℕ, suc, _+_, _*_, _-_, _≤_, _<_}
+use mathlib.Core.Bool.{Bool}
 use mathlib.Core.List.{List}
 use mathlib.Core.Path.{_≡_}
-use lib.Dec.{T, eqb}
+use lib.Dec.{T}
 use lib.ListN.{length, getD, set}
-use Rattle.net.specs.Net.{Net, counted, input, output}
-use Rattle.file.specs.Layout.{arcAt, netFrom}
+use Rattle.net.specs.Net.{Net, input, output}
+use Rattle.file.specs.Layout.{arcAt}
 use Rattle.file.specs.Facts.{Sound}
 use Rattle.file.specs.declared.Header.{Header}
 use Rattle.starts.specs.Table.{choose, Split}

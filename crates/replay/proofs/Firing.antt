@@ -16,7 +16,7 @@ use Rattle.gain.proofs.Sums.{sum-next, part-here, sum-more}
 use Rattle.gain.proofs.Arcs.{good-at, weight-le, none-past}
 use Rattle.gain.proofs.Weights as weights
 use Rattle.ahead.specs.Steps.{held, Ready, Holds}
-use Rattle.replay.specs.Steps.{arcOn, Firable}
+use Rattle.replay.specs.Steps.{Firable}
 
 -- what arc j brings fits
 pub fits : (s : List ℕ) (start from j : ℕ) (was is : List ℕ) (a : Arc) → a ≡ arcAt s (start + 8 * j) → a .place < length was → (to : ℕ) → j < to → Gives s start from j was is

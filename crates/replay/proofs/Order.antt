@@ -7,8 +7,8 @@ use Rattle.net.specs.Net.{input, weightOn}
 use Rattle.file.specs.Layout.{arcsFrom}
 use Rattle.file.specs.declared.Header.{Header}
 use Rattle.replay.specs.Steps.{arcOn, InputAt, needAt}
-use Rattle.replay.proofs.Sums.{share-is, share-unless, sum-none, sum-next, sum-same}
-use Rattle.file.proofs.Rows.{key-less}
+use Rattle.replay.proofs.Sums.{share-is, share-unless, sum-next, sum-same}
+use Rattle.file.proofs.Rows.{key-less, weight-none}
 
 -- where no two arcs join the same two in one direction, an input arc's weight is all that its transition takes there
 pub need-one : {s : List ℕ} {h : Header} {j : ℕ} → InputAt s h j → arcOn s h j .weight ≡ needAt s h j
@@ -24,4 +24,4 @@ need-one {s} {h} {j} a =
     sum-same 0 q t s (h .arcstart) (j + 1) (h .arcs) (omega (arith, a .known))
     (λ i l u. share-unless 0 q t (arcOn s h i) (λ e d p. omega (arith, key-less s (h .arcstart) 0 (h .arcs) j i (a .sound .order) (omega arith) u, a .input)))
     in
-    omega (arith, before, after, sum-none 0 q t s (h .arcstart), sum-next 0 q t s (h .arcstart) j, share-is 0 q t (arcOn s h j) refl (a .input) refl)
+    omega (arith, before, after, weight-none 0 q t s (h .arcstart), sum-next 0 q t s (h .arcstart) j, share-is 0 q t (arcOn s h j) refl (a .input) refl)

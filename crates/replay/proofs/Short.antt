@@ -14,12 +14,13 @@ use Rattle.net.proofs.Numbers.{holds, is-true, first-passes, first-lowest}
 use Rattle.file.specs.Layout.{arcsFrom, netFrom}
 use Rattle.file.specs.Facts.{Sound}
 use Rattle.file.specs.declared.Header.{Header}
+use Rattle.file.proofs.Rows.{weight-none}
 use Rattle.starts.specs.Table.{slotAt, Split}
 use Rattle.starts.proofs.Reached.{order-at}
 use Rattle.ahead.specs.Steps.{held}
 use Rattle.replay.specs.Steps.{arcOn, InputAt, needAt}
 use Rattle.gain.proofs.Arcs.{good-at}
-use Rattle.replay.proofs.Sums.{share-unless, sum-none, sum-next, sum-same, sum-more}
+use Rattle.replay.proofs.Sums.{share-unless, sum-next, sum-same, sum-more}
 
 module _ (N : Net) (t : ℕ) (M : Marking) where
   pub short-is : (q : ℕ) → q < N .places → M q < input N q t → ((p : ℕ) → p < q → input N p t ≤ M p) → shortPlace N t M ≡ q
@@ -58,7 +59,7 @@ module _ {s : List ℕ} {h : Header} {t from middle : ℕ} {m : List ℕ} where
     within = first .within;
     enough = λ p. omega (
       arith,
-      sum-none 0 p t s (h .arcstart),
+      weight-none 0 p t s (h .arcstart),
       sum-same 0 p t s (h .arcstart) 0 from (omega arith) (λ i l u. share-unless 0 p t (arcOn s h i) (λ e d g. omega (arith, first .below i u))),
     );
   }

@@ -10,6 +10,7 @@ use lib.Dec.{eqb}
 use Rattle.net.specs.Net.{counted, joins, weightOn}
 use Rattle.net.specs.declared.Arc.{Arc}
 use Rattle.file.specs.Layout.{arcAt, arcsFrom}
+use Rattle.file.proofs.Rows.{weight-next}
 
 -- one arc's part in a sum
 abbrev pub share : ℕ → ℕ → ℕ → Arc → ℕ
@@ -29,29 +30,16 @@ share-unless d p t a other = go (eqb (a .transition) t) (eqb (a .direction) d) (
     go true true true e f g = absurd (other (eqb-true _ _ e) (eqb-true _ _ f) (eqb-true _ _ g))
 
 module _ (d p t : ℕ) (s : List ℕ) where
-  pub sum-none : (at : ℕ) → weightOn d p t (arcsFrom s at 0) ≡ 0
-  unfolding weightOn arcsFrom
-  sum-none at = refl
-
-  sum-suc : (at j : ℕ) → weightOn d p t (arcsFrom s at (suc j)) ≡ weightOn d p t (arcsFrom s at j) + share d p t (arcAt s (at + 8 * j))
-  unfolding weightOn arcsFrom
-  sum-suc at zero =
-      let e : at ≡ at + 8 * 0 = omega arith in
-      omega (arith, ap (λ (k : ℕ). share d p t (arcAt s k)) e)
-  sum-suc at (suc j) =
-      let e : at + 8 + 8 * j ≡ at + 8 * suc j = omega arith in
-      omega (arith, sum-suc (at + 8) j, ap (λ (k : ℕ). share d p t (arcAt s k)) e)
-
   module _ (at : ℕ) where
     pub sum-next : (j : ℕ) → weightOn d p t (arcsFrom s at (j + 1)) ≡ weightOn d p t (arcsFrom s at j) + share d p t (arcAt s (at + 8 * j))
-    sum-next j = let e : j + 1 ≡ suc j = omega arith in rw e (sum-suc at j)
+    sum-next j = let e : j + 1 ≡ suc j = omega arith in rw e (weight-next d p t s at j)
 
     sum-same-by : (j k : ℕ) → ((i : ℕ) → j ≤ i → i < j + k → share d p t (arcAt s (at + 8 * i)) ≡ 0)
         → weightOn d p t (arcsFrom s at (j + k)) ≡ weightOn d p t (arcsFrom s at j)
     sum-same-by j zero none′ = rw add-zero
     sum-same-by j (suc k) none′ =
         let e : j + suc k ≡ suc (j + k) = omega arith in
-        rw e (omega (arith, sum-suc at (j + k), none′ (j + k) (omega arith) (omega arith), sum-same-by j k (λ i l u. none′ i l (omega arith))))
+        rw e (omega (arith, weight-next d p t s at (j + k), none′ (j + k) (omega arith) (omega arith), sum-same-by j k (λ i l u. none′ i l (omega arith))))
 
     -- arcs from j to k that have no part in the sum
     pub sum-same : (j k : ℕ) → j ≤ k → ((i : ℕ) → j ≤ i → i < k → share d p t (arcAt s (at + 8 * i)) ≡ 0)
@@ -64,7 +52,7 @@ module _ (d p t : ℕ) (s : List ℕ) where
     sum-more-by j zero = rw add-zero (omega arith)
     sum-more-by j (suc k) =
         let e : j + suc k ≡ suc (j + k) = omega arith in
-        rw e (omega (arith, sum-suc at (j + k), sum-more-by j k))
+        rw e (omega (arith, weight-next d p t s at (j + k), sum-more-by j k))
 
     -- the sum does not fall
     pub sum-more : (j k : ℕ) → j ≤ k → weightOn d p t (arcsFrom s at j) ≤ weightOn d p t (arcsFrom s at k)
