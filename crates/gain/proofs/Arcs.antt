@@ -28,7 +28,7 @@ pub record JoinsBelow (d p t : ℕ) (s : List ℕ) (start n : ℕ) : Type 0 wher
   pub below : at < n
   pub joins-it : Joins d p t s start at
 
-joined : (d p t : ℕ) (s : List ℕ) (start i : ℕ) (a : Arc) → a ≡ arcAt s (start + 8 * i) → joins d p t a ≡ true → Joins d p t s start i
+pub joined : (d p t : ℕ) (s : List ℕ) (start i : ℕ) (a : Arc) → a ≡ arcAt s (start + 8 * i) → joins d p t a ≡ true → Joins d p t s start i
 joined d p t s start i a is e = go (eqb (a .transition) t) (eqb (a .direction) d) (eqb (a .place) p) refl refl refl e
   where
     go : (x y z : Bool) → eqb (a .transition) t ≡ x → eqb (a .direction) d ≡ y → eqb (a .place) p ≡ z → x && y && z ≡ true → Joins d p t s start i

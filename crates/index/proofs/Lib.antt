@@ -1,3 +1,3 @@
-pub mod Sums
+pub mod Weights
+pub mod Ends
 pub mod Linking
-pub mod Runs

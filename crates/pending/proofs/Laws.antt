@@ -1,81 +1,153 @@
--- Laws of lent sets: a member put in, one taken out, and a place kept that is pending if it is new. Assumes nothing.
-use mathlib.Core.Path.{_≡_, refl, sym, ap, ap₂, _∙_}
-use mathlib.Core.Bool.{Bool, true, false, not, _&&_, _||_}
+-- Laws of lent sets: a member put in, a place kept whose word is marked, and the lowest pending place by the marks. Assumes nothing.
+use mathlib.Core.Path.{_≡_, refl, sym, ap, ap₂, _∙_, subst}
+use mathlib.Core.Bool.{Bool, true, false, not, _&&_, _||_, or-comm}
 use mathlib.Core.List.{List}
-use Prim.Native.Nat.{ℕ, _+_, _-_, _*_, _/_, _%_, _≤_, _<_}
+use Prim.Native.Nat.{ℕ, zero, suc, _+_, _-_, _*_, _/_, _%_, _^_, _≤_, _<_}
 use native.Mathlib.Omega.{arith}
-use native.Mathlib.Decide.{ℕ-discrete}
-use lib.Dec.{eqb}
+use native.Mathlib.Decide.{decLt}
+use lib.Dec.{T, eqb, eqb→eq}
 use lib.ListN.{length, getD, set, length-set}
 use lib.Bits.{bitOr, bitXor}
-use borrow.Author.Tests.{ne-eqb, eqb-true}
-use Rattle.sets.specs.Member.{bit, member}
-use Rattle.sets.proofs.Bits.{differs, bit-or, bit-xor}
-use Rattle.sets.proofs.Members.{mask, bit-mask, changed, added, removed, member-in}
-use Rattle.pending.specs.Growing.{Inserted, Removed, Words, PlacesKept}
+use borrow.Author.Tests.{eq-eqb, eqb-true}
+use Rattle.net.proofs.Numbers.{by-or, holds, is-true, is-false, fails, or-left, or-right, and-left, and-right}
+use Rattle.sets.specs.Member.{bit, member, countBelow}
+use Rattle.sets.specs.Lowest.{IsLowest}
+use Rattle.sets.specs.declared.Found.the-variants.{At, Nothing}
+use Rattle.sets.proofs.Bits.{differs, bit-or, bit-xor, bit-pow, bit-zero, bit-suc, bit-low, shifted-one}
+use Rattle.sets.proofs.Members.{mask, clears, added, member-at}
+use Rattle.pending.specs.Growing.{Inserted, waits, Marked, PlacesKept, LowestPending}
+use Rattle.pending.proofs.Counting.{count-less}
 
-or-swap : (a b : Bool) → a || b ≡ b || a
-or-swap true true = refl
-or-swap true false = refl
-or-swap false true = refl
-or-swap false false = refl
+-- the code's 1 << i
+abbrev one : ℕ → ℕ
+one i = 1 * 2 ^ i % 2 ^ 64
 
 pub inserted : (words : List ℕ) (n : ℕ) → n < 1024 → length words ≡ 16 → Inserted n words (set words (n / 64) (bitOr (getD words (n / 64) 0) (mask n)))
 inserted words n l h = record {
-  members = λ k. added words n (omega arith) k ∙ or-swap (eqb k n) (member words k);
+  members = λ k. added words n (omega arith) k ∙ or-comm (eqb k n) (member words k);
   long = length-set words (n / 64) _ ∙ h;
 }
 
-pub taken-out : (words : List ℕ) (n : ℕ) → n < 1024 → length words ≡ 16 → Removed n words (set words (n / 64) (bitXor (bitOr (getD words (n / 64) 0) (mask n)) (mask n)))
-taken-out words n l h = record { members = removed words n (omega arith); long = length-set words (n / 64) _ ∙ h }
+bit-one : (i k : ℕ) → i < 64 → bit (one i) k ≡ eqb k i
+bit-one i k l = ap (λ (w : ℕ). bit w k) (shifted-one i l) ∙ bit-pow i k
 
--- a bit that an or put in is the one of the mask that was not there
-news : (o e : Bool) → differs (o || e) o ≡ e && not o
-news true true = refl
-news true false = refl
-news false true = refl
-news false false = refl
+-- ---- a place kept
 
--- a test that names n speaks of n
-at-it : (f : ℕ → Bool) (k n : ℕ) → eqb k n && not (f k) ≡ eqb k n && not (f n)
-at-it f k n = go (eqb k n) refl
-  where
-    go : (e : Bool) → eqb k n ≡ e → e && not (f k) ≡ e && not (f n)
-    go true q = ap (λ (x : ℕ). not (f x)) (eqb-true k n q)
-    go false q = refl
+-- a place kept, or one that was
+waits-or : (a n g : Bool) → T ((a || n) && not g) → T (a && not g || n)
+waits-or true n g h = or-left (not g) n h
+waits-or false true g h = tt
+waits-or false false g h = absurd h
 
-module _ (places pending : List ℕ) (p : ℕ) (l : p < 1024) (w : Words places pending) where
-  abbrev more : ℕ
-  more = bitOr (getD places (p / 64) 0) (mask p)
+module _ (marks p : ℕ) (l : p < 1024) where
+  marks-or : (i : ℕ) → bit (bitOr marks (one (p / 64))) i ≡ bit marks i || eqb i (p / 64)
+  marks-or i = bit-or marks (one (p / 64)) i ∙ ap (λ (b : Bool). bit marks i || b) (bit-one (p / 64) i (omega arith))
 
-  waiting : (k : ℕ) → member (set pending (p / 64) (bitOr (getD pending (p / 64) 0) (bitXor more (getD places (p / 64) 0)))) k ≡ member pending k || eqb k p && not (member places k)
-  waiting k =
-      changed pending p (bitOr (getD pending (p / 64) 0) (bitXor more (getD places (p / 64) 0))) (omega (arith, w .second))
-      (λ e b. b || e && not (member places p)) (λ b. plain b)
-      (λ j e.
-      bit-or (getD pending (p / 64) 0) (bitXor more (getD places (p / 64) 0)) (j % 64)
-      ∙ ap (λ (b : Bool). bit (getD pending (p / 64) 0) (j % 64) || b) (fresh j e)) k
-      ∙ ap (λ (b : Bool). member pending k || b) (sym (at-it (member places) k p))
-    where
-      plain : (b : Bool) → b || false ≡ b
-      plain true = refl
-      plain false = refl
-
-      fresh : (j : ℕ) → j / 64 ≡ p / 64 → bit (bitXor more (getD places (p / 64) 0)) (j % 64) ≡ eqb j p && not (member places p)
-      fresh j e =
-          bit-xor more (getD places (p / 64) 0) (j % 64)
-          ∙ ap (λ (b : Bool). differs b (bit (getD places (p / 64) 0) (j % 64))) (bit-or (getD places (p / 64) 0) (mask p) (j % 64))
-          ∙ ap (λ (b : Bool). differs (bit (getD places (p / 64) 0) (j % 64) || b) (bit (getD places (p / 64) 0) (j % 64))) (bit-mask p j e)
-          ∙ news (bit (getD places (p / 64) 0) (j % 64)) (eqb j p)
-          ∙ ap (λ (b : Bool). eqb j p && not b) (ap (λ (i : ℕ). bit (getD places i 0) (j % 64)) (sym e) ∙ sym (member-in places j))
-          ∙ at-it (member places) j p
-
-  pub place-kept : (low r : ℕ) → r ≤ low → r ≤ p / 64
-      → PlacesKept (λ k. eqb k p) low r places pending (set places (p / 64) more) (set pending (p / 64) (bitOr (getD pending (p / 64) 0) (bitXor more (getD places (p / 64) 0))))
-  place-kept low r a b = record {
-    kept = λ k. added places p (omega (arith, w .first)) k ∙ or-swap (eqb k p) (member places k);
-    waits = waiting;
-    words = record { first = length-set places (p / 64) _ ∙ w .first; second = length-set pending (p / 64) _ ∙ w .second };
-    lower = a;
-    below = λ k h. ne-eqb k p (λ e. omega arith);
+  pub place-kept : (places places′ : List ℕ) → Inserted p places places′ → PlacesKept (λ k. eqb k p) marks (bitOr marks (one (p / 64))) places places′
+  place-kept places places′ x = record {
+    kept = x .members;
+    long = x .long;
+    marked = λ gone m. record {
+      words = λ i h. by-or (bit marks i) (eqb i (p / 64)) (subst T (marks-or i) h) (λ u. m .words i u) (λ u. let e = eqb→eq i (p / 64) u in omega arith);
+      marked = λ k h. subst T (sym (marks-or (k / 64)))
+          (by-or (waits places gone k) (eqb k p) (waits-or (member places k) (eqb k p) (gone k) (subst (λ (b : Bool). T (b && not (gone k))) (x .members k) h))
+          (λ u. or-left (bit marks (k / 64)) _ (m .marked k u))
+          (λ u. or-right (bit marks (k / 64)) _ (holds _ (eq-eqb (k / 64) (p / 64) (ap (λ (i : ℕ). i / 64) (eqb→eq k p u))))));
+    };
   }
+
+-- ---- the marks
+
+pub without-it : (marks i : ℕ) → i < 64 → (k : ℕ) → bit (bitXor (bitOr marks (one i)) (one i)) k ≡ not (eqb k i) && bit marks k
+without-it marks i l k =
+    bit-xor (bitOr marks (one i)) (one i) k
+    ∙ ap (λ (b : Bool). differs b (bit (one i) k)) (bit-or marks (one i) k)
+    ∙ ap (λ (b : Bool). differs (bit marks k || b) b) (bit-one i k l)
+    ∙ clears (bit marks k) (eqb k i)
+
+-- n marks, all of them
+unfoldable ones : ℕ → ℕ
+ones zero = 0
+ones (suc n) = 2 * ones n + 1
+
+ones-in : (n k : ℕ) → k < n → bit (ones n) k ≡ true
+unfolding ones
+ones-in zero k l = absurd (omega arith)
+ones-in (suc n) zero l = bit-low (2 * ones n + 1) ∙ eq-eqb ((2 * ones n + 1) % 2) 1 (omega arith)
+ones-in (suc n) (suc k) l = bit-suc (2 * ones n + 1) k ∙ ap (λ (w : ℕ). bit w k) (let e : (2 * ones n + 1) / 2 ≡ ones n = omega arith in e) ∙ ones-in n k (omega arith)
+
+ones-out : (n k : ℕ) → n ≤ k → bit (ones n) k ≡ false
+unfolding ones
+ones-out zero k l = bit-zero k
+ones-out (suc n) zero l = absurd (omega arith)
+ones-out (suc n) (suc k) l = bit-suc (2 * ones n + 1) k ∙ ap (λ (w : ℕ). bit w k) (let e : (2 * ones n + 1) / 2 ≡ ones n = omega arith in e) ∙ ones-out n k (omega arith)
+
+-- at first every word is marked
+pub all-marked : (places : List ℕ) (gone : ℕ → Bool) → ((k : ℕ) → T (member places k) → k < 1024) → Marked places gone 65535
+unfolding ones
+all-marked places gone inside = record {
+  words = λ i h. go i h (decLt i 16);
+  marked = λ k h. let l = inside k (and-left (member places k) (not (gone k)) h) in holds _ (ones-in 16 (k / 64) (omega arith));
+}
+  where
+    go : (i : ℕ) → T (bit 65535 i) → Dec (i < 16) → i < 16
+    go i h (yes l) = l
+    go i h (no l) = absurd (fails _ (ones-out 16 i (omega arith)) h)
+
+-- ---- the lowest pending place
+
+not-waits : (a g : Bool) → (T g → T a) → differs a g ≡ a && not g
+not-waits true g h = refl
+not-waits false true h = absurd (h tt)
+not-waits false false h = refl
+
+module _ (places gone : List ℕ) (part : (k : ℕ) → T (member gone k) → T (member places k)) where
+  -- a bit of the word that the code looks at
+  waits-at : (i z : ℕ) → z < 64 → bit (bitXor (getD places i 0) (getD gone i 0)) z ≡ waits places (member gone) (i * 64 + z)
+  waits-at i z l =
+      bit-xor (getD places i 0) (getD gone i 0) z
+      ∙ sym (ap₂ differs (member-at places i z l) (member-at gone i z l))
+      ∙ not-waits (member places (i * 64 + z)) (member gone (i * 64 + z)) (part (i * 64 + z))
+
+  module _ (marks : ℕ) (m : Marked places (member gone) marks) where
+    unmarked : (k : ℕ) → bit marks (k / 64) ≡ false → waits places (member gone) k ≡ false
+    unmarked k e = is-false _ (λ h. fails _ e (m .marked k h))
+
+    pub lowest-none : IsLowest 64 (bit marks) Nothing → LowestPending places gone marks Nothing
+    lowest-none none = record { lowest = λ k l. unmarked k (none (k / 64) (omega arith)); marked = m }
+
+    module _ (i : ℕ) (first : IsLowest 64 (bit marks) (At i)) where
+      pub first-word : i < 16
+      first-word = m .words i (holds _ (first .1))
+
+      -- nothing is pending below word i, nor below z in it
+      below : (z : ℕ) → z ≤ 64 → ((k : ℕ) → k < z → bit (bitXor (getD places i 0) (getD gone i 0)) k ≡ false) → (k : ℕ) → k < i * 64 + z → waits places (member gone) k ≡ false
+      below z l none k h = go (decLt k (i * 64))
+        where
+          go : Dec (k < i * 64) → waits places (member gone) k ≡ false
+          go (yes q) = unmarked k (first .2 (k / 64) (omega arith))
+          go (no q) =
+              let e : i * 64 + (k - i * 64) ≡ k = omega arith in
+              subst (λ (x : ℕ). waits places (member gone) x ≡ false) e (sym (waits-at i (k - i * 64) (omega arith)) ∙ none (k - i * 64) (omega arith))
+
+      pub lowest-at : (z : ℕ) → IsLowest 64 (bit (bitXor (getD places i 0) (getD gone i 0))) (At z) → LowestPending places gone marks (At (i * 64 + z))
+      lowest-at z h = record {
+        lowest = (omega (arith, first-word, h .0), sym (waits-at i z (h .0)) ∙ h .1, below z (omega (arith, h .0)) (h .2));
+        marked = m;
+      }
+
+      module _ (none : IsLowest 64 (bit (bitXor (getD places i 0) (getD gone i 0))) Nothing) (marks′ : ℕ) (out : (k : ℕ) → bit marks′ k ≡ not (eqb k i) && bit marks k) where
+        pub marks-less : Marked places (member gone) marks′
+        marks-less = record {
+          words = λ j h. m .words j (and-right (not (eqb j i)) (bit marks j) (subst T (out j) h));
+          marked = λ k h. subst T (sym (out (k / 64))) (other k h (eqb (k / 64) i) refl);
+        }
+          where
+            other : (k : ℕ) → T (waits places (member gone) k) → (b : Bool) → eqb (k / 64) i ≡ b → T (not b && bit marks (k / 64))
+            other k h true e = absurd (let q = eqb-true (k / 64) i e in fails _ (below 64 (omega arith) none k (omega arith)) h)
+            other k h false e = m .marked k h
+
+        pub marks-fewer : countBelow (bit marks′) 64 < countBelow (bit marks) 64
+        marks-fewer =
+            count-less (bit marks′) (bit marks) 64 i (first .0) (λ k e. is-true _ (and-right (not (eqb k i)) (bit marks k) (holds _ (sym (out k) ∙ e))))
+            (out i ∙ ap (λ (b : Bool). not b && bit marks i) (eq-eqb i i refl)) (first .1)

@@ -1,32 +1,35 @@
--- What a step does to the kept places and the pending ones, as sets of sixteen words. Assumes nothing.
-use Prim.Native.Nat.{ℕ, _*_, _≤_, _<_}
-use mathlib.Core.Bool.{Bool, false, not, _&&_, _||_}
+-- What a step does to the kept places and to the marks, one bit for each of sixteen words. Assumes nothing.
+use Prim.Native.Nat.{ℕ, _/_, _<_}
+use mathlib.Core.Bool.{Bool, not, _&&_, _||_}
 use mathlib.Core.List.{List}
 use mathlib.Core.Path.{_≡_}
-use lib.Dec.{eqb}
+use lib.Dec.{T, eqb}
 use lib.ListN.{length}
-use Rattle.sets.specs.Member.{member}
+use Rattle.sets.specs.Member.{bit, member}
+use Rattle.sets.specs.Lowest.{IsLowest}
+use Rattle.sets.specs.declared.Found.{Found}
 
 -- r is the set w with n
 pub record Inserted (n : ℕ) (w r : List ℕ) : Type 0 where
   pub members : (k : ℕ) → member r k ≡ member w k || eqb k n
   pub long : length r ≡ 16
 
--- r is the set w without n
-pub record Removed (n : ℕ) (w r : List ℕ) : Type 0 where
-  pub members : (k : ℕ) → member r k ≡ not (eqb k n) && member w k
-  pub long : length r ≡ 16
+-- "A kept place is pending until its transitions have been gone through": k is kept, and not among those gone through
+abbrev pub waits : List ℕ → (ℕ → Bool) → ℕ → Bool
+waits places gone k = member places k && not (gone k)
 
--- two sets of sixteen words
-pub record Words (a b : List ℕ) : Type 0 where
-  pub first : length a ≡ 16
-  pub second : length b ≡ 16
+-- only words of the sixteen are marked, and every word that has a pending place is
+pub record Marked (places : List ℕ) (gone : ℕ → Bool) (marks : ℕ) : Type 0 where
+  pub words : (i : ℕ) → T (bit marks i) → i < 16
+  pub marked : (k : ℕ) → T (waits places gone k) → T (bit marks (k / 64))
 
--- "A kept place is pending until its transitions have been gone through": the places `new` are kept, and those not kept before are pending;
--- no word below r, and none but those from `low` on, has one of them
-pub record PlacesKept (new : ℕ → Bool) (low r : ℕ) (places pending places′ pending′ : List ℕ) : Type 0 where
+-- the places `new` are kept, and their words are marked
+pub record PlacesKept (new : ℕ → Bool) (marks marks′ : ℕ) (places places′ : List ℕ) : Type 0 where
   pub kept : (k : ℕ) → member places′ k ≡ member places k || new k
-  pub waits : (k : ℕ) → member pending′ k ≡ member pending k || new k && not (member places k)
-  pub words : Words places′ pending′
-  pub lower : r ≤ low
-  pub below : (k : ℕ) → k < r * 64 → new k ≡ false
+  pub long : length places′ ≡ 16
+  pub marked : (gone : ℕ → Bool) → Marked places gone marks → Marked places′ gone marks′
+
+-- r is the lowest pending place, and what is marked now is right too
+pub record LowestPending (places gone : List ℕ) (marks′ : ℕ) (r : Found) : Type 0 where
+  pub lowest : IsLowest 1024 (waits places (member gone)) r
+  pub marked : Marked places (member gone) marks′

@@ -1,12 +1,11 @@
-// Sets of places lent as sixteen 64-bit words: kept places, and those of them that are pending.
+// Sets of places lent as sixteen 64-bit words: kept places, and those of them whose transitions have been gone through.
 ghost use mathlib.Core.Path.{_≡_};
-ghost use mathlib.Core.Bool.{false};
-ghost use Prim.Native.Nat.{ℕ, _*_, _≤_, _<_};
-ghost use lib.Dec.{eqb};
+ghost use mathlib.Core.Bool.{not, _&&_};
+ghost use Prim.Native.Nat.{ℕ, _<_};
+ghost use lib.Dec.{T, eqb};
 ghost use lib.ListN.{length};
-ghost use Rattle.sets.specs.Member.{member};
-ghost use Rattle.sets.specs.Lowest.{IsLowest};
-ghost use Rattle.pending.specs.Growing.{Inserted, Removed, Words, PlacesKept};
+ghost use Rattle.sets.specs.Member.{bit, member};
+ghost use Rattle.pending.specs.Growing.{Inserted, Marked, PlacesKept, LowestPending};
 use sets::Found;
 
 // Adds n to a set.
@@ -18,47 +17,38 @@ pub fn insert(words: &mut [u64; 16], n: usize)
     words[i] = words[i] | (1u64 << (n % 64));
 }
 
-// Takes n out of a set.
-pub fn remove(words: &mut [u64; 16], n: usize)
-    requires { ⌜ (n < 1024) × (length (now words) ≡ 16) ⌝ }
-    ensures { λ _. ⌜ Removed n (now (words .entry)) (now (words .exit)) ⌝ }
+// Keeps the place p, and marks its word: only marked words may have a pending place.
+pub fn keep(places: &mut [u64; 16], marks: u64, p: usize) -> u64
+    requires { ⌜ (p < 1024) × (length (now places) ≡ 16) ⌝ }
+    ensures { λ r. ⌜ PlacesKept (λ k. eqb k p) marks (r) (now (places .entry)) (now (places .exit)) ⌝ }
 {
-    let i = n / 64;
-    let bit = 1u64 << (n % 64);
-    words[i] = (words[i] | bit) ^ bit;
+    insert(places, p);
+    marks | (1u64 << (p / 64))
 }
 
-fn smaller(a: usize, b: usize) -> usize
-    ensures { λ r. ⌜ (r ≤ a) × (r ≤ b) ⌝ }
+// The marks without word i.
+fn without(marks: u64, i: usize) -> u64
+    requires { ⌜ i < 64 ⌝ }
+    ensures { λ r. ⌜ ((k : ℕ) → bit r k ≡ not (eqb k i) && bit marks k) ⌝ }
 {
-    if a < b { a } else { b }
+    let bit = 1u64 << i;
+    (marks | bit) ^ bit
 }
 
-// Keeps the place p: a place that is new is pending. Below the word answered no place is newly pending.
-pub fn keep(places: &mut [u64; 16], pending: &mut [u64; 16], low: usize, p: usize) -> usize
-    requires { ⌜ (p < 1024) × Words (now places) (now pending) ⌝ }
-    ensures { λ r. ⌜ PlacesKept (λ k. eqb k p) low (r) (now (places .entry)) (now (pending .entry)) (now (places .exit)) (now (pending .exit)) ⌝ }
+// The lowest pending place: kept, and not gone through. Words without one lose their mark.
+pub fn lowest(places: &[u64; 16], gone: &[u64; 16], marks: &mut u64) -> Found
+    requires { ⌜ ((k : ℕ) → T (member (now gone) k) → T (member (now places) k)) × Marked (now places) (member (now gone)) (now marks) ⌝ }
+    ensures { λ r. ⌜ LowestPending (now (places .entry)) (now (gone .entry)) (now (marks .exit)) (r) ⌝ }
 {
-    let i = p / 64;
-    let old = places[i];
-    let more = old | (1u64 << (p % 64));
-    places[i] = more;
-    pending[i] = pending[i] | (more ^ old);
-    smaller(low, i)
-}
-
-// The lowest member, where no word below `low` has one.
-pub fn lowest_from(words: &[u64; 16], low: usize) -> Found
-    requires { ⌜ ((k : ℕ) → k < low * 64 → member (now words) k ≡ false) ⌝ }
-    ensures { λ r. ⌜ IsLowest 1024 (member (now (words .entry))) r ⌝ }
-{
-    let mut i = low;
-    while i < 16 {
-        let here = sets::lowest_bit(words[i]);
+    loop {
+        let first = sets::lowest_bit(*marks);
+        let Found::At(i) = first else {
+            return Found::Nothing;
+        };
+        let here = sets::lowest_bit(places[i] ^ gone[i]);
         if let Found::At(z) = here {
             return Found::At(i * 64 + z);
         }
-        i += 1;
+        *marks = without(*marks, i);
     }
-    Found::Nothing
 }

@@ -1,114 +1,139 @@
 -- Laws of the loop that takes the lowest pending place: it ends, and then nothing is pending. Assumes nothing.
-use Prim.Native.Nat.{ℕ, zero, suc, _+_, _*_, _-_, _/_, _≤_, _<_}
-use mathlib.Core.Bool.{Bool, true, false, not, _&&_, _||_}
+use Prim.Native.Nat.{ℕ, _<_}
+use mathlib.Core.Bool.{Bool, true, false, not, _&&_, _||_, or-false}
 use mathlib.Core.List.{List}
 use mathlib.Core.Logic.{_≢_}
-use mathlib.Core.Path.{_≡_, refl, sym, ap, ap₂, _∙_, subst}
+use mathlib.Core.Path.{_≡_, refl, sym, ap, _∙_, subst}
 use native.Mathlib.Omega.{arith}
-use native.Mathlib.Decide.{ℕ-discrete}
-use lib.Dec.{T, eqb}
-use lib.ListN.{length}
-use borrow.Author.Tests.{eq-eqb, ne-eqb, eqb-true}
+use native.Mathlib.Decide.{decLt}
+use lib.Dec.{T, eqb, eqb→eq, not-T, T-not}
+use lib.ListN.{length, replicate}
+use borrow.Author.Tests.{eq-eqb, ne-eqb}
 use Rattle.net.specs.Cut.{Growth}
-use Rattle.net.proofs.Numbers.{holds, fails, and-right}
+use Rattle.net.proofs.Numbers.{by-or, holds, fails, is-true, is-false, and-left, and-right, and-both, or-left, or-right}
 use Rattle.net.proofs.Worklist.{Searching, search-take}
+use Rattle.file.specs.Facts.{Sound}
 use Rattle.file.specs.declared.Header.{Header}
-use Rattle.sets.specs.Member.{member, digit, countBelow}
+use Rattle.sets.specs.Member.{member, countBelow}
 use Rattle.sets.specs.Lowest.{IsLowest}
 use Rattle.sets.specs.declared.Found.the-variants.{At, Nothing}
-use Rattle.pending.specs.Growing.{Removed}
+use Rattle.sets.proofs.Members.{none}
+use Rattle.pending.specs.Growing.{Inserted, waits, Marked}
+use Rattle.pending.proofs.Counting.{count-less}
+use Rattle.pending.proofs.Laws.{all-marked}
 use Rattle.search.specs.Search
-use Rattle.search.proofs.Turns.{search-between}
 
--- ---- counts
+-- ---- the search between two places
 
-digit-le : (a b : Bool) → (a ≡ true → b ≡ true) → digit a ≤ digit b
-digit-le true true h = omega arith
-digit-le true false h = absurd (let z : _≡_ {A = ℕ} 0 1 = cc (h refl) in omega arith)
-digit-le false b h = omega arith
+module _ (G : Growth) (K D R : ℕ → Bool) where
+  -- the same places are pending
+  search-as : (D′ : ℕ → Bool) (f i : ℕ) → ((k : ℕ) → D k ≡ D′ k) → Searching G K D R f i → Searching G K D′ R f i
+  search-as D′ f i same s = record {
+    K-kept = s .K-kept;
+    R-kept = s .R-kept;
+    pending-kept = λ p h. s .pending-kept p (subst T (sym (same p)) h);
+    criterion-in = s .criterion-in;
+    needed-in = s .needed-in;
+    drawn-in = λ p t h o. s .drawn-in p t h (λ d. o (subst T (same p) d));
+  }
 
-count-le : (f g : ℕ → Bool) (n : ℕ) → ((k : ℕ) → f k ≡ true → g k ≡ true) → countBelow f n ≤ countBelow g n
-unfolding countBelow
-count-le f g zero h = omega arith
-count-le f g (suc n) h = omega (arith, count-le f g n h, digit-le (f n) (g n) (h n))
-
--- one more passes g
-count-less : (f g : ℕ → Bool) (n p : ℕ) → p < n → ((k : ℕ) → f k ≡ true → g k ≡ true) → f p ≡ false → g p ≡ true → countBelow f n < countBelow g n
-unfolding countBelow
-count-less f g zero p l h e e′ = absurd (omega arith)
-count-less f g (suc n) p l h e e′ = go (ℕ-discrete p n) (λ q. count-less f g n p q h e e′)
-  where
-    go : Dec (p ≡ n) → (p < n → countBelow f n < countBelow g n) → countBelow f n + digit (f n) < countBelow g n + digit (g n)
-    go (yes q) rest = omega (arith, count-le f g n h, ap digit (subst (λ (k : ℕ). f k ≡ false) q e), ap digit (subst (λ (k : ℕ). g k ≡ true) q e′))
-    go (no q) rest = omega (arith, rest (omega arith), digit-le (f n) (g n) (h n))
-
--- the measure: how many numbers are not places gone through
-unfoldable pub toGo : List ℕ → List ℕ → ℕ
-toGo places pending = countBelow (λ k. not (member places k && not (member pending k))) 1024
+  -- a place that is gone through does not matter any more
+  search-between : (f g : ℕ) → Searching G K D R f (G .transitions) → Searching G K D R g (G .transitions)
+  search-between f g s = record {
+    K-kept = s .K-kept;
+    R-kept = s .R-kept;
+    pending-kept = s .pending-kept;
+    criterion-in = s .criterion-in;
+    needed-in = s .needed-in;
+    drawn-in = λ p t h o a l d. s .drawn-in p t h o (λ e. l) l d;
+  }
 
 -- ---- the loop
 
-pub record Closing (s : List ℕ) (h : Header) (head next : List ℕ) (low : ℕ) (places transitions pending places′ transitions′ pending′ : List ℕ) : Type 0 where
-  pub sets : Search.Sets places′ transitions′ pending′
-  pub below : (k : ℕ) → k < low * 64 → member pending′ k ≡ false
-  pub inside : Search.Inside (h .places) places′ pending′
-  pub search : (G : Growth) → Search.Grows G s h head next → Search.At G places transitions pending 0 (G .transitions) → Search.At G places′ transitions′ pending′ 0 (G .transitions)
+-- the measure: how many numbers are not gone through
+unfoldable pub toGo : List ℕ → ℕ
+toGo gone = countBelow (λ k. not (member gone k)) 1024
 
-pub closing-none : (s : List ℕ) (h : Header) (head next places transitions pending : List ℕ) → Search.Sets places transitions pending → Search.Inside (h .places) places pending
-    → Closing s h head next 0 places transitions pending places transitions pending
-closing-none s h head next places transitions pending w i = record { sets = w; below = λ k l. absurd (omega arith); inside = i; search = λ G g at. at }
+-- the places of `gone` are gone through
+pub record Closing (s : List ℕ) (h : Header) (all : Bool) (both : List ℕ) (marks : ℕ) (places transitions P R gone : List ℕ) : Type 0 where
+  pub sets : Search.Sets P R
+  pub long : length gone ≡ 16
+  pub inside : (k : ℕ) → T (member P k) → k < h .places
+  pub part : (k : ℕ) → T (member gone k) → T (member P k)
+  pub marked : Marked P (member gone) marks
+  pub search : (G : Growth) → Search.Grows G s h all both → Searching G (member places) (member places) (member transitions) 0 (G .transitions) → Search.At G P (member gone) R 0 (G .transitions)
 
-and-false : (a b : Bool) → b ≡ false → a && b ≡ false
-and-false true b e = e
-and-false false b e = refl
+not-gone : (a g : Bool) → g ≡ false → a ≡ a && not g
+not-gone true g e = ap not (sym e)
+not-gone false g e = refl
 
-module _ (s : List ℕ) (h : Header) (head next : List ℕ) (low : ℕ) (places transitions pending P R D : List ℕ) (x : Closing s h head next low places transitions pending P R D)
-    (p : ℕ) (lowest : IsLowest 1024 (member D) (At p)) where
-  -- the place found is kept, and is a place of the net
-  pub found-kept : T (member P p)
-  found-kept = x .inside p (holds (member D p) (lowest .1)) .0
+module _ (s : List ℕ) (h : Header) (sound : Sound s h) (all : Bool) (both places transitions : List ℕ) where
+  pub closing-none : Search.Sets places transitions → ((k : ℕ) → T (member places k) → k < h .places) → Closing s h all both 65535 places transitions places transitions (replicate 16 0)
+  closing-none w inside = record {
+    sets = w;
+    long = refl;
+    inside = inside;
+    part = λ k m. absurd (fails _ (none k) m);
+    marked = all-marked places (member (replicate 16 0)) (λ k m. omega (arith, inside k m, sound .placed .places));
+    search = λ G g at. search-as G (member places) (member places) (member transitions) _ 0 (G .transitions) (λ k. not-gone (member places k) (member (replicate 16 0) k) (none k)) at;
+  }
 
-  pub found-below : p < h .places
-  found-below = x .inside p (holds (member D p) (lowest .1)) .1
-
-  module _ (D₁ : List ℕ) (out : Removed p D D₁) (r : ℕ) (P′ R′ D′ : List ℕ) (y : Search.Turned s h head next p r P R D₁ P′ R′ D′) where
-    out-here : member D₁ p ≡ false
-    out-here = out .members p ∙ ap (λ (b : Bool). not b && member D p) (eq-eqb p p refl)
-
-    out-other : (q : ℕ) → q ≢ p → member D₁ q ≡ member D q
-    out-other q n = out .members q ∙ ap (λ (b : Bool). not b && member D q) (ne-eqb q p n)
-
-    pub closing-more : Closing s h head next r places transitions pending P′ R′ D′
-    closing-more = record {
-      sets = y .sets;
-      below = λ k l. y .below k l ∙ out .members k ∙ and-false (not (eqb k p)) (member D k) (lowest .2 k (omega (arith, y .lower)));
-      inside = y .inside (λ k d. x .inside k (and-right (not (eqb k p)) (member D k) (subst T (out .members k) d)));
-      search = λ G g at.
-          search-between G (member P′) (member D′) (member R′) p 0
-          (y .search G g found-kept (search-take G (member P) (member D) (member R) 0 (G .transitions) (x .search G g at) (omega arith) (member D₁) p out-other (fails (member D₁ p) out-here)));
+  module _ (marks : ℕ) (P R gone : List ℕ) (x : Closing s h all both marks places transitions P R gone) where
+    pub closing-end : IsLowest 1024 (waits P (member gone)) Nothing → Search.Closed s h all both places transitions P R
+    closing-end nothing = record {
+      sets = x .sets;
+      search = λ G g at. search-as G (member P) (waits P (member gone)) (member R) (λ k. false) 0 (G .transitions) (λ k. still k (decLt k 1024)) (x .search G g at);
     }
-
-    fewer : (a e b : Bool) → not (a && not (not e && b)) ≡ true → not (a && not b) ≡ true
-    fewer true true b q = absurd (let z : _≡_ {A = ℕ} 0 1 = cc in omega arith)
-    fewer true false b q = q
-    fewer false e b q = refl
-
-    pub closing-less : toGo P′ D′ < toGo P D
-    unfolding toGo
-    closing-less =
-        count-less (λ k. not (member P′ k && not (member D′ k))) (λ k. not (member P k && not (member D k))) 1024 p (lowest .0)
-        (λ k q. fewer (member P k) (eqb k p) (member D k) (ap (λ (b : Bool). not (member P k && not b)) (sym (out .members k)) ∙ ap not (sym (y .same-gone k)) ∙ q))
-        (ap not (y .same-gone p) ∙ ap₂ (λ (a b : Bool). not (a && not b)) (kept-true (member P p) found-kept) out-here)
-        (ap (λ (b : Bool). not (member P p && not b)) (lowest .1) ∙ not-both (member P p))
       where
-        kept-true : (a : Bool) → T a → a ≡ true
-        kept-true true u = refl
-        kept-true false u = absurd u
+        still : (k : ℕ) → Dec (k < 1024) → waits P (member gone) k ≡ false
+        still k (yes l) = nothing k l
+        still k (no l) = is-false _ (λ u. let i = x .inside k (and-left (member P k) (not (member gone k)) u) in let b = sound .placed .places in omega arith)
 
-        not-both : (a : Bool) → not (a && false) ≡ true
-        not-both true = refl
-        not-both false = refl
+    module _ (p : ℕ) (lowest : IsLowest 1024 (waits P (member gone)) (At p)) where
+      p-waits : T (waits P (member gone) p)
+      p-waits = holds _ (lowest .1)
 
-pub closing-end : (s : List ℕ) (h : Header) (head next : List ℕ) (low : ℕ) (places transitions pending P R D : List ℕ) → Closing s h head next low places transitions pending P R D
-    → IsLowest 1024 (member D) Nothing → Search.Closed s h head next places transitions pending P R D
-closing-end s h head next low places transitions pending P R D x none = record { sets = x .sets; none = none; search = x .search }
+      p-kept : T (member P p)
+      p-kept = and-left (member P p) (not (member gone p)) p-waits
+
+      pub found-below : p < h .places
+      found-below = x .inside p p-kept
+
+      module _ (gone′ : List ℕ) (put : Inserted p gone gone′) where
+        has-it : T (member gone′ p)
+        has-it = subst T (sym (put .members p)) (or-right (member gone p) (eqb p p) (holds _ (eq-eqb p p refl)))
+
+        other : (q : ℕ) → q ≢ p → member gone′ q ≡ member gone q
+        other q n = put .members q ∙ ap (λ (b : Bool). member gone q || b) (ne-eqb q p n) ∙ or-false (member gone q)
+
+        more : (k : ℕ) → T (member gone k) → T (member gone′ k)
+        more k u = subst T (sym (put .members k)) (or-left (member gone k) (eqb k p) u)
+
+        fewer : (k : ℕ) → T (not (member gone′ k)) → T (not (member gone k))
+        fewer k u = not-T (member gone k) (λ v. T-not (member gone′ k) u (more k v))
+
+        pub closing-less : toGo gone′ < toGo gone
+        unfolding toGo
+        closing-less =
+            count-less (λ k. not (member gone′ k)) (λ k. not (member gone k)) 1024 p (lowest .0) (λ k e. is-true (not (member gone k)) (fewer k (holds (not (member gone′ k)) e)))
+            (ap not (is-true (member gone′ p) has-it)) (is-true (not (member gone p)) (and-right (member P p) (not (member gone p)) p-waits))
+
+        part′ : (k : ℕ) → T (member gone′ k) → T (member P k)
+        part′ k u = by-or (member gone k) (eqb k p) (subst T (put .members k) u) (x .part k) (λ e. subst (λ (q : ℕ). T (member P q)) (sym (eqb→eq k p e)) p-kept)
+
+        pub closing-more : (m m′ : ℕ) → Marked P (member gone) m → (P′ R′ : List ℕ) → Search.Turned s h all both p m m′ P R P′ R′ → Closing s h all both m′ places transitions P′ R′ gone′
+        closing-more m m′ marked P′ R′ y = record {
+          sets = y .grown .sets;
+          long = put .long;
+          inside = y .grown .inside (x .inside);
+          part = λ k u. y .grown .more-places k (part′ k u);
+          marked = y .grown .marked (member gone′) (record {
+            words = marked .words;
+            marked = λ k u. marked .marked k (and-both (member P k) (not (member gone k)) (and-left (member P k) (not (member gone′ k)) u) (fewer k (and-right (member P k) (not (member gone′ k)) u)));
+          });
+          search = λ G g at.
+              search-between G (member P′) (waits P′ (member gone′)) (member R′) p 0
+              (y .search G g (member gone′) part′ p-kept
+              (search-take G (member P) (waits P (member gone)) (member R) 0 (G .transitions) (x .search G g at) (omega arith) (waits P (member gone′)) p
+              (λ q n. ap (λ (b : Bool). member P q && not b) (other q n)) (λ u. T-not (member gone′ p) (and-right (member P p) (not (member gone′ p)) u) has-it)));
+        }

@@ -1,27 +1,26 @@
--- Laws of a turn: the rows of a place are followed, and every transition that it draws in is kept. Assumes nothing.
-use Prim.Native.Nat.{ℕ, zero, suc, _+_, _*_, _-_, _/_, _≤_, _<_}
+-- Laws of a turn: the two rows of a place are followed, and every transition that it draws in is kept. Assumes nothing.
+use Prim.Native.Nat.{ℕ, zero, suc, _+_, _*_, _-_, _/_, _%_, _≤_, _<_}
 use mathlib.Core.Bool.{Bool, true, false, not, _&&_, _||_}
 use mathlib.Core.List.{List}
-use mathlib.Core.Logic.{_⊎_, inl, inr}
-use mathlib.Core.Path.{_≡_, refl, sym, ap, ap₂, _∙_, subst}
+use mathlib.Core.Path.{_≡_, refl, sym, ap, _∙_, subst}
 use native.Mathlib.Omega.{arith}
-use native.Mathlib.Decide.{ℕ-discrete, decLt}
-use lib.Dec.{T, eqb, eqb→eq, ltb, not-T}
-use lib.ListN.{length, getD}
+use native.Mathlib.Decide.{decLt}
+use lib.Dec.{T, eqb, eqb→eq}
+use lib.ListN.{getD}
 use borrow.Author.Tests.{eq-eqb, eqb-true, eqb-false, ltb-true}
-use Rattle.net.specs.Net.{weightOn, input, takesFrom}
-use Rattle.net.specs.Numbers.{among}
-use Rattle.net.specs.Cut.{Growth, KeptPlace, criterion, needed, KeptTransition, drawn}
+use Rattle.net.specs.Net.{weightOn, input, output, takesFrom}
+use Rattle.net.specs.Cut.{Growth, criterion, needed, KeptTransition, drawn}
 use Rattle.net.proofs.Numbers.{by-cases, by-or, holds, fails, is-true, not-not, and-left, and-right, and-both, or-left, or-right}
 use Rattle.net.proofs.Worklist.{Searching}
-use Rattle.file.specs.Layout.{arcAt, netFrom}
+use Rattle.file.specs.Layout.{netFrom}
 use Rattle.file.specs.Facts.{Sound}
 use Rattle.file.specs.declared.Header.{Header}
 use Rattle.sets.specs.Member.{member}
-use Rattle.pending.specs.Growing.{Words, PlacesKept}
-use Rattle.gain.specs.Ways.{placeAt, transitionAt}
-use Rattle.index.specs.Rows.{Last, Rows, Starts}
-use Rattle.gain.proofs.Arcs.{good-at, has-arc}
+use Rattle.starts.specs.Table.{slotAt, Split}
+use Rattle.starts.proofs.Reached.{ordered, good-at}
+use Rattle.pending.specs.Growing.{waits}
+use Rattle.rows.specs.Rows.{transitionAt, directionAt, placeAt, moves, Last, Rows}
+use Rattle.gain.proofs.Arcs.{JoinsBelow, has-arc}
 use Rattle.search.specs.Search
 
 -- ---- the search, while the rows of the place f are followed in any order
@@ -69,162 +68,273 @@ module _ (G : Growth) (K D R : ℕ → Bool) (f : ℕ) (s : Searching G K D R f 
         (λ e. s .drawn-in p t h o (λ y. absurd (eqb-false p f e y)) l d);
   }
 
--- a place that is gone through does not matter any more
-pub search-between : (G : Growth) (K D R : ℕ → Bool) (f g : ℕ) → Searching G K D R f (G .transitions) → Searching G K D R g (G .transitions)
-search-between G K D R f g s = record {
-  K-kept = s .K-kept;
-  R-kept = s .R-kept;
-  pending-kept = s .pending-kept;
-  criterion-in = s .criterion-in;
-  needed-in = s .needed-in;
-  drawn-in = λ p t h o a l d. s .drawn-in p t h o (λ e. l) l d;
+-- ---- what grows
+
+pub grown-none : (h : Header) (marks : ℕ) (places transitions : List ℕ) → Search.Sets places transitions → Search.Grown h marks marks places transitions places transitions
+grown-none h marks places transitions w = record {
+  sets = w;
+  more-places = λ k m. m;
+  more-transitions = λ k m. m;
+  inside = λ i. i;
+  marked = λ gone m. m;
 }
 
--- ---- the loop along the rows of p
+pub grown-join : (h : Header) (m m′ m″ : ℕ) (P R P′ R′ P″ R″ : List ℕ) → Search.Grown h m m′ P R P′ R′ → Search.Grown h m′ m″ P′ R′ P″ R″ → Search.Grown h m m″ P R P″ R″
+grown-join h m m′ m″ P R P′ R′ P″ R″ x y = record {
+  sets = y .sets;
+  more-places = λ k u. y .more-places k (x .more-places k u);
+  more-transitions = λ k u. y .more-transitions k (x .more-transitions k u);
+  inside = λ i. y .inside (x .inside i);
+  marked = λ gone u. y .marked gone (x .marked gone u);
+}
 
--- the search stands between two rows: x leads to an arc that p draws, and what the arcs from x on draw is kept, save that of x's own
-pub record Following (G : Growth) (s : List ℕ) (h : Header) (p x : ℕ) (places transitions pending : List ℕ) : Type 0 where
-  pub at : Search.At G places transitions pending p 0
-  pub kept : T (member places p)
-  pub leads-at : (j : ℕ) → x ≡ suc j → placeAt s (h .arcstart) j ≡ p
-  pub leads-draws : (j : ℕ) → x ≡ suc j → T (G .draws p (transitionAt s (h .arcstart) j))
-  pub seen : (k : ℕ) → x ≤ k → k < h .arcs → placeAt s (h .arcstart) k ≡ p → T (G .draws p (transitionAt s (h .arcstart) k))
-      → T (member transitions (transitionAt s (h .arcstart) k)) ⊎ ((0 < x) × (transitionAt s (h .arcstart) k ≡ transitionAt s (h .arcstart) (x - 1)))
-
-pub record Turning (s : List ℕ) (h : Header) (head next : List ℕ) (p r x : ℕ) (places transitions pending places′ transitions′ pending′ : List ℕ) : Type 0 where
-  pub sets : Search.Sets places′ transitions′ pending′
-  pub within : x ≤ h .arcs
-  pub lower : r ≤ p / 64
-  pub below : (k : ℕ) → k < r * 64 → member pending′ k ≡ member pending k
-  pub same-gone : (k : ℕ) → (member places′ k && not (member pending′ k)) ≡ (member places k && not (member pending k))
-  pub inside : Search.Inside (h .places) places pending → Search.Inside (h .places) places′ pending′
-  pub search : (G : Growth) → Search.Grows G s h head next → T (member places p) → Search.At G places transitions pending p 0 → Following G s h p x places′ transitions′ pending′
+-- ---- rows
 
 -- an input place is a place of the file
-pub takes-inside : (s : List ℕ) (h : Header) → Sound s h → (t p : ℕ) → T (takesFrom (netFrom s h) t p) → p < h .places
+takes-inside : (s : List ℕ) (h : Header) → Sound s h → (t p : ℕ) → T (takesFrom (netFrom s h) t p) → p < h .places
 unfolding takesFrom input
 takes-inside s h sound t p x =
     let j = has-arc 0 p t s (h .arcstart) (h .arcs) (ltb-true 0 (weightOn 0 p t (netFrom s h .arcs)) (is-true _ x)) in
     omega (arith, j .joins-it .place, good-at s h sound (j .at) (j .below) .place)
 
-gone-same : (k d n : Bool) → ((k || n) && not (d || n && not k)) ≡ (k && not d)
-gone-same true true true = refl
-gone-same true true false = refl
-gone-same true false true = refl
-gone-same true false false = refl
-gone-same false true true = refl
-gone-same false true false = refl
-gone-same false false true = refl
-gone-same false false false = refl
+-- a transition that moves p has an arc at p in that direction
+moves-arc : (s : List ℕ) (h : Header) (d p t : ℕ) → d ≤ 1 → T (moves (netFrom s h) d p t) → JoinsBelow d p t s (h .arcstart) (h .arcs)
+unfolding moves input output
+moves-arc s h zero p t l m = has-arc 0 p t s (h .arcstart) (h .arcs) (let g = ltb-true (weightOn 1 p t (netFrom s h .arcs)) (weightOn 0 p t (netFrom s h .arcs)) (is-true _ m) in omega arith)
+moves-arc s h (suc zero) p t l m = has-arc 1 p t s (h .arcstart) (h .arcs) (let g = ltb-true (weightOn 0 p t (netFrom s h .arcs)) (weightOn 1 p t (netFrom s h .arcs)) (is-true _ m) in omega arith)
+moves-arc s h (suc (suc d)) p t l m = absurd (omega arith)
 
-or-none : (a b c : Bool) → b ≡ false → a || b && c ≡ a
-or-none true b c e = refl
-or-none false b c e = ap (λ (x : Bool). x && c) e
+-- the first arc of the transition of arc j
+module _ (s : List ℕ) (h : Header) (sound : Sound s h) (j f : ℕ) (l : j < h .arcs) (first : Split s (h .arcstart) (h .arcs) (2 * transitionAt s (h .arcstart) j) f) where
+  first-le : f ≤ j
+  unfolding slotAt
+  first-le = go (decLt j f)
+    where
+      go : Dec (j < f) → f ≤ j
+      go (yes b) = absurd (omega (arith, first .below j b))
+      go (no b) = omega arith
 
-module _ (s : List ℕ) (h : Header) (head next : List ℕ) (sound : Sound s h) (links : Search.Links h head next) (p : ℕ) (l : p < h .places) where
-  pub turning-none : (x : ℕ) → x ≡ getD head p 0 → (places transitions pending : List ℕ) → Search.Sets places transitions pending
-      → Turning s h head next p (p / 64) x places transitions pending places transitions pending
-  turning-none x e places transitions pending w = record {
-    sets = w;
-    within = omega (arith, links .heads p l);
-    lower = omega arith;
-    below = λ k m. refl;
-    same-gone = λ k. refl;
-    inside = λ i. i;
-    search = λ G g k at.
-        let last : Last (G .draws) s (h .arcstart) (h .arcs) p x = subst (Last (G .draws) s (h .arcstart) (h .arcs) p) (sym e) (g .rows .heads p l) in
-        record { at = at; kept = k; leads-at = last .at; leads-draws = last .draws-it; seen = λ i a b c d. inr (last .rest i a b c d) };
-  }
+  pub first-below : f < h .arcs
+  first-below = omega (arith, first-le)
 
-  module _ (r x : ℕ) (places transitions pending P R D : List ℕ) (turning : Turning s h head next p r x places transitions pending P R D) (j : ℕ) (xj : x ≡ suc j)
-      (t : ℕ) (te : t ≡ transitionAt s (h .arcstart) j) (r′ : ℕ) (P′ R′ D′ : List ℕ) (y : Search.TransitionKept (takesFrom (netFrom s h) t) t r r′ P R D P′ R′ D′)
-      (x′ : ℕ) (next-is : x′ ≡ getD next j 0) where
-    new : ℕ → Bool
-    new k = not (member R t) && takesFrom (netFrom s h) t k
+  pub first-same : transitionAt s (h .arcstart) f ≡ transitionAt s (h .arcstart) j
+  unfolding slotAt
+  first-same = omega (arith, first .above f (omega arith) first-below, ordered s h sound .order f j first-le l, good-at s h sound j l .direction, good-at s h sound f first-below .direction)
 
-    jl : j < h .arcs
-    jl = omega (arith, turning .within)
+  pub first-split : Split s (h .arcstart) (h .arcs) (2 * transitionAt s (h .arcstart) f) f
+  first-split = subst (λ (t : ℕ). Split s (h .arcstart) (h .arcs) (2 * t) f) (sym first-same) first
 
-    keeps : (k : ℕ) → T (member P k) → T (member P′ k)
-    unfolding new
-    keeps k m = subst T (sym (y .inputs .kept k)) (or-left (member P k) (new k) m)
+-- ---- along a row: the entry e leads to the last of the first `upto` arcs of the row, and those from there on are met
+pub record Following (s : List ℕ) (h : Header) (d p e marks marks′ : ℕ) (places transitions places′ transitions′ : List ℕ) : Type 0 where
+  pub upto : ℕ
+  pub within : upto ≤ h .arcs
+  pub last : Last s h upto d p e
+  pub seen : (k : ℕ) → upto ≤ k → k < h .arcs → placeAt s (h .arcstart) k ≡ p → directionAt s (h .arcstart) k ≡ d → T (moves (netFrom s h) d p (transitionAt s (h .arcstart) k))
+      → T (member transitions′ (transitionAt s (h .arcstart) k))
+  pub grown : Search.Grown h marks marks′ places transitions places′ transitions′
+  pub search : (G : Growth) (all : Bool) (both : List ℕ) → Search.Grows G s h all both → ((t : ℕ) → T (moves (netFrom s h) d p t) → T (G .draws p t))
+      → (gone : ℕ → Bool) → ((k : ℕ) → T (gone k) → T (member places k)) → T (member places p) → Search.At G places gone transitions p 0 → Search.At G places′ gone transitions′ p 0
 
-    inside-more : Search.Inside (h .places) P D → Search.Inside (h .places) P′ D′
-    unfolding new
-    inside-more i k m =
-        by-or (member D k) (new k && not (member P k)) (subst T (y .inputs .waits k) m)
-        (λ d. (keeps k (i k d .0), i k d .1))
-        (λ d.
-        let n : T (new k) = and-left (new k) (not (member P k)) d in (
-          subst T (sym (y .inputs .kept k)) (or-right (member P k) (new k) n),
-          takes-inside s h sound t k (and-right (not (member R t)) (takesFrom (netFrom s h) t k) n),
-        ))
+pub following-none : (s : List ℕ) (h : Header) (d p e marks : ℕ) (places transitions : List ℕ) → Search.Sets places transitions → Last s h (h .arcs) d p e
+    → Following s h d p e marks marks places transitions places transitions
+following-none s h d p e marks places transitions w last = record {
+  upto = h .arcs;
+  within = omega arith;
+  last = last;
+  seen = λ k a b. absurd (omega arith);
+  grown = grown-none h marks places transitions w;
+  search = λ G all both g draws gone part kept at. at;
+}
 
-    follow : (G : Growth) → Search.Grows G s h head next → Following G s h p x P R D → Following G s h p x′ P′ R′ D′
-    unfolding new
-    follow G g z = record {
-      at =
-          search-draw G (member P) (member D) (member R) p (z .at) t (omega (arith, te, g .transitions, good-at s h sound j jl .transition)) (z .kept)
-          (subst (λ (u : ℕ). T (G .draws p u)) (sym te) (z .leads-draws j xj))
-          (λ q m. omega (arith, g .places, takes-inside s h sound t q (subst T (g .needs t q) m)))
-          (member P′) (member D′) (member R′) new (λ q. ap (λ (b : Bool). not (member R t) && b) (sym (g .needs t q))) (y .members) (y .inputs .kept) (y .inputs .waits);
-      kept = keeps p (z .kept);
-      leads-at = λ i e. last .at i e ∙ place;
-      leads-draws = λ i e. subst (λ (q : ℕ). T (G .draws q (transitionAt s (h .arcstart) i))) place (last .draws-it i e);
-      seen = λ k a b c d. see k a b c d (decLt k j) (decLt k x);
-    }
+-- what is newly pending
+waits-more : (k n g : Bool) → (T g → T k) → (k || n) && not g ≡ k && not g || n && not k
+waits-more true true true h = refl
+waits-more true true false h = refl
+waits-more true false true h = refl
+waits-more true false false h = refl
+waits-more false true true h = absurd (h tt)
+waits-more false true false h = refl
+waits-more false false true h = absurd (h tt)
+waits-more false false false h = refl
+
+module _ (s : List ℕ) (h : Header) (sound : Sound s h) (next : List ℕ) (nexts : Search.Nexts s h next) (d p e marks m : ℕ) (places transitions P R : List ℕ)
+    (x : Following s h d p e marks m places transitions P R) where
+  -- where the row goes on
+  module _ (more : e ≡ 0 → ⊥) where
+    pub row-arc : e % 65536 ≡ suc (e % 65536 - 1)
+    row-arc = go (decLt 0 (e % 65536))
       where
-        place : placeAt s (h .arcstart) j ≡ p
-        place = z .leads-at j xj
+        go : Dec (0 < e % 65536) → e % 65536 ≡ suc (e % 65536 - 1)
+        go (yes l) = omega arith
+        go (no l) = absurd (more (x .last .ends (omega arith)))
 
-        last : Last (G .draws) s (h .arcstart) j (placeAt s (h .arcstart) j) x′
-        last = subst (Last (G .draws) s (h .arcstart) j (placeAt s (h .arcstart) j)) (sym next-is) (g .rows .nexts j jl)
+    pub row-below : e % 65536 - 1 < h .arcs
+    row-below = omega (arith, x .within, x .last .within, row-arc)
 
-        kept-now : (u : ℕ) → T (member R u) → T (member R′ u)
-        kept-now u m = subst T (sym (y .members u)) (or-left (member R u) (eqb u t) m)
+    pub row-begun : 0 < e / 65536
+    row-begun = x .last .begun (e % 65536 - 1) row-arc
 
-        is-now : (u : ℕ) → u ≡ t → T (member R′ u)
-        is-now u e = subst T (sym (y .members u)) (or-right (member R u) (eqb u t) (holds (eqb u t) (eq-eqb u t e)))
+    pub row-first : Split s (h .arcstart) (h .arcs) (2 * transitionAt s (h .arcstart) (e % 65536 - 1)) (e / 65536 - 1)
+    row-first = x .last .first (e % 65536 - 1) row-arc
 
-        see : (k : ℕ) → x′ ≤ k → k < h .arcs → placeAt s (h .arcstart) k ≡ p → T (G .draws p (transitionAt s (h .arcstart) k)) → Dec (k < j) → Dec (k < x)
-            → T (member R′ (transitionAt s (h .arcstart) k)) ⊎ ((0 < x′) × (transitionAt s (h .arcstart) k ≡ transitionAt s (h .arcstart) (x′ - 1)))
-        see k a b c d (yes m) o = inr (last .rest k a m (c ∙ sym place) (subst (λ (q : ℕ). T (G .draws q (transitionAt s (h .arcstart) k))) (sym place) d))
-        see k a b c d (no m) (yes o) = let e : k ≡ j = omega arith in inl (is-now _ (ap (transitionAt s (h .arcstart)) e ∙ sym te))
-        see k a b c d (no m) (no o) = go (z .seen k (omega arith) b c d)
-          where
-            go : T (member R (transitionAt s (h .arcstart) k)) ⊎ ((0 < x) × (transitionAt s (h .arcstart) k ≡ transitionAt s (h .arcstart) (x - 1)))
-                → T (member R′ (transitionAt s (h .arcstart) k)) ⊎ ((0 < x′) × (transitionAt s (h .arcstart) k ≡ transitionAt s (h .arcstart) (x′ - 1)))
-            go (inl u) = inl (kept-now _ u)
-            go (inr u) = let e : x - 1 ≡ j = omega arith in inl (is-now _ (u .1 ∙ ap (transitionAt s (h .arcstart)) e ∙ sym te))
+    pub row-from : e / 65536 - 1 < h .arcs
+    row-from = first-below s h sound (e % 65536 - 1) (e / 65536 - 1) row-below row-first
 
-    pub turning-more : Turning s h head next p r′ x′ places transitions pending P′ R′ D′
-    unfolding new
-    turning-more = record {
-      sets = record { words = y .inputs .words; long = y .long };
-      within = omega (arith, links .nexts j jl, jl);
-      lower = omega (arith, turning .lower, y .inputs .lower);
-      below = λ k m. y .inputs .waits k ∙ or-none (member D k) (new k) (not (member P k)) (y .inputs .below k m) ∙ turning .below k (omega (arith, y .inputs .lower));
-      same-gone = λ k. ap₂ (λ (a b : Bool). a && not b) (y .inputs .kept k) (y .inputs .waits k) ∙ gone-same (member P k) (member D k) (new k) ∙ turning .same-gone k;
-      inside = λ i. inside-more (turning .inside i);
-      search = λ G g k at. follow G g (turning .search G g k at);
-    }
+    pub row-split : Split s (h .arcstart) (h .arcs) (2 * transitionAt s (h .arcstart) (e / 65536 - 1)) (e / 65536 - 1)
+    row-split = first-split s h sound (e % 65536 - 1) (e / 65536 - 1) row-below row-first
 
-  pub turning-end : (r x : ℕ) (places transitions pending P R D : List ℕ) → Turning s h head next p r x places transitions pending P R D → x ≡ 0
-      → Search.Turned s h head next p r places transitions pending P R D
-  turning-end r x places transitions pending P R D turning e = record {
-    sets = turning .sets;
-    lower = turning .lower;
-    below = turning .below;
-    same-gone = turning .same-gone;
-    inside = turning .inside;
-    search = λ G g k at.
-        let z = turning .search G g k at in
-        search-turned G (member P) (member D) (member R) p (z .at) (λ t a d. all G g z t d (g .arcs p t d));
+    -- what the row moves
+    row-moves : T (moves (netFrom s h) d p (transitionAt s (h .arcstart) (e % 65536 - 1)))
+    row-moves = x .last .moves-it (e % 65536 - 1) row-arc
+
+    pub row-next : Last s h (e % 65536 - 1) d p (getD next (e % 65536 - 1) 0)
+    row-next =
+        let q = x .last .at (e % 65536 - 1) row-arc in
+        let w = x .last .goes (e % 65536 - 1) row-arc in
+        subst (λ (a : ℕ). Last s h (e % 65536 - 1) a p (getD next (e % 65536 - 1) 0)) w
+        (subst (λ (b : ℕ). Last s h (e % 65536 - 1) (directionAt s (h .arcstart) (e % 65536 - 1)) b (getD next (e % 65536 - 1) 0)) q
+        (nexts .nexts (e % 65536 - 1) row-below
+        (subst (λ (a : ℕ). T (moves (netFrom s h) a (placeAt s (h .arcstart) (e % 65536 - 1)) (transitionAt s (h .arcstart) (e % 65536 - 1)))) (sym w)
+        (subst (λ (b : ℕ). T (moves (netFrom s h) d b (transitionAt s (h .arcstart) (e % 65536 - 1)))) (sym q) row-moves))))
+
+    pub row-less : getD next (e % 65536 - 1) 0 % 65536 < e % 65536
+    row-less = omega (arith, row-next .within, row-arc)
+
+    module _ (m′ : ℕ) (P′ R′ : List ℕ)
+        (y : Search.TransitionKept (takesFrom (netFrom s h) (transitionAt s (h .arcstart) (e / 65536 - 1))) (transitionAt s (h .arcstart) (e / 65536 - 1)) m m′ P R P′ R′) where
+      abbrev t : ℕ
+      t = transitionAt s (h .arcstart) (e / 65536 - 1)
+
+      t-same : t ≡ transitionAt s (h .arcstart) (e % 65536 - 1)
+      t-same = first-same s h sound (e % 65536 - 1) (e / 65536 - 1) row-below row-first
+
+      new : ℕ → Bool
+      new k = not (member R t) && takesFrom (netFrom s h) t k
+
+      step : Search.Grown h m m′ P R P′ R′
+      unfolding new
+      step = record {
+        sets = record { places-long = y .inputs .long; transitions-long = y .long };
+        more-places = λ k u. subst T (sym (y .inputs .kept k)) (or-left (member P k) (new k) u);
+        more-transitions = λ k u. subst T (sym (y .members k)) (or-left (member R k) (eqb k t) u);
+        inside = λ i k u. by-or (member P k) (new k) (subst T (y .inputs .kept k) u) (i k) (λ n. takes-inside s h sound t k (and-right (not (member R t)) (takesFrom (netFrom s h) t k) n));
+        marked = y .inputs .marked;
+      }
+
+      drawn-in : (G : Growth) (all : Bool) (both : List ℕ) → Search.Grows G s h all both → T (G .draws p t) → (gone : ℕ → Bool) → ((k : ℕ) → T (gone k) → T (member P k)) → T (member P p)
+          → Search.At G P gone R p 0 → Search.At G P′ gone R′ p 0
+      unfolding new
+      drawn-in G all both g draws gone part kept at =
+          search-draw G (member P) (waits P gone) (member R) p at t (omega (arith, g .transitions, good-at s h sound (e / 65536 - 1) row-from .transition)) kept draws
+          (λ q u. omega (arith, g .places, takes-inside s h sound t q (subst T (g .needs t q) u)))
+          (member P′) (waits P′ gone) (member R′) new (λ q. ap (λ (b : Bool). not (member R t) && b) (sym (g .needs t q))) (y .members) (y .inputs .kept)
+          (λ q. ap (λ (b : Bool). b && not (gone q)) (y .inputs .kept q) ∙ waits-more (member P q) (new q) (gone q) (part q))
+
+      pub following-more : Following s h d p (getD next (e % 65536 - 1) 0) marks m′ places transitions P′ R′
+      following-more = record {
+        upto = e % 65536 - 1;
+        within = omega (arith, row-below);
+        last = row-next;
+        seen = λ k a b u v w. see k b u v w (decLt k (e % 65536)) (decLt k (x .upto)) a;
+        grown = grown-join h marks m m′ places transitions P R P′ R′ (x .grown) step;
+        search = λ G all both g draws gone part kept at.
+            drawn-in G all both g (draws t (subst (λ (u : ℕ). T (moves (netFrom s h) d p u)) (sym t-same) row-moves)) gone (λ k u. x .grown .more-places k (part k u)) (x .grown .more-places p kept)
+            (x .search G all both g draws gone part kept at);
+      }
+        where
+          see : (k : ℕ) → k < h .arcs → placeAt s (h .arcstart) k ≡ p → directionAt s (h .arcstart) k ≡ d → T (moves (netFrom s h) d p (transitionAt s (h .arcstart) k)) → Dec (k < e % 65536) → Dec (k < x .upto)
+              → e % 65536 - 1 ≤ k → T (member R′ (transitionAt s (h .arcstart) k))
+          see k b u v w (yes o) q a =
+              let f : k ≡ e % 65536 - 1 = omega arith in
+              subst T (sym (y .members (transitionAt s (h .arcstart) k))) (or-right (member R (transitionAt s (h .arcstart) k)) _ (holds _ (eq-eqb _ t (ap (transitionAt s (h .arcstart)) f ∙ sym t-same))))
+          see k b u v w (no o) (yes q) a = absurd (x .last .rest k (omega arith) q u v w)
+          see k b u v w (no o) (no q) a = step .more-transitions (transitionAt s (h .arcstart) k) (x .seen k (omega arith) b u v w)
+
+  -- where it ends
+  pub following-end : d ≤ 1 → e ≡ 0 → Search.Followed s h d p marks m places transitions P R
+  following-end dl ends = record {
+    grown = x .grown;
+    met = λ t u. met t (moves-arc s h d p t dl u) u;
+    search = x .search;
   }
     where
-      all : (G : Growth) → Search.Grows G s h head next → Following G s h p x P R D → (t : ℕ) → T (G .draws p t) → Search.Between s h p t → T (member R t)
-      all G g z t d b = go (z .seen (b .arc) (omega arith) (b .below) (b .place) (subst (λ (u : ℕ). T (G .draws p u)) (sym (b .transition)) d))
+      met : (t : ℕ) → JoinsBelow d p t s (h .arcstart) (h .arcs) → T (moves (netFrom s h) d p t) → T (member R t)
+      met t a u =
+          let u′ : T (moves (netFrom s h) d p (transitionAt s (h .arcstart) (a .at))) = subst (λ (v : ℕ). T (moves (netFrom s h) d p v)) (sym (a .joins-it .transition)) u in
+          subst (λ (v : ℕ). T (member R v)) (a .joins-it .transition) (go u′ (decLt (a .at) (x .upto)))
         where
-          go : T (member R (transitionAt s (h .arcstart) (b .arc))) ⊎ ((0 < x) × (transitionAt s (h .arcstart) (b .arc) ≡ transitionAt s (h .arcstart) (x - 1))) → T (member R t)
-          go (inl u) = subst (λ (v : ℕ). T (member R v)) (b .transition) u
-          go (inr u) = absurd (omega (arith, u .0))
+          go : T (moves (netFrom s h) d p (transitionAt s (h .arcstart) (a .at))) → Dec (a .at < x .upto) → T (member R (transitionAt s (h .arcstart) (a .at)))
+          go u′ (yes l) = absurd (x .last .rest (a .at) (omega arith) l (a .joins-it .place) (a .joins-it .direction) u′)
+          go u′ (no l) = x .seen (a .at) (omega arith) (a .below) (a .joins-it .place) (a .joins-it .direction) u′
+
+-- ---- the two rows of a place
+
+module _ (s : List ℕ) (h : Header) (head next : List ℕ) (rows : Rows s h head next) where
+  pub nexts-of : Search.Nexts s h next
+  nexts-of = record { long = rows .next-long; nexts = rows .nexts }
+
+  module _ (p : ℕ) (l : p < h .places) where
+    pub lowers : Last s h (h .arcs) 0 p (getD head (2 * p) 0)
+    lowers = let e : 2 * p + 0 ≡ 2 * p = omega arith in subst (λ (i : ℕ). Last s h (h .arcs) 0 p (getD head i 0)) e (rows .heads 0 p (omega arith) l)
+
+    pub raises : Last s h (h .arcs) 1 p (getD head (2 * p + 1) 0)
+    raises = rows .heads 1 p (omega arith) l
+
+    pub row-lowers : Search.Row s h (getD head (2 * p) 0)
+    row-lowers = record { direction = 0; place = p; way = omega arith; last = lowers }
+
+    pub row-raises : Search.Row s h (getD head (2 * p + 1) 0)
+    row-raises = record { direction = 1; place = p; way = omega arith; last = raises }
+
+-- where b, the transitions that lower p are kept
+pub record Halfway (s : List ℕ) (h : Header) (b : Bool) (p marks marks′ : ℕ) (places transitions places′ transitions′ : List ℕ) : Type 0 where
+  pub grown : Search.Grown h marks marks′ places transitions places′ transitions′
+  pub met : T b → (t : ℕ) → T (moves (netFrom s h) 0 p t) → T (member transitions′ t)
+  pub search : (G : Growth) (all : Bool) (both : List ℕ) → Search.Grows G s h all both → (T b → (t : ℕ) → T (moves (netFrom s h) 0 p t) → T (G .draws p t))
+      → (gone : ℕ → Bool) → ((k : ℕ) → T (gone k) → T (member places k)) → T (member places p) → Search.At G places gone transitions p 0 → Search.At G places′ gone transitions′ p 0
+
+module _ (s : List ℕ) (h : Header) (b : Bool) (p marks : ℕ) (places transitions : List ℕ) where
+  -- the row that lowers p was followed
+  pub halfway-followed : b ≡ true → (m m′ : ℕ) (P R P′ R′ : List ℕ) → Search.Followed s h 0 p marks m places transitions P R → P′ ≡ P → R′ ≡ R → m′ ≡ m
+      → Halfway s h b p marks m′ places transitions P′ R′
+  halfway-followed e m m′ P R P′ R′ x a c d =
+      subst (λ (q : List ℕ). Halfway s h b p marks m′ places transitions q R′) (sym a)
+      (subst (λ (q : List ℕ). Halfway s h b p marks m′ places transitions P q) (sym c)
+      (subst (λ (q : ℕ). Halfway s h b p marks q places transitions P R) (sym d) (record {
+        grown = x .grown;
+        met = λ u. x .met;
+        search = λ G all both g draws. x .search G all both g (draws (holds b e));
+      })))
+
+  -- it was not
+  pub halfway-none : b ≡ false → Search.Sets places transitions → (m′ : ℕ) (P′ R′ : List ℕ) → P′ ≡ places → R′ ≡ transitions → m′ ≡ marks
+      → Halfway s h b p marks m′ places transitions P′ R′
+  halfway-none e w m′ P′ R′ a c d =
+      subst (λ (q : List ℕ). Halfway s h b p marks m′ places transitions q R′) (sym a)
+      (subst (λ (q : List ℕ). Halfway s h b p marks m′ places transitions places q) (sym c)
+      (subst (λ (q : ℕ). Halfway s h b p marks q places transitions places transitions) (sym d) (record {
+        grown = grown-none h marks places transitions w;
+        met = λ u. absurd (fails b e u);
+        search = λ G all both g draws gone part kept at. at;
+      })))
+
+module _ (s : List ℕ) (h : Header) (all : Bool) (both : List ℕ) (p : ℕ) where
+  abbrev lower : ℕ → Bool
+  lower t = (all || member both p) && moves (netFrom s h) 0 p t
+
+  abbrev raise : ℕ → Bool
+  raise t = moves (netFrom s h) 1 p t
+
+  -- both rows that count are followed
+  pub turned : (marks m m′ : ℕ) (places transitions P R P′ R′ : List ℕ) → Halfway s h (all || member both p) p marks m places transitions P R → Search.Followed s h 1 p m m′ P R P′ R′
+      → Search.Turned s h all both p marks m′ places transitions P′ R′
+  turned marks m m′ places transitions P R P′ R′ x y = record {
+    grown = grown-join h marks m m′ places transitions P R P′ R′ (x .grown) (y .grown);
+    search = λ G g gone part kept at.
+        search-turned G (member P′) (waits P′ gone) (member R′) p
+        (y .search G all both g (λ t u. subst T (sym (g .draws p t)) (or-right (lower t) (raise t) u)) gone (λ k u. x .grown .more-places k (part k u)) (x .grown .more-places p kept)
+        (x .search G all both g (λ c t u. subst T (sym (g .draws p t)) (or-left (lower t) (raise t) (and-both (all || member both p) (moves (netFrom s h) 0 p t) c u))) gone part kept at))
+        (λ t l d. by-or (lower t) (raise t) (subst T (g .draws p t) d)
+        (λ u. y .grown .more-transitions t (x .met (and-left (all || member both p) (moves (netFrom s h) 0 p t) u) t (and-right (all || member both p) (moves (netFrom s h) 0 p t) u)))
+        (λ u. y .met t u));
+  }

@@ -1,6 +1,6 @@
 -- The steps of a cut: for the contracts of its parts, not for a reader of `kept`. Assumes nothing.
-use Prim.Native.Nat.{ℕ, zero, suc, _+_, _*_, _-_, _/_, _≤_, _<_}
-use mathlib.Core.Bool.{Bool, true, false, not, _&&_, _||_}
+use Prim.Native.Nat.{ℕ, _≤_, _<_}
+use mathlib.Core.Bool.{Bool, false, not, _&&_, _||_}
 use mathlib.Core.List.{List}
 use mathlib.Core.Path.{_≡_}
 use lib.Dec.{T, eqb}
@@ -9,70 +9,69 @@ use Rattle.net.specs.Net.{takesFrom}
 use Rattle.net.specs.Cut.{Growth}
 use Rattle.net.proofs.Worklist.{Searching}
 use Rattle.file.specs.Layout.{netFrom}
-use Rattle.file.specs.Facts.{Sound}
 use Rattle.file.specs.declared.Header.{Header}
 use Rattle.sets.specs.Member.{member}
-use Rattle.pending.specs.Growing.{Words, PlacesKept}
-use Rattle.gain.specs.Ways.{placeAt, transitionAt}
-use Rattle.index.specs.Rows.{Rows, Starts}
+use Rattle.pending.specs.Growing.{waits, Marked, PlacesKept}
+use Rattle.rows.specs.Rows.{transitionAt, directionAt, placeAt, moves, Last}
 
--- k is the place of one of the n arcs from `from` on
-unfoldable pub placedIn : List ℕ → ℕ → ℕ → ℕ → ℕ → Bool
-placedIn s start from zero k = false
-placedIn s start from (suc n) k = placedIn s start from n k || eqb k (placeAt s start (from + n))
+-- the two sets have sixteen words each
+pub record Sets (places transitions : List ℕ) : Type 0 where
+  pub places-long : length places ≡ 16
+  pub transitions-long : length transitions ≡ 16
 
--- the three sets have sixteen words each
-pub record Sets (places transitions pending : List ℕ) : Type 0 where
-  pub words : Words places pending
-  pub long : length transitions ≡ 16
-
--- "A kept place is pending until its transitions have been gone through": pending places are kept, and places of the net
-abbrev pub Inside : ℕ → List ℕ → List ℕ → Type 0
-Inside P places pending = (k : ℕ) → T (member pending k) → T (member places k) × (k < P)
-
--- t is kept, and if it is new its input places are
-pub record TransitionKept (takes : ℕ → Bool) (t low r : ℕ) (places transitions pending places′ transitions′ pending′ : List ℕ) : Type 0 where
-  pub members : (k : ℕ) → member transitions′ k ≡ member transitions k || eqb k t
-  pub long : length transitions′ ≡ 16
-  pub inputs : PlacesKept (λ k. not (member transitions t) && takes k) low r places pending places′ pending′
-
--- the rows lead back, and end
-pub record Links (h : Header) (head next : List ℕ) : Type 0 where
-  pub head-long : h .places ≤ length head
-  pub next-long : h .arcs ≤ length next
-  pub heads : (p : ℕ) → p < h .places → getD head p 0 ≤ h .arcs
-  pub nexts : (j : ℕ) → j < h .arcs → getD next j 0 ≤ j
-
--- an arc of the file is at p and of t
-pub record Between (s : List ℕ) (h : Header) (p t : ℕ) : Type 0 where
-  pub arc : ℕ
-  pub below : arc < h .arcs
-  pub place : placeAt s (h .arcstart) arc ≡ p
-  pub transition : transitionAt s (h .arcstart) arc ≡ t
-
--- the file, with the rows of its places, is that of the growth G
-pub record Grows (G : Growth) (s : List ℕ) (h : Header) (head next : List ℕ) : Type 0 where
+-- the file is that of the growth G: a place draws in what raises it, and what lowers it too where it is one of `both` or `all` are
+pub record Grows (G : Growth) (s : List ℕ) (h : Header) (all : Bool) (both : List ℕ) : Type 0 where
   pub places : G .places ≡ h .places
   pub transitions : G .transitions ≡ h .transitions
   pub needs : (t p : ℕ) → G .needs t p ≡ takesFrom (netFrom s h) t p
-  pub rows : Rows (G .draws) s (h .arcstart) (h .places) (h .arcs) head next
-  pub arcs : (p t : ℕ) → T (G .draws p t) → Between s h p t
+  pub draws : (p t : ℕ) → G .draws p t ≡ (all || member both p) && moves (netFrom s h) 0 p t || moves (netFrom s h) 1 p t
 
--- the search for the cut G stands at these sets: the place f is gone through up to the transition i
-abbrev pub At : Growth → List ℕ → List ℕ → List ℕ → ℕ → ℕ → Type 0
-At G places transitions pending f i = Searching G (member places) (member pending) (member transitions) f i
+-- t is kept, and if it is new its input places are
+pub record TransitionKept (takes : ℕ → Bool) (t marks marks′ : ℕ) (places transitions places′ transitions′ : List ℕ) : Type 0 where
+  pub members : (k : ℕ) → member transitions′ k ≡ member transitions k || eqb k t
+  pub long : length transitions′ ≡ 16
+  pub inputs : PlacesKept (λ k. not (member transitions t) && takes k) marks marks′ places places′
 
--- p, taken out of the pending places, is gone through; no word below r has a place that is newly pending
-pub record Turned (s : List ℕ) (h : Header) (head next : List ℕ) (p r : ℕ) (places transitions pending places′ transitions′ pending′ : List ℕ) : Type 0 where
-  pub sets : Sets places′ transitions′ pending′
-  pub lower : r ≤ p / 64
-  pub below : (k : ℕ) → k < r * 64 → member pending′ k ≡ member pending k
-  pub same-gone : (k : ℕ) → (member places′ k && not (member pending′ k)) ≡ (member places k && not (member pending k))
-  pub inside : Inside (h .places) places pending → Inside (h .places) places′ pending′
-  pub search : (G : Growth) → Grows G s h head next → T (member places p) → At G places transitions pending p 0 → At G places′ transitions′ pending′ p (G .transitions)
+-- next leads from an arc of a row to the one before it
+pub record Nexts (s : List ℕ) (h : Header) (next : List ℕ) : Type 0 where
+  pub long : h .arcs ≤ length next
+  pub nexts : (j : ℕ) → j < h .arcs → T (moves (netFrom s h) (directionAt s (h .arcstart) j) (placeAt s (h .arcstart) j) (transitionAt s (h .arcstart) j))
+      → Last s h j (directionAt s (h .arcstart) j) (placeAt s (h .arcstart) j) (getD next j 0)
+
+-- e starts the row of a place in a direction
+pub record Row (s : List ℕ) (h : Header) (e : ℕ) : Type 0 where
+  pub direction : ℕ
+  pub place : ℕ
+  pub way : direction ≤ 1
+  pub last : Last s h (h .arcs) direction place e
+
+-- what is kept stays kept, places are of the net, and the words of pending places are marked, whatever places were gone through
+pub record Grown (h : Header) (marks marks′ : ℕ) (places transitions places′ transitions′ : List ℕ) : Type 0 where
+  pub sets : Sets places′ transitions′
+  pub more-places : (k : ℕ) → T (member places k) → T (member places′ k)
+  pub more-transitions : (k : ℕ) → T (member transitions k) → T (member transitions′ k)
+  pub inside : ((k : ℕ) → T (member places k) → k < h .places) → (k : ℕ) → T (member places′ k) → k < h .places
+  pub marked : (gone : ℕ → Bool) → Marked places gone marks → Marked places′ gone marks′
+
+-- the search for the cut G stands at these sets: the places of `gone` are gone through, f up to the transition i
+abbrev pub At : Growth → List ℕ → (ℕ → Bool) → List ℕ → ℕ → ℕ → Type 0
+At G places gone transitions f i = Searching G (member places) (waits places gone) (member transitions) f i
+
+-- the transitions that move p in the direction d are kept, and where p draws them in the search goes on
+pub record Followed (s : List ℕ) (h : Header) (d p marks marks′ : ℕ) (places transitions places′ transitions′ : List ℕ) : Type 0 where
+  pub grown : Grown h marks marks′ places transitions places′ transitions′
+  pub met : (t : ℕ) → T (moves (netFrom s h) d p t) → T (member transitions′ t)
+  pub search : (G : Growth) (all : Bool) (both : List ℕ) → Grows G s h all both → ((t : ℕ) → T (moves (netFrom s h) d p t) → T (G .draws p t))
+      → (gone : ℕ → Bool) → ((k : ℕ) → T (gone k) → T (member places k)) → T (member places p) → At G places gone transitions p 0 → At G places′ gone transitions′ p 0
+
+-- p is gone through
+pub record Turned (s : List ℕ) (h : Header) (all : Bool) (both : List ℕ) (p marks marks′ : ℕ) (places transitions places′ transitions′ : List ℕ) : Type 0 where
+  pub grown : Grown h marks marks′ places transitions places′ transitions′
+  pub search : (G : Growth) → Grows G s h all both → (gone : ℕ → Bool) → ((k : ℕ) → T (gone k) → T (member places k)) → T (member places p)
+      → At G places gone transitions p 0 → At G places′ gone transitions′ p (G .transitions)
 
 -- nothing is pending
-pub record Closed (s : List ℕ) (h : Header) (head next places transitions pending places′ transitions′ pending′ : List ℕ) : Type 0 where
-  pub sets : Sets places′ transitions′ pending′
-  pub none : (k : ℕ) → k < 1024 → member pending′ k ≡ false
-  pub search : (G : Growth) → Grows G s h head next → At G places transitions pending 0 (G .transitions) → At G places′ transitions′ pending′ 0 (G .transitions)
+pub record Closed (s : List ℕ) (h : Header) (all : Bool) (both places transitions places′ transitions′ : List ℕ) : Type 0 where
+  pub sets : Sets places′ transitions′
+  pub search : (G : Growth) → Grows G s h all both → Searching G (member places) (member places) (member transitions) 0 (G .transitions)
+      → Searching G (member places′) (λ k. false) (member transitions′) 0 (G .transitions)

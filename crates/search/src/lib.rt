@@ -1,119 +1,147 @@
 // The search for a cut: pending places are gone through, the lowest first, until none is left.
 ghost use mathlib.Core.Path.{_≡_};
-ghost use Prim.Native.Nat.{ℕ, _-_, _<_, _≤_};
+ghost use Prim.Native.Nat.{ℕ, _*_, _≤_, _<_};
+ghost use lib.Dec.{T};
+ghost use lib.ListN.{length};
 ghost use Rattle.net.specs.Net.{takesFrom};
 ghost use Rattle.file.specs.Layout.{netFrom};
 ghost use Rattle.file.specs.Facts.{Sound};
-ghost use Rattle.gain.specs.Gain.{Run};
-ghost use Rattle.pending.specs.Growing.{Words, PlacesKept};
-ghost use Rattle.index.specs.Rows.{Starts};
-ghost use Rattle.search.specs.Search.{placedIn, Sets, Inside, TransitionKept, Links, Turned, Closed};
+ghost use Rattle.sets.specs.Member.{member};
+ghost use Rattle.starts.specs.Table.{Split};
+ghost use Rattle.pending.specs.Growing.{PlacesKept};
+ghost use Rattle.rows.specs.Rows.{transitionAt, Last, Rows};
+ghost use Rattle.search.specs.Search.{Sets, TransitionKept, Nexts, Row, Followed, Turned, Closed};
 use file::Header;
 use sets::Found;
 
-fn wide(x: u16) -> usize
-    ensures { λ r. ⌜ r ≡ x ⌝ }
-{
-    x as usize
-}
-
-// Keeps the places of the arcs from `from` to `to`.
-fn keep_places(
+// Keeps the input places of the transition t, whose arcs start with arc `from`.
+fn keep_inputs(
     file: &[u8],
-    start: usize,
+    h: Header,
     from: usize,
-    to: usize,
-    low: usize,
+    t: usize,
+    marks: u64,
     places: &mut [u64; 16],
-    pending: &mut [u64; 16],
-) -> usize
-    requires { ⌜ Run (now file) start from to 1024 × Words (now places) (now pending) ⌝ }
-    ensures { λ r. ⌜ PlacesKept (placedIn (now (file .entry)) start from (to - from)) low (r) (now (places .entry)) (now (pending .entry)) (now (places .exit)) (now (pending .exit)) ⌝ }
+) -> u64
+    requires { ⌜ Sound (now file) h × (t < h .transitions) × Split (now file) (h .arcstart) (h .arcs) (2 * t) from × (length (now places) ≡ 16) ⌝ }
+    ensures { λ r. ⌜ PlacesKept (takesFrom (netFrom (now (file .entry)) h) t) marks (r) (now (places .entry)) (now (places .exit)) ⌝ }
 {
-    let mut least = low;
+    let start = h.arcstart;
+    let arcs = h.arcs;
+    let mut m = marks;
     let mut j = from;
-    while j < to {
+    while j < arcs {
         let a = file::arcs::arc(file, start + 8 * j);
-        let p = a.place;
-        least = pending::keep(places, pending, least, p);
+        if a.transition + a.direction * 65536 != t {
+            return m;
+        }
+        m = pending::keep(places, m, a.place);
         j += 1;
     }
-    least
+    m
 }
 
-// Keeps the transition t, and if it is new its input places.
+// Keeps the transition whose arcs start with arc `from`, and if it is new its input places.
 fn keep_transition(
     file: &[u8],
     h: Header,
-    table: &[u16],
-    t: usize,
-    low: usize,
+    from: usize,
+    marks: u64,
     places: &mut [u64; 16],
     transitions: &mut [u64; 16],
-    pending: &mut [u64; 16],
-) -> usize
-    requires { ⌜ Sound (now file) h × Starts (now file) h (now table) × (t < h .transitions) × Sets (now places) (now transitions) (now pending) ⌝ }
-    ensures { λ r. ⌜ TransitionKept (takesFrom (netFrom (now (file .entry)) h) t) t low (r) (now (places .entry)) (now (transitions .entry)) (now (pending .entry)) (now (places .exit)) (now (transitions .exit)) (now (pending .exit)) ⌝ }
+) -> u64
+    requires { ⌜ Sound (now file) h × (from < h .arcs) × Split (now file) (h .arcstart) (h .arcs) (2 * transitionAt (now file) (h .arcstart) from) from ⌝ }
+    requires { ⌜ Sets (now places) (now transitions) ⌝ }
+    ensures { λ r. ⌜ TransitionKept (takesFrom (netFrom (now (file .entry)) h) (transitionAt (now (file .entry)) (h .arcstart) from)) (transitionAt (now (file .entry)) (h .arcstart) from) marks (r) (now (places .entry)) (now (transitions .entry)) (now (places .exit)) (now (transitions .exit)) ⌝ }
 {
+    let a = file::arcs::arc(file, h.arcstart + 8 * from);
+    let t = a.transition;
     if sets::contains(transitions, t) {
-        return low;
+        return marks;
     }
     pending::insert(transitions, t);
-    let start = h.arcstart;
-    let from = wide(table[2 * t]);
-    let to = wide(table[2 * t + 1]);
-    keep_places(file, start, from, to, low, places, pending)
+    keep_inputs(file, h, from, t, marks, places)
+}
+
+// Keeps every transition of the row.
+fn follow(
+    file: &[u8],
+    h: Header,
+    next: &[u32],
+    row: u32,
+    marks: u64,
+    places: &mut [u64; 16],
+    transitions: &mut [u64; 16],
+) -> u64
+    requires { ⌜ Sound (now file) h × Nexts (now file) h (now next) × Row (now file) h row × Sets (now places) (now transitions) ⌝ }
+    ensures { λ r. ⌜ ((d p : ℕ) → d ≤ 1 → Last (now (file .entry)) h (h .arcs) d p row → Followed (now (file .entry)) h d p marks (r) (now (places .entry)) (now (transitions .entry)) (now (places .exit)) (now (transitions .exit))) ⌝ }
+{
+    let mut m = marks;
+    let mut e = row as usize;
+    while e != 0 {
+        m = keep_transition(file, h, e / 65536 - 1, m, places, transitions);
+        e = next[e % 65536 - 1] as usize;
+    }
+    m
 }
 
 // Goes through the place p: keeps every transition that it draws in.
 fn turn(
     file: &[u8],
     h: Header,
-    table: &[u16],
-    head: &[u16],
-    next: &[u16],
+    all: bool,
+    both: &[u64; 16],
+    head: &[u32],
+    next: &[u32],
     p: usize,
+    marks: u64,
     places: &mut [u64; 16],
     transitions: &mut [u64; 16],
-    pending: &mut [u64; 16],
-) -> usize
-    requires { ⌜ Sound (now file) h × Starts (now file) h (now table) × Links h (now head) (now next) × (p < h .places) × Sets (now places) (now transitions) (now pending) ⌝ }
-    ensures { λ r. ⌜ Turned (now (file .entry)) h (now (head .entry)) (now (next .entry)) p (r) (now (places .entry)) (now (transitions .entry)) (now (pending .entry)) (now (places .exit)) (now (transitions .exit)) (now (pending .exit)) ⌝ }
+) -> u64
+    requires { ⌜ Sound (now file) h × Rows (now file) h (now head) (now next) × (p < h .places) × Sets (now places) (now transitions) ⌝ }
+    ensures { λ r. ⌜ Turned (now (file .entry)) h all (now (both .entry)) p marks (r) (now (places .entry)) (now (transitions .entry)) (now (places .exit)) (now (transitions .exit)) ⌝ }
 {
-    let start = h.arcstart;
-    let mut least = p / 64;
-    let mut x = wide(head[p]);
-    while x != 0 {
-        let j = x - 1;
-        let a = file::arcs::arc(file, start + 8 * j);
-        let t = a.transition;
-        least = keep_transition(file, h, table, t, least, places, transitions, pending);
-        x = wide(next[j]);
+    let mut m = marks;
+    if all | sets::contains(both, p) {
+        m = follow(file, h, next, head[2 * p], m, places, transitions);
     }
-    least
+    follow(file, h, next, head[2 * p + 1], m, places, transitions)
 }
 
-// While places are pending, the one with the lowest number is gone through next.
+// While places are pending, the one with the lowest number is gone through next. Places of `both`, or all, draw in what lowers them too.
 pub fn close(
     file: &[u8],
     h: Header,
-    table: &[u16],
-    head: &[u16],
-    next: &[u16],
+    all: bool,
+    both: &[u64; 16],
+    head: &[u32],
+    next: &[u32],
     places: &mut [u64; 16],
     transitions: &mut [u64; 16],
-    pending: &mut [u64; 16],
 )
-    requires { ⌜ Sound (now file) h × Starts (now file) h (now table) × Links h (now head) (now next) × Sets (now places) (now transitions) (now pending) × Inside (h .places) (now places) (now pending) ⌝ }
-    ensures { λ _. ⌜ Closed (now (file .entry)) h (now (head .entry)) (now (next .entry)) (now (places .entry)) (now (transitions .entry)) (now (pending .entry)) (now (places .exit)) (now (transitions .exit)) (now (pending .exit)) ⌝ }
+    requires { ⌜ Sound (now file) h × Rows (now file) h (now head) (now next) ⌝ }
+    requires { ⌜ Sets (now places) (now transitions) × ((k : ℕ) → T (member (now places) k) → k < h .places) ⌝ }
+    ensures { λ _. ⌜ Closed (now (file .entry)) h all (now (both .entry)) (now (places .entry)) (now (transitions .entry)) (now (places .exit)) (now (transitions .exit)) ⌝ }
 {
-    let mut low: usize = 0;
+    let mut gone = [0u64; 16];
+    let mut marks: u64 = 65535;
     loop {
-        let lowest = pending::lowest_from(pending, low);
+        let lowest = pending::lowest(places, &gone, &mut marks);
         let Found::At(p) = lowest else {
             return;
         };
-        pending::remove(pending, p);
-        low = turn(file, h, table, head, next, p, places, transitions, pending);
+        pending::insert(&mut gone, p);
+        marks = turn(
+            file,
+            h,
+            all,
+            both,
+            head,
+            next,
+            p,
+            marks,
+            places,
+            transitions,
+        );
     }
 }

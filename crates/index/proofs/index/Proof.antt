@@ -1,77 +1,82 @@
 use borrow.Author.Needs.{needs}
-use Prim.Native.Nat.{ℕ, _+_, _*_, _-_, _≤_, _<_}
-use mathlib.Core.Path.{_≡_, refl, sym, ap, _∙_, subst}
+use Prim.Native.Nat.{_+_, _-_, _≤_}
+use mathlib.Core.Path.{_≡_, sym, ap, _∙_, subst}
 use native.Mathlib.Omega.{arith}
-use lib.ListN.{length, getD}
-use Rattle.file.specs.Layout.{netFrom}
-use Rattle.index.specs.Rows.{drawsBy}
-use Rattle.index.proofs.Runs.{Indexing, indexing-none, indexing-more, indexing-end}
+use lib.Dec.{eqb}
+use Rattle.net.specs.declared.Arc.{Arc}
+use Rattle.starts.specs.Table.{choose}
+use Rattle.rows.specs.Rows.{transitionAt}
+use Rattle.gain.proofs.Arcs.{good-at}
+use Rattle.index.specs.Steps.{Linked, Room}
+use Rattle.index.proofs.Linking.{Linking, room, linking-none, linking-more, linking-end}
 use Rattle.index.proofs.index.Statement.{statement}
 use Rattle.index.proofs.index.Tie as tie
-use Rattle.index.proofs.index.Reads as reads
-use Rattle.index.proofs.index.Lts as lts
-use Rattle.index.proofs.link_transition.Reads as link-transition-reads
 
 abbrev Inv-loop : tie.InvT-loop
-Inv-loop file h table limit column₀ head₀ next₀ transitions t₀ column head next t = Indexing (drawsBy limit (netFrom file h)) file h table t column₀ head₀ next₀ column head next
+Inv-loop file h head₀ next₀ last₀ from₀ j₀ head next last from j = Linking file h head₀ next₀ head next last from j
 
 abbrev μ-loop : tie.MeasureT-loop
-μ-loop file h table limit column₀ head₀ next₀ transitions t₀ column head next t = transitions - t
+μ-loop file h head₀ next₀ last₀ from₀ j₀ head next last from j = h .arcs - j
 
--- src/lib.rt:116:5
+-- the start of the arcs of the transition
+start-at : (c : tie.After-begin Inv-loop μ-loop) → c .begin .result ≡ choose (eqb (transitionAt (c .before .before .before .before .before .before .before .before .before .args .file .now) (c .before .before .before .before .before .before .before .before .before .args .h .arcstart) (c .before .before .before .before .before .loop .j)) (c .before .before .before .before .before .loop .last)) (c .before .before .before .before .before .loop .from) (c .before .before .before .before .before .loop .j)
+start-at c =
+    let at = c .before .before .before .before .before .loop in
+    c .begin .ensures ∙ ap (λ (a : Arc). choose (eqb (a .transition) (at .last)) (at .from) (at .j)) (c .before .arc .ensures .0)
+
 loop-holds : tie.Need-loop-holds Inv-loop μ-loop
-loop-holds c = let start = c .before .before .before .before .before .before in indexing-none _ _ _ _ _ _ _ (start .pre .0 .1) (start .pre .1 .0) (start .pre .1 .1)
+loop-holds c = linking-none _ _ _ _ (c .before .before .before .pre .1 .1)
 
--- src/lib.rt:117:9
-link-transition-requires : tie.Need-link-transition-requires Inv-loop μ-loop
-link-transition-requires c κs =
-    let at = c .before .before .before .before .loop .inv in
+mul-arc : tie.Need-mul-arc Inv-loop μ-loop
+mul-arc c = search needs
+
+add-arc : tie.Need-add-arc Inv-loop μ-loop
+add-arc c = search needs
+
+arc-requires : tie.Need-arc-requires Inv-loop μ-loop
+arc-requires c κs = search needs
+
+begin-requires : tie.Need-begin-requires Inv-loop μ-loop
+begin-requires c κs = search needs
+
+link-requires : tie.Need-link-requires Inv-loop μ-loop
+link-requires c κs =
     let start = c .before .before .before .before .before .before .before .before .before .before .before in
-    let room = start .pre .0 .0 in (
-      (
-        record {
-          sound = room .sound;
-          limit-long = room .limit-long;
-          column-long = omega (arith, room .column-long, at .column-long);
-          head-long = omega (arith, room .head-long, at .head-long);
-          next-long = omega (arith, room .next-long, at .next-long);
-        },
-        start .pre .0 .1,
-        c .before .before .before .loop-test .taken,
-      ),
-      (at .rest, at .rows),
+    let at = c .before .before .before .before .before .before .before .loop in
+    let s = start .args .file .now in
+    let h = start .args .h in
+    let l = c .before .before .before .before .before .if1 .taken in
+    subst (λ (a : Arc). Room s (h .arcstart) (at .j) (c .before .before .begin .result) (a .place) (at .head) (at .next) × (a .direction ≤ 1)) (sym (c .before .before .before .arc .ensures .0)) (
+      room s h (start .pre .0) _ _ _ _ _ _ _ (at .inv) l (start .pre .1 .0 .0) (start .pre .1 .0 .1) _ (start-at (c .before .before)),
+      good-at s h (start .pre .0) (at .j) l .direction,
     )
 
--- src/lib.rt:118:9
-add-t : tie.Need-add-t Inv-loop μ-loop
-add-t c = search needs
+add-j : tie.Need-add-j Inv-loop μ-loop
+add-j c = search needs
 
--- src/lib.rt:116:5
 loop-less : tie.Need-loop-less Inv-loop μ-loop
-loop-less c = search needs
+loop-less c = omega (arith, c .before .before .before .before .before .before .before .before .before .before .if1 .taken)
 
--- src/lib.rt:116:5
 loop-again : tie.Need-loop-again Inv-loop μ-loop
 loop-again c =
-    let at = c .before .before .before .before .before .before .before .before .before .before .before .loop .inv in
-    let done = c .before .before .before .before .before .before .link-transition in
-    indexing-more _ _ _ _ _ _ _ _ _ _ _ _ _ _ at (c .before .before .before .before .before .before .before .before .before .before .loop-test .taken) (search needs) (search needs) (search needs) (done .ensures .0) (done .ensures .1)
+    let start = c .before .before .before .before .before .before .before .before .before .before .before .before .before .before .before .before in
+    let at = c .before .before .before .before .before .before .before .before .before .before .before .before .loop in
+    let s = start .args .file .now in
+    let h = start .args .h in
+    let l = c .before .before .before .before .before .before .before .before .before .before .if1 .taken in
+    let done = c .before .before .before .before .link in
+    subst (λ (a : Arc). Linking s h (start .args .head .now) (start .args .next .now) (done .last .1 .1 .1 .1 .1 .1 .1 .0) (done .last .1 .1 .1 .1 .1 .1 .1 .1 .0) (a .transition) (c .before .before .before .before .before .before .before .begin .result) (at .j + 1)) (sym (c .before .before .before .before .before .before .before .before .arc .ensures .0))
+    (linking-more s h (start .pre .0) _ _ _ _ _ _ _ (at .inv) l (start .pre .1 .0 .0) (start .pre .1 .0 .1) _ (start-at (c .before .before .before .before .before .before .before)) _ _ (search needs) (search needs)
+    (subst (λ (a : Arc). Linked s (h .arcstart) (at .j) (c .before .before .before .before .before .before .before .begin .result) (a .place) (a .direction) (a .weight) (at .head) (at .next) (done .last .1 .1 .1 .1 .1 .1 .1 .0) (done .last .1 .1 .1 .1 .1 .1 .1 .1 .0)) (c .before .before .before .before .before .before .before .before .arc .ensures .0) (done .ensures)))
 
--- src/lib.rt:100:1
 same-length : tie.Need-same-length Inv-loop μ-loop
-same-length c = search needs
+same-length c = c .before .before .loop .inv .head-long
 
--- src/lib.rt:100:1
 same-length-2 : tie.Need-same-length-2 Inv-loop μ-loop
-same-length-2 c = search needs
+same-length-2 c = c .before .before .loop .inv .next-long
 
--- src/lib.rt:100:1
-same-length-3 : tie.Need-same-length-3 Inv-loop μ-loop
-same-length-3 c = search needs
-
--- src/lib.rt:100:1
 returns : tie.Need-returns Inv-loop μ-loop
-returns c = let start = c .before .before .before .before .before .before .before .before in indexing-end _ _ _ _ _ _ _ _ _ _ _ (start .pre .0 .0 .sound) (start .pre .0 .1) (c .before .loop .inv) (c .loop-test .left)
+returns c = let start = c .before .before .before .before .before .before in linking-end _ _ _ _ _ _ _ _ _ (c .before .before .loop .inv) (c .if1 .left) (start .pre .1 .0 .0) (start .pre .1 .0 .1)
 
 pub index-spec : {M : Type 1} → statement M
 index-spec =
@@ -80,11 +85,14 @@ index-spec =
     Inv-loop
     μ-loop
     loop-holds
-    link-transition-requires
-    add-t
+    mul-arc
+    add-arc
+    arc-requires
+    begin-requires
+    link-requires
+    add-j
     loop-less
     loop-again
     same-length
     same-length-2
-    same-length-3
     returns)

@@ -1,109 +1,67 @@
 use borrow.Author.Needs.{needs}
-use Prim.Native.Nat.{ℕ, _+_, _*_, _-_, _≤_, _<_}
-use mathlib.Core.Path.{_≡_, refl, sym, ap, _∙_, subst}
+use Prim.Native.Nat.{ℕ, _*_, _<_}
+use mathlib.Core.Path.{_≡_, sym, ap, _∙_, subst}
 use native.Mathlib.Omega.{arith}
-use lib.ListN.{getD}
+use Rattle.net.specs.Net.{takesFrom}
+use Rattle.net.specs.declared.Arc.{Arc}
+use Rattle.file.specs.Layout.{netFrom}
 use Rattle.starts.specs.Table.{Split}
-use Rattle.search.proofs.Steps.{inputs-run, takes-placed, transition-known, transition-new}
+use Rattle.starts.proofs.Reached.{good-at}
+use Rattle.rows.specs.Rows.{transitionAt}
+use Rattle.search.proofs.Steps.{transition-known, transition-new}
 use Rattle.search.proofs.keep_transition.Statement.{statement}
 use Rattle.search.proofs.keep_transition.Tie as tie
-use Rattle.search.proofs.keep_transition.Reads as reads
-use Rattle.search.proofs.keep_transition.Lts as lts
-use Rattle.pending.proofs.insert.Reads as insert-reads
-use Rattle.search.proofs.keep_places.Reads as keep-places-reads
-use Rattle.search.proofs.wide.Reads as wide-reads
-use Rattle.sets.proofs.contains.Reads as contains-reads
 
--- the input arcs of t stand between the two starts that were read
-abbrev At : tie.After-wide2 → ℕ → ℕ → Type 0
-At c k r = Split (c .before .before .before .before .before .before .before .before .before .before .before .args .file .now) (c .before .before .before .before .before .before .before .before .before .before .before .args .h .arcstart) (c .before .before .before .before .before .before .before .before .before .before .before .args .h .arcs) k r
+mul-arc : tie.Need-mul-arc
+mul-arc c = search needs
 
-from : (c : tie.After-wide2) → At c (2 * c .before .before .before .before .before .before .before .before .before .before .before .args .t) (c .before .before .wide .result)
-from c = let start = c .before .before .before .before .before .before .before .before .before .before .before in subst (At c (2 * start .args .t)) (sym (c .before .before .wide .ensures)) (start .pre .1 .splits (2 * start .args .t) (omega (arith, start .pre .2)))
+add-arc : tie.Need-add-arc
+add-arc c = search needs
 
-to : (c : tie.After-wide2) → At c (2 * c .before .before .before .before .before .before .before .before .before .before .before .args .t + 1) (c .wide2 .result)
-to c = let start = c .before .before .before .before .before .before .before .before .before .before .before in subst (At c (2 * start .args .t + 1)) (sym (c .wide2 .ensures)) (start .pre .1 .splits (2 * start .args .t + 1) (omega (arith, start .pre .2)))
+arc-requires : tie.Need-arc-requires
+arc-requires c κs = search needs
 
--- src/lib.rt:58:8
+-- the transition of the arc, which is one of the net
+same : (c : tie.After-arc) → c .arc .result .transition ≡ transitionAt (c .before .before .before .args .file .now) (c .before .before .before .args .h .arcstart) (c .before .before .before .args .from)
+same c = ap (λ (a : Arc). a .transition) (c .arc .ensures .0)
+
+inside : (c : tie.After-arc) → c .arc .result .transition < c .before .before .before .args .h .transitions
+inside c = let start = c .before .before .before in omega (arith, same c, good-at (start .args .file .now) (start .args .h) (start .pre .0 .0) (start .args .from) (start .pre .0 .1) .transition)
+
 contains-requires : tie.Need-contains-requires
-contains-requires c κs = search needs
+contains-requires c κs = let l = inside (c .before) in let start = c .before .before .before .before in let u = start .pre .0 .0 .placed .transitions in omega arith
 
--- src/lib.rt:59:9
 returns : tie.Need-returns
-returns c = let start = c .before .before .before .before .before in transition-known _ _ _ _ _ _ (sym (c .before .contains .ensures) ∙ c .if1 .taken) (start .pre .3)
+returns c =
+    let start = c .before .before .before .before .before .before in
+    transition-known (takesFrom (netFrom (start .args .file .now) (start .args .h))) _ _ (same (c .before .before .before)) _ _ _ (sym (c .before .contains .ensures) ∙ c .if1 .taken) (start .pre .1)
 
--- src/lib.rt:61:5
 insert-requires : tie.Need-insert-requires
-insert-requires c κs = search needs
+insert-requires c κs = let l = inside (c .before .before .before .before) in let start = c .before .before .before .before .before .before .before in let u = start .pre .0 .0 .placed .transitions in (omega arith, start .pre .1 .transitions-long)
 
--- src/lib.rt:63:27
-mul-wide : tie.Need-mul-wide
-mul-wide c = search needs
-
--- src/lib.rt:63:21
-mul-wide-2 : tie.Need-mul-wide-2
-mul-wide-2 c = search needs
-
--- src/lib.rt:63:21
-shared-slice-read-wide : tie.Need-shared-slice-read-wide
-shared-slice-read-wide c = search needs
-
--- src/lib.rt:63:9
-wide-requires : tie.Need-wide-requires
-wide-requires c κs = search needs
-
--- src/lib.rt:64:25
-mul-wide-3 : tie.Need-mul-wide-3
-mul-wide-3 c = search needs
-
--- src/lib.rt:64:25
-add-wide : tie.Need-add-wide
-add-wide c = search needs
-
--- src/lib.rt:64:19
-mul-wide-4 : tie.Need-mul-wide-4
-mul-wide-4 c = search needs
-
--- src/lib.rt:64:19
-shared-slice-read-wide-2 : tie.Need-shared-slice-read-wide-2
-shared-slice-read-wide-2 c = search needs
-
--- src/lib.rt:64:9
-wide-requires-2 : tie.Need-wide-requires-2
-wide-requires-2 c κs = search needs
-
--- src/lib.rt:65:5
-keep-places-requires : tie.Need-keep-places-requires
-keep-places-requires c κs =
-    let at = c .before .before in
-    let start = at .before .before .before .before .before .before .before .before .before .before .before in (
-      inputs-run _ (start .args .h) (start .pre .0) (start .args .t) _ _ (from at) (to at),
-      start .pre .3 .words,
+keep-inputs-requires : tie.Need-keep-inputs-requires
+keep-inputs-requires c κs =
+    let start = c .before .before .before .before .before .before .before .before .before in (
+      start .pre .0 .0,
+      inside (c .before .before .before .before .before .before),
+      subst (λ (t : ℕ). Split (start .args .file .now) (start .args .h .arcstart) (start .args .h .arcs) (2 * t) (start .args .from)) (sym (same (c .before .before .before .before .before .before))) (start .pre .0 .2),
+      start .pre .1 .places-long,
     )
 
--- src/lib.rt:45:1
 returns-2 : tie.Need-returns-2
 returns-2 c =
-    let at = c .before .before .before in
-    let start = at .before .before .before .before .before .before .before .before .before .before .before in
-    transition-new _ _ _ _ _ _ _ _ _ _ _ (sym (c .before .before .before .before .before .before .before .before .before .before .contains .ensures) ∙ c .before .before .before .before .before .before .before .before .before .if1 .left) (c .before .before .before .before .before .before .before .insert .ensures) (c .keep-places .ensures)
-    (takes-placed _ (start .args .h) (start .pre .0) (start .args .t) _ _ (from at) (to at))
+    let start = c .before .before .before .before .before .before .before .before .before .before in
+    transition-new (takesFrom (netFrom (start .args .file .now) (start .args .h))) _ _ (same (c .before .before .before .before .before .before .before)) _ _ _ _ _ _ (sym (c .before .before .before .before .before .contains .ensures) ∙ c .before .before .before .before .if1 .left) (c .before .before .insert .ensures) (c .keep-inputs .ensures)
 
 pub keep-transition-spec : {M : Type 1} → statement M
 keep-transition-spec =
     tie.close
     (tie.spec
+    mul-arc
+    add-arc
+    arc-requires
     contains-requires
     returns
     insert-requires
-    mul-wide
-    mul-wide-2
-    shared-slice-read-wide
-    wide-requires
-    mul-wide-3
-    add-wide
-    mul-wide-4
-    shared-slice-read-wide-2
-    wide-requires-2
-    keep-places-requires
+    keep-inputs-requires
     returns-2)

@@ -1,0 +1,96 @@
+-- Rows of arcs by what is told so far. Assumes nothing.
+use Prim.Native.Nat.{ℕ, suc, _+_, _*_, _-_, _/_, _%_, _≤_, _<_}
+use mathlib.Core.Bool.{Bool}
+use mathlib.Core.List.{List}
+use mathlib.Core.Path.{_≡_, refl, sym, ap, subst}
+use native.Mathlib.Omega.{arith}
+use native.Mathlib.Decide.{decLt}
+use lib.Dec.{T}
+use Rattle.file.specs.Layout.{netFrom}
+use Rattle.file.specs.declared.Header.{Header}
+use Rattle.starts.specs.Table.{Split}
+use Rattle.rows.specs.Rows.{transitionAt, directionAt, placeAt, moves, entryOf, Last}
+
+-- e is the entry of the last of the first i arcs that are at p, go in the direction d and are of a transition that passes; or 0
+pub record Ends (s : List ℕ) (h : Header) (passes : ℕ → Bool) (i d p e : ℕ) : Type 0 where
+  pub within : e % 65536 ≤ i
+  pub ends : e % 65536 ≡ 0 → e ≡ 0
+  pub at : (j : ℕ) → e % 65536 ≡ suc j → placeAt s (h .arcstart) j ≡ p
+  pub goes : (j : ℕ) → e % 65536 ≡ suc j → directionAt s (h .arcstart) j ≡ d
+  pub passes-it : (j : ℕ) → e % 65536 ≡ suc j → T (passes (transitionAt s (h .arcstart) j))
+  pub begun : (j : ℕ) → e % 65536 ≡ suc j → 0 < e / 65536
+  pub first : (j : ℕ) → e % 65536 ≡ suc j → Split s (h .arcstart) (h .arcs) (2 * transitionAt s (h .arcstart) j) (e / 65536 - 1)
+  pub rest : (k : ℕ) → e % 65536 ≤ k → k < i → placeAt s (h .arcstart) k ≡ p → directionAt s (h .arcstart) k ≡ d → T (passes (transitionAt s (h .arcstart) k)) → ⊥
+
+-- where the transitions that move p pass, it is the last arc
+pub is-last : (s : List ℕ) (h : Header) (i d p e : ℕ) → Ends s h (moves (netFrom s h) d p) i d p e → Last s h i d p e
+is-last s h i d p e x = record {
+  within = x .within;
+  ends = x .ends;
+  at = x .at;
+  goes = x .goes;
+  moves-it = x .passes-it;
+  begun = x .begun;
+  first = x .first;
+  rest = x .rest;
+}
+
+entry-arc : (j from : ℕ) → j < 4096 → (65536 * suc from + suc j) % 65536 ≡ suc j
+entry-arc j from l = omega arith
+
+entry-start : (j from : ℕ) → j < 4096 → (65536 * suc from + suc j) / 65536 ≡ suc from
+entry-start j from l = omega arith
+
+module _ (s : List ℕ) (h : Header) where
+  -- of no arcs there is none
+  pub ends-none : (passes : ℕ → Bool) (d p e : ℕ) → e ≡ 0 → Ends s h passes 0 d p e
+  ends-none passes d p e z = rw z (record {
+    within = omega arith;
+    ends = λ q. refl;
+    at = λ j q. absurd (omega arith);
+    goes = λ j q. absurd (omega arith);
+    passes-it = λ j q. absurd (omega arith);
+    begun = λ j q. absurd (omega arith);
+    first = λ j q. absurd (omega arith);
+    rest = λ k a b. absurd (omega arith);
+  })
+
+  -- arc j itself is the last of the first j + 1
+  pub ends-own : (passes : ℕ → Bool) (j from : ℕ) → j < 4096 → T (passes (transitionAt s (h .arcstart) j)) → Split s (h .arcstart) (h .arcs) (2 * transitionAt s (h .arcstart) j) from
+      → Ends s h passes (suc j) (directionAt s (h .arcstart) j) (placeAt s (h .arcstart) j) (entryOf j from)
+  ends-own passes j from l m split = record {
+    within = omega (arith, entry-arc j from l);
+    ends = λ q. absurd (omega (arith, entry-arc j from l, q));
+    at = λ i q. ap (placeAt s (h .arcstart)) (is i q);
+    goes = λ i q. ap (directionAt s (h .arcstart)) (is i q);
+    passes-it = λ i q. subst (λ (k : ℕ). T (passes (transitionAt s (h .arcstart) k))) (sym (is i q)) m;
+    begun = λ i q. omega (arith, entry-start j from l);
+    first = λ i q.
+        let e : from ≡ entryOf j from / 65536 - 1 = omega (arith, entry-start j from l) in
+        subst (λ (k : ℕ). Split s (h .arcstart) (h .arcs) (2 * transitionAt s (h .arcstart) k) (entryOf j from / 65536 - 1)) (sym (is i q))
+        (subst (Split s (h .arcstart) (h .arcs) (2 * transitionAt s (h .arcstart) j)) e split);
+    rest = λ k a b. absurd (omega (arith, entry-arc j from l, a, b));
+  }
+    where
+      is : (i : ℕ) → entryOf j from % 65536 ≡ suc i → i ≡ j
+      is i q = omega (arith, entry-arc j from l, q)
+
+  -- more arcs, of which none passes, and another test that the first pass alike
+  pub ends-keep : (f g : ℕ → Bool) (i n d p e : ℕ) → i ≤ n
+      → ((k : ℕ) → k < i → placeAt s (h .arcstart) k ≡ p → directionAt s (h .arcstart) k ≡ d → f (transitionAt s (h .arcstart) k) ≡ g (transitionAt s (h .arcstart) k))
+      → ((k : ℕ) → i ≤ k → k < n → placeAt s (h .arcstart) k ≡ p → directionAt s (h .arcstart) k ≡ d → T (g (transitionAt s (h .arcstart) k)) → ⊥)
+      → Ends s h f i d p e → Ends s h g n d p e
+  ends-keep f g i n d p e l same none x = record {
+    within = omega (arith, x .within);
+    ends = x .ends;
+    at = x .at;
+    goes = x .goes;
+    passes-it = λ k q. subst T (same k (omega (arith, x .within)) (x .at k q) (x .goes k q)) (x .passes-it k q);
+    begun = x .begun;
+    first = x .first;
+    rest = λ k a b at goes m. older k a b at goes m (decLt k i);
+  }
+    where
+      older : (k : ℕ) → e % 65536 ≤ k → k < n → placeAt s (h .arcstart) k ≡ p → directionAt s (h .arcstart) k ≡ d → T (g (transitionAt s (h .arcstart) k)) → Dec (k < i) → ⊥
+      older k a b at goes m (yes q) = x .rest k a q at goes (subst T (sym (same k q at goes)) m)
+      older k a b at goes m (no q) = none k (omega arith) b at goes m
