@@ -214,7 +214,9 @@ impl Case for ReplayCase {
     fn outcome(&self, answer: &Answer) -> String {
         match answer.number {
             0 if self.list.len == 0 => "fired-none".into(),
+            0 if self.list.len >= 64 => "fired-64-or-more".into(),
             0 => "fired".into(),
+            100 if self.list.len >= 64 => "stuck-of-64-or-more".into(),
             100 if answer.outs[0] == 0 => "stuck-first".into(),
             100 => "stuck-later".into(),
             n => n.to_string(),

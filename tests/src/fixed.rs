@@ -366,6 +366,19 @@ pub fn replays() -> Vec<Fixed<ReplayCase>> {
     add("65,536 firings".into(), &small, &[0; 65_536], 5, 11, (0, 0), &[]);
     add("length before numbers".into(), &small, &[4; 65_536], 5, 11, (0, 0), &[]);
     add("65,535 firings stick".into(), &small, &[0; 65_535], 5, 100, (1, 1), &[1, 0, 1, 0, 0]);
+    let full = changed(&small_plan(), |d| d.marking[0] = 40);
+    let turns = [0, 1].repeat(40);
+    for more in [&[][..], &[0], &[1, 0], &[3, 2], &[2, 2, 0]] {
+        // All forty have left: waiting is empty, and 2 fires.
+        let fired = more.iter().take_while(|&&t| t == 2).count();
+        let left = 40 - 2 * fired as u64;
+        let (number, stuck) = match more.get(fired) {
+            None => (0, (0, 0)),
+            Some(&t) => (100, (80 + fired as i64, if t == 1 { 2 } else { 0 })),
+        };
+        let list = [&turns[..], more].concat();
+        add(format!("80 firings, then {more:?}"), &full, &list, 5, number, stuck, &[0, 1, 0, left, fired as u64]);
+    }
     let well = Draft::plan(vec![u32::MAX], 1, vec![DraftArc::new(0, 1, 0, 65_535)]).bytes();
     let most = 4_294_967_295 + 65_535 * 65_535;
     add("the most tokens there can be".into(), &well, &[0; 65_535], 1, 0, (0, 0), &[most]);

@@ -82,6 +82,7 @@ pub fn list_for(rng: &mut Rng, net: &Net) -> Vec<u16> {
     let most = match rng.below(1_000) {
         0 => *rng.pick(&[MAX_LIST, MAX_LIST, 20_000]),
         1..=10 => 1_000,
+        11..=90 => rng.range(65, 200),
         _ => 24,
     };
     match rng.below(10) {
@@ -98,7 +99,9 @@ pub fn list_for(rng: &mut Rng, net: &Net) -> Vec<u16> {
             if !stuck.is_empty() {
                 list.push(*rng.pick(&stuck) as u16);
             }
-            for _ in 0..rng.below(4) {
+            // Lists of 64 entries and more are fired through by another way than shorter ones.
+            let rest = if rng.percent(5) { rng.range(60, 80) } else { rng.below(4) };
+            for _ in 0..rest {
                 list.push(rng.below(transitions) as u16);
             }
             list.truncate(MAX_LIST);
