@@ -8,6 +8,7 @@ use native.Mathlib.Decide.{decLt}
 use lib.Dec.{T, eqb, eqb→eq}
 use lib.ListN.{length, getD, set, length-set}
 use lib.Bits.{bitOr, bitXor}
+use lib.Pow.{shr-shr}
 use borrow.Author.Tests.{eq-eqb, eqb-true}
 use Rattle.net.proofs.Numbers.{by-or, holds, is-true, is-false, fails, or-left, or-right, and-left, and-right}
 use Rattle.sets.specs.Member.{bit, member, countBelow}
@@ -15,7 +16,7 @@ use Rattle.sets.specs.Lowest.{IsLowest}
 use Rattle.sets.specs.declared.Found.the-variants.{At, Nothing}
 use Rattle.sets.proofs.Bits.{differs, bit-or, bit-xor, bit-pow, bit-zero, bit-suc, bit-low, shifted-one}
 use Rattle.sets.proofs.Members.{mask, clears, added, member-at}
-use Rattle.pending.specs.Growing.{Inserted, waits, Marked, PlacesKept, LowestPending}
+use Rattle.pending.specs.Growing.{MarksBelow, Inserted, waits, Marked, PlacesKept, LowestPending}
 use Rattle.pending.proofs.Counting.{count-less}
 
 -- the code's 1 << i
@@ -82,17 +83,28 @@ ones-out zero k l = bit-zero k
 ones-out (suc n) zero l = absurd (omega arith)
 ones-out (suc n) (suc k) l = bit-suc (2 * ones n + 1) k ∙ ap (λ (w : ℕ). bit w k) (let e : (2 * ones n + 1) / 2 ≡ ones n = omega arith in e) ∙ ones-out n k (omega arith)
 
--- at first every word is marked
-pub all-marked : (places : List ℕ) (gone : ℕ → Bool) → ((k : ℕ) → T (member places k) → k < 1024) → Marked places gone 65535
+-- sixteen ones, shifted
+bit-shifted : (a i : ℕ) → bit (65535 / 2 ^ a) i ≡ bit 65535 (a + i)
+unfolding bit
+bit-shifted a i = ap (λ (x : ℕ). eqb (x % 2) 1) (shr-shr 65535 a i)
+
+pub below-marked : (n : ℕ) → n ≤ 1024 → MarksBelow n (65535 / 2 ^ (16 - (n + 63) / 64))
 unfolding ones
-all-marked places gone inside = record {
+below-marked n l = record {
   words = λ i h. go i h (decLt i 16);
-  marked = λ k h. let l = inside k (and-left (member places k) (not (gone k)) h) in holds _ (ones-in 16 (k / 64) (omega arith));
+  marked = λ k h. holds _ (bit-shifted (16 - (n + 63) / 64) (k / 64) ∙ ones-in 16 (16 - (n + 63) / 64 + k / 64) (omega arith));
 }
   where
-    go : (i : ℕ) → T (bit 65535 i) → Dec (i < 16) → i < 16
-    go i h (yes l) = l
-    go i h (no l) = absurd (fails _ (ones-out 16 i (omega arith)) h)
+    go : (i : ℕ) → T (bit (65535 / 2 ^ (16 - (n + 63) / 64)) i) → Dec (i < 16) → i < 16
+    go i h (yes m) = m
+    go i h (no m) = absurd (fails _ (bit-shifted (16 - (n + 63) / 64) i ∙ ones-out 16 (16 - (n + 63) / 64 + i) (omega arith)) h)
+
+-- at first every word that can have a place is marked
+pub all-marked : (n marks : ℕ) → MarksBelow n marks → (places : List ℕ) (gone : ℕ → Bool) → ((k : ℕ) → T (member places k) → k < n) → Marked places gone marks
+all-marked n marks m places gone inside = record {
+  words = m .words;
+  marked = λ k h. m .marked k (inside k (and-left (member places k) (not (gone k)) h));
+}
 
 -- ---- the lowest pending place
 

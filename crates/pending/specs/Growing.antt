@@ -23,6 +23,11 @@ pub record Marked (places : List ℕ) (gone : ℕ → Bool) (marks : ℕ) : Type
   pub words : (i : ℕ) → T (bit marks i) → i < 16
   pub marked : (k : ℕ) → T (waits places gone k) → T (bit marks (k / 64))
 
+-- only words of the sixteen are marked, and every word that has a number below n is
+pub record MarksBelow (n marks : ℕ) : Type 0 where
+  pub words : (i : ℕ) → T (bit marks i) → i < 16
+  pub marked : (k : ℕ) → k < n → T (bit marks (k / 64))
+
 -- the places `new` are kept, and their words are marked
 pub record PlacesKept (new : ℕ → Bool) (marks marks′ : ℕ) (places places′ : List ℕ) : Type 0 where
   pub kept : (k : ℕ) → member places′ k ≡ member places k || new k

@@ -1,11 +1,11 @@
 // Sets of places lent as sixteen 64-bit words: kept places, and those of them whose transitions have been gone through.
 ghost use mathlib.Core.Path.{_≡_};
 ghost use mathlib.Core.Bool.{not, _&&_};
-ghost use Prim.Native.Nat.{ℕ, _<_};
+ghost use Prim.Native.Nat.{ℕ, _≤_, _<_};
 ghost use lib.Dec.{T, eqb};
 ghost use lib.ListN.{length};
 ghost use Rattle.sets.specs.Member.{bit, member};
-ghost use Rattle.pending.specs.Growing.{Inserted, Marked, PlacesKept, LowestPending};
+ghost use Rattle.pending.specs.Growing.{MarksBelow, Inserted, Marked, PlacesKept, LowestPending};
 use sets::Found;
 
 // Adds n to a set.
@@ -15,6 +15,14 @@ pub fn insert(words: &mut [u64; 16], n: usize)
 {
     let i = n / 64;
     words[i] = words[i] | (1u64 << (n % 64));
+}
+
+// A mark for each word that has a number below n.
+pub fn marks_below(n: usize) -> u64
+    requires { ⌜ n ≤ 1024 ⌝ }
+    ensures { λ r. ⌜ MarksBelow n r ⌝ }
+{
+    65535u64 >> (16 - (n + 63) / 64)
 }
 
 // Keeps the place p, and marks its word: only marked words may have a pending place.

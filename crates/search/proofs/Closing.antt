@@ -18,7 +18,7 @@ use Rattle.sets.specs.Member.{member, countBelow}
 use Rattle.sets.specs.Lowest.{IsLowest}
 use Rattle.sets.specs.declared.Found.the-variants.{At, Nothing}
 use Rattle.sets.proofs.Members.{none}
-use Rattle.pending.specs.Growing.{Inserted, waits, Marked}
+use Rattle.pending.specs.Growing.{MarksBelow, Inserted, waits, Marked}
 use Rattle.pending.proofs.Counting.{count-less}
 use Rattle.pending.proofs.Laws.{all-marked}
 use Rattle.search.specs.Search
@@ -68,13 +68,14 @@ not-gone true g e = ap not (sym e)
 not-gone false g e = refl
 
 module _ (s : List ℕ) (h : Header) (sound : Sound s h) (all : Bool) (both places transitions : List ℕ) where
-  pub closing-none : Search.Sets places transitions → ((k : ℕ) → T (member places k) → k < h .places) → Closing s h all both 65535 places transitions places transitions (replicate 16 0)
-  closing-none w inside = record {
+  pub closing-none : Search.Sets places transitions → ((k : ℕ) → T (member places k) → k < h .places) → {marks : ℕ} → MarksBelow (h .places) marks
+      → Closing s h all both marks places transitions places transitions (replicate 16 0)
+  closing-none w inside {marks} m = record {
     sets = w;
     long = refl;
     inside = inside;
     part = λ k m. absurd (fails _ (none k) m);
-    marked = all-marked places (member (replicate 16 0)) (λ k m. omega (arith, inside k m, sound .placed .places));
+    marked = all-marked (h .places) marks m places (member (replicate 16 0)) inside;
     search = λ G g at. search-as G (member places) (member places) (member transitions) _ 0 (G .transitions) (λ k. not-gone (member places k) (member (replicate 16 0) k) (none k)) at;
   }
 

@@ -124,7 +124,7 @@ pub fn close(
     ensures { λ _. ⌜ Closed (now (file .entry)) h all (now (both .entry)) (now (places .entry)) (now (transitions .entry)) (now (places .exit)) (now (transitions .exit)) ⌝ }
 {
     let mut gone = [0u64; 16];
-    let mut marks: u64 = 65535;
+    let mut marks = pending::marks_below(h.places);
     loop {
         let lowest = pending::lowest(places, &gone, &mut marks);
         let Found::At(p) = lowest else {

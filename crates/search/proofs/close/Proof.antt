@@ -20,8 +20,11 @@ abbrev μ-loop : tie.MeasureT-loop
 found : (c : tie.After-lowest2 Inv-loop μ-loop) → let at = c .before .before .before .before .before .before .loop in IsLowest 1024 (waits (at .places) (member (at .gone))) (At (c .lowest2 .given .0 .0))
 found c = let at = c .before .before .before .before .before .before .loop in subst (IsLowest 1024 (waits (at .places) (member (at .gone)))) (c .lowest2 .given .1) (c .before .before .lowest .ensures .lowest)
 
+marks-below-requires : tie.Need-marks-below-requires Inv-loop μ-loop
+marks-below-requires c κs = c .before .before .before .pre .0 .0 .placed .places
+
 loop-holds : tie.Need-loop-holds Inv-loop μ-loop
-loop-holds c = let start = c .before .before .before in closing-none _ (start .args .h) (start .pre .0 .0) _ _ _ _ (start .pre .1 .0) (start .pre .1 .1)
+loop-holds c = let start = c .before .before .before .before in closing-none _ (start .args .h) (start .pre .0 .0) _ _ _ _ (start .pre .1 .0) (start .pre .1 .1) (c .marks-below .ensures)
 
 lowest-requires : tie.Need-lowest-requires Inv-loop μ-loop
 lowest-requires c κs = let x = c .before .before .before .loop .inv in (x .part, x .marked)
@@ -34,7 +37,7 @@ enum-told c = search needs
 
 returns : tie.Need-returns Inv-loop μ-loop
 returns c =
-    let start = c .before .before .before .before .before .before .before .before .before .before in
+    let start = c .before .before .before .before .before .before .before .before .before .before .before in
     let at = c .before .before .before .before .before .before .loop in
     closing-end _ (start .args .h) (start .pre .0 .0) _ _ _ _ _ _ _ _ (at .inv) (subst (IsLowest 1024 (waits (at .places) (member (at .gone)))) (c .enum-told .given .1) (c .before .before .lowest .ensures .lowest))
 
@@ -43,18 +46,18 @@ insert-requires c κs = (found (c .before .before) .0, c .before .before .before
 
 turn-requires : tie.Need-turn-requires Inv-loop μ-loop
 turn-requires c κs =
-    let start = c .before .before .before .before .before .before .before .before .before .before .before .before .before .before .before in
+    let start = c .before .before .before .before .before .before .before .before .before .before .before .before .before .before .before .before in
     let x = c .before .before .before .before .before .before .before .before .before .before .before .loop .inv in
     (start .pre .0 .0, start .pre .0 .1, found-below _ (start .args .h) (start .pre .0 .0) _ _ _ _ _ _ _ _ x _ (found (c .before .before .before .before .before)), x .sets)
 
 loop-less : tie.Need-loop-less Inv-loop μ-loop
 loop-less c =
-    let start = c .before .before .before .before .before .before .before .before .before .before .before .before .before .before .before .before in
+    let start = c .before .before .before .before .before .before .before .before .before .before .before .before .before .before .before .before .before in
     closing-less _ (start .args .h) (start .pre .0 .0) _ _ _ _ _ _ _ _ (c .before .before .before .before .before .before .before .before .before .before .before .before .loop .inv) _ (found (c .before .before .before .before .before .before)) _ (c .before .before .before .insert .ensures)
 
 loop-again : tie.Need-loop-again Inv-loop μ-loop
 loop-again c =
-    let start = c .before .before .before .before .before .before .before .before .before .before .before .before .before .before .before .before in
+    let start = c .before .before .before .before .before .before .before .before .before .before .before .before .before .before .before .before .before in
     closing-more _ (start .args .h) (start .pre .0 .0) _ _ _ _ _ _ _ _ (c .before .before .before .before .before .before .before .before .before .before .before .before .loop .inv) _ (found (c .before .before .before .before .before .before)) _ (c .before .before .before .insert .ensures) _ _ (c .before .before .before .before .before .before .before .before .lowest .ensures .marked) _ _ (c .turn .ensures)
 
 pub close-spec : {M : Type 1} → statement M
@@ -63,6 +66,7 @@ close-spec =
     (tie.spec
     Inv-loop
     μ-loop
+    marks-below-requires
     loop-holds
     lowest-requires
     enum-known-lowest
