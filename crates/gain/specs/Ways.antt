@@ -15,6 +15,10 @@ placeAt s start i = arcAt s (start + 8 * i) .place
 abbrev pub transitionAt : List ℕ → ℕ → ℕ → ℕ
 transitionAt s start i = arcAt s (start + 8 * i) .transition
 
+-- its direction
+abbrev pub directionAt : List ℕ → ℕ → ℕ → ℕ
+directionAt s start i = arcAt s (start + 8 * i) .direction
+
 -- what an arc adds to the sum of p in direction d
 abbrev pub share : ℕ → ℕ → Arc → ℕ
 share d p a = counted (eqb (a .direction) d && eqb (a .place) p) (a .weight)

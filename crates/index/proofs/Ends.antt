@@ -9,31 +9,8 @@ use lib.Dec.{T}
 use Rattle.file.specs.Layout.{netFrom}
 use Rattle.file.specs.declared.Header.{Header}
 use Rattle.starts.specs.Table.{Split}
-use Rattle.rows.specs.Rows.{transitionAt, directionAt, placeAt, moves, entryOf, Last}
-
--- e is the entry of the last of the first i arcs that are at p, go in the direction d and are of a transition that passes; or 0
-pub record Ends (s : List ℕ) (h : Header) (passes : ℕ → Bool) (i d p e : ℕ) : Type 0 where
-  pub within : e % 65536 ≤ i
-  pub ends : e % 65536 ≡ 0 → e ≡ 0
-  pub at : (j : ℕ) → e % 65536 ≡ suc j → placeAt s (h .arcstart) j ≡ p
-  pub goes : (j : ℕ) → e % 65536 ≡ suc j → directionAt s (h .arcstart) j ≡ d
-  pub passes-it : (j : ℕ) → e % 65536 ≡ suc j → T (passes (transitionAt s (h .arcstart) j))
-  pub begun : (j : ℕ) → e % 65536 ≡ suc j → 0 < e / 65536
-  pub first : (j : ℕ) → e % 65536 ≡ suc j → Split s (h .arcstart) (h .arcs) (2 * transitionAt s (h .arcstart) j) (e / 65536 - 1)
-  pub rest : (k : ℕ) → e % 65536 ≤ k → k < i → placeAt s (h .arcstart) k ≡ p → directionAt s (h .arcstart) k ≡ d → T (passes (transitionAt s (h .arcstart) k)) → ⊥
-
--- where the transitions that move p pass, it is the last arc
-pub is-last : (s : List ℕ) (h : Header) (i d p e : ℕ) → Ends s h (moves (netFrom s h) d p) i d p e → Last s h i d p e
-is-last s h i d p e x = record {
-  within = x .within;
-  ends = x .ends;
-  at = x .at;
-  goes = x .goes;
-  moves-it = x .passes-it;
-  begun = x .begun;
-  first = x .first;
-  rest = x .rest;
-}
+use Rattle.gain.specs.Ways.{transitionAt, directionAt, placeAt}
+use Rattle.rows.specs.Rows.{moves, entryOf, Ends}
 
 entry-arc : (j from : ℕ) → j < 4096 → (65536 * suc from + suc j) % 65536 ≡ suc j
 entry-arc j from l = omega arith

@@ -16,11 +16,12 @@ use Rattle.file.specs.declared.Header.{Header}
 use Rattle.file.proofs.Rows.{weight-none}
 use Rattle.starts.specs.Table.{slotAt, choose, Split}
 use Rattle.starts.proofs.Reached.{number-below}
-use Rattle.rows.specs.Rows.{transitionAt, directionAt, placeAt, entryOf, Rows}
+use Rattle.gain.specs.Ways.{transitionAt, directionAt, placeAt}
+use Rattle.rows.specs.Rows.{entryOf, Ends, Rows}
 use Rattle.gain.proofs.Arcs.{Joins, good-at}
 use Rattle.index.specs.Steps.{weightAt, arcIn, Fronted, Returned, Linked, Room}
 use Rattle.index.proofs.Weights
-use Rattle.index.proofs.Ends.{Ends, is-last, ends-none, ends-own, ends-keep}
+use Rattle.index.proofs.Ends.{ends-none, ends-own, ends-keep}
 
 -- the first j arcs are linked, by what they tell
 pub record Rowed (s : List ℕ) (h : Header) (j : ℕ) (head next : List ℕ) : Type 0 where
@@ -454,6 +455,6 @@ linking-end s h before after head next last from j x l hl nl =
     record {
       head-long = omega (arith, x .head-long);
       next-long = omega (arith, x .next-long);
-      heads = λ d p a b. is-last s h (h .arcs) d p _ (r .heads d p a b);
-      nexts = λ k a m. is-last s h k _ _ _ (r .nexts k a m);
+      heads = r .heads;
+      nexts = r .nexts;
     }

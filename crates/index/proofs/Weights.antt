@@ -13,7 +13,9 @@ use Rattle.file.specs.Layout.{arcAt, arcsFrom, netFrom}
 use Rattle.file.specs.Facts.{Sound}
 use Rattle.file.specs.declared.Header.{Header}
 use Rattle.file.proofs.Rows.{key-less, weight-none, weight-next}
-use Rattle.rows.specs.Rows.{transitionAt, directionAt, placeAt, moves}
+use Rattle.gain.specs.Ways.{transitionAt, directionAt, placeAt}
+use Rattle.rows.specs.Rows.{moves}
+use Rattle.gain.proofs.Shares.{share-unless, sum-same}
 use Rattle.gain.proofs.Arcs.{Joins, joined, good-at}
 use Rattle.index.specs.Steps.{weightAt}
 
@@ -44,16 +46,7 @@ told-same s h m n (suc d) p t f = rw (f 0, f 1)
 
 -- arcs that do not join p and t add nothing
 pub still : (s : List ℕ) (h : Header) (m n d p t : ℕ) → m ≤ n → ((k : ℕ) → m ≤ k → k < n → Joins d p t s (h .arcstart) k → ⊥) → sumOf s h n d p t ≡ sumOf s h m d p t
-still s h m zero d p t l f = let e : 0 ≡ m = omega arith in ap (λ (k : ℕ). sumOf s h k d p t) e
-still s h m (suc n) d p t l f = go (ℕ-discrete m (suc n)) (λ g. still s h m n d p t (omega arith) (λ k a b. f k a (omega arith)))
-  where
-    go : Dec (m ≡ suc n) → (m < suc n → sumOf s h n d p t ≡ sumOf s h m d p t) → sumOf s h (suc n) d p t ≡ sumOf s h m d p t
-    go (yes e) rest = ap (λ (k : ℕ). sumOf s h k d p t) (sym e)
-    go (no e) rest =
-        by-cases (joins d p t (arcAt s (h .arcstart + 8 * n)))
-        (λ q. absurd (f n (omega arith) (omega arith) (joined d p t s (h .arcstart) n (arcAt s (h .arcstart + 8 * n)) refl q)))
-        (λ q. let z : counted (joins d p t (arcAt s (h .arcstart + 8 * n))) (weightAt s (h .arcstart) n) ≡ 0 = rw q in
-        omega (arith, weight-next d p t s (h .arcstart) n, z, rest (omega arith)))
+still s h m n d p t l f = sum-same d p t s (h .arcstart) m n l (λ i a b. share-unless d p t (arcAt s (h .arcstart + 8 * i)) (λ e g q. f i a b (record { transition = e; direction = g; place = q })))
 
 -- the order of arcs in numbers
 by-transition : (a b d e p q : ℕ) → 131072 * a + 65536 * d + p < 131072 * b + 65536 * e + q → d ≤ 1 → e ≤ 1 → p < 65536 → q < 65536 → a ≤ b

@@ -1,4 +1,3 @@
-pub mod Sums
 pub mod Order
 pub mod Firing
 pub mod Short

@@ -7,7 +7,7 @@ use Rattle.net.specs.Net.{input, weightOn}
 use Rattle.file.specs.Layout.{arcsFrom}
 use Rattle.file.specs.declared.Header.{Header}
 use Rattle.replay.specs.Steps.{arcOn, InputAt, needAt}
-use Rattle.replay.proofs.Sums.{share-is, share-unless, sum-next, sum-same}
+use Rattle.gain.proofs.Shares.{share-is, share-unless, sum-next, sum-same}
 use Rattle.file.proofs.Rows.{key-less, weight-none}
 
 -- where no two arcs join the same two in one direction, an input arc's weight is all that its transition takes there

@@ -20,7 +20,7 @@ use Rattle.starts.proofs.Reached.{order-at}
 use Rattle.ahead.specs.Steps.{held}
 use Rattle.replay.specs.Steps.{arcOn, InputAt, needAt}
 use Rattle.gain.proofs.Arcs.{good-at}
-use Rattle.replay.proofs.Sums.{share-unless, sum-next, sum-same, sum-more}
+use Rattle.gain.proofs.Shares.{share-unless, sum-next, sum-same, sum-more}
 
 module _ (N : Net) (t : ℕ) (M : Marking) where
   pub short-is : (q : ℕ) → q < N .places → M q < input N q t → ((p : ℕ) → p < q → input N p t ≤ M p) → shortPlace N t M ≡ q

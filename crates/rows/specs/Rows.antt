@@ -6,21 +6,10 @@ use mathlib.Core.Path.{_≡_}
 use lib.Dec.{T, ltb}
 use lib.ListN.{length, getD}
 use Rattle.net.specs.Net.{Net, input, output}
-use Rattle.file.specs.Layout.{arcAt, netFrom}
+use Rattle.file.specs.Layout.{netFrom}
 use Rattle.file.specs.declared.Header.{Header}
 use Rattle.starts.specs.Table.{Split}
-
--- the transition of arc j of those that start at `start`
-abbrev pub transitionAt : List ℕ → ℕ → ℕ → ℕ
-transitionAt s start j = arcAt s (start + 8 * j) .transition
-
--- its direction
-abbrev pub directionAt : List ℕ → ℕ → ℕ → ℕ
-directionAt s start j = arcAt s (start + 8 * j) .direction
-
--- its place
-abbrev pub placeAt : List ℕ → ℕ → ℕ → ℕ
-placeAt s start j = arcAt s (start + 8 * j) .place
+use Rattle.gain.specs.Ways.{placeAt, transitionAt, directionAt}
 
 -- t moves p in the direction d: it lowers p where d is 0, and raises p where d is above 0
 unfoldable pub moves : Net → ℕ → ℕ → ℕ → Bool
@@ -31,16 +20,20 @@ moves N (suc d) p t = ltb (input N p t) (output N p t)
 abbrev pub entryOf : ℕ → ℕ → ℕ
 entryOf j from = 65536 * suc from + suc j
 
--- e is the entry of the last of the first i arcs that are at p, go in the direction d and are of a transition that moves p so; or 0
-pub record Last (s : List ℕ) (h : Header) (i d p e : ℕ) : Type 0 where
+-- e is the entry of the last of the first i arcs that are at p, go in the direction d and are of a transition that passes; or 0
+pub record Ends (s : List ℕ) (h : Header) (passes : ℕ → Bool) (i d p e : ℕ) : Type 0 where
   pub within : e % 65536 ≤ i
   pub ends : e % 65536 ≡ 0 → e ≡ 0
   pub at : (j : ℕ) → e % 65536 ≡ suc j → placeAt s (h .arcstart) j ≡ p
   pub goes : (j : ℕ) → e % 65536 ≡ suc j → directionAt s (h .arcstart) j ≡ d
-  pub moves-it : (j : ℕ) → e % 65536 ≡ suc j → T (moves (netFrom s h) d p (transitionAt s (h .arcstart) j))
+  pub passes-it : (j : ℕ) → e % 65536 ≡ suc j → T (passes (transitionAt s (h .arcstart) j))
   pub begun : (j : ℕ) → e % 65536 ≡ suc j → 0 < e / 65536
   pub first : (j : ℕ) → e % 65536 ≡ suc j → Split s (h .arcstart) (h .arcs) (2 * transitionAt s (h .arcstart) j) (e / 65536 - 1)
-  pub rest : (k : ℕ) → e % 65536 ≤ k → k < i → placeAt s (h .arcstart) k ≡ p → directionAt s (h .arcstart) k ≡ d → T (moves (netFrom s h) d p (transitionAt s (h .arcstart) k)) → ⊥
+  pub rest : (k : ℕ) → e % 65536 ≤ k → k < i → placeAt s (h .arcstart) k ≡ p → directionAt s (h .arcstart) k ≡ d → T (passes (transitionAt s (h .arcstart) k)) → ⊥
+
+-- the same of the transitions that move p so
+abbrev pub Last : List ℕ → Header → ℕ → ℕ → ℕ → ℕ → Type 0
+Last s h i d p e = Ends s h (moves (netFrom s h) d p) i d p e
 
 -- head leads to the last arc of each place and direction, next from an arc to the one before it
 pub record Rows (s : List ℕ) (h : Header) (head next : List ℕ) : Type 0 where

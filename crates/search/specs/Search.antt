@@ -12,7 +12,8 @@ use Rattle.file.specs.Layout.{netFrom}
 use Rattle.file.specs.declared.Header.{Header}
 use Rattle.sets.specs.Member.{member}
 use Rattle.pending.specs.Growing.{waits, Marked, PlacesKept}
-use Rattle.rows.specs.Rows.{transitionAt, directionAt, placeAt, moves, Last}
+use Rattle.gain.specs.Ways.{transitionAt, directionAt, placeAt}
+use Rattle.rows.specs.Rows.{moves, Last}
 
 -- the two sets have sixteen words each
 pub record Sets (places transitions : List ℕ) : Type 0 where

@@ -5,7 +5,7 @@ use native.Mathlib.Omega.{arith}
 use lib.Dec.{eqb}
 use Rattle.net.specs.declared.Arc.{Arc}
 use Rattle.starts.specs.Table.{choose}
-use Rattle.rows.specs.Rows.{transitionAt}
+use Rattle.gain.specs.Ways.{transitionAt}
 use Rattle.gain.proofs.Arcs.{good-at}
 use Rattle.index.specs.Steps.{Linked, Room}
 use Rattle.index.proofs.Linking.{Linking, room, linking-none, linking-more, linking-end}
