@@ -11,7 +11,7 @@
  * - Result pointers must point to one writable number each, and must not overlap the inputs or each other.
  * - No call allocates, keeps state, or reads or writes anything but its arguments; calls may run on many threads at once.
  * - Each function is proved to answer as stated here, on every input, and to return.
- * - Stack, measured on x86-64: below 1 KB for effect and arcs, 3 KB for project, 5 KB for replay, 25 KB for the cuts, 32 KB for the check.
+ * - Stack, measured on x86-64: below 1 KB for effect and arcs, 3 KB for project, 27 KB for the cuts, 32 KB for the check, 38 KB for replay.
  *
  * Refusals, by place of checking; files come first (plan before slice), then criterion, list and buffer:
  *    1  file: below 16 or above 65,536 bytes
