@@ -20,7 +20,7 @@
  *    4  trailer: places, transitions (1,024 each) or arcs (4,096) above the limit, or neither place nor transition
  *    5  trailer: body length not as computed, or above the file's length less 16
  *    6  an arc: zero byte, direction, place, transition or weight out of range
- *    7  an arc: not above the arc before it
+ *    7  an arc: below the arc before it
  *    8  a table of origins: not strictly rising
  *    9  criterion: empty (in bytes also: an odd count)
  *   10  criterion or place: a number that is no place, or a criterion that does not rise
@@ -68,7 +68,7 @@ uint32_t nesfoal_verdict(const uint8_t *plan, size_t plan_length,
 
 /* The effect of a transition on a place of a plan or a slice: by how much one firing changes the place's tokens.
  *
- * Returns 0 and puts the effect, from -65,535 to 65,535, into *effect; or returns a refusal: 1 to 8 of the file, then
+ * Returns 0 and puts the effect, from -268,431,360 to 268,431,360, into *effect; or returns a refusal: 1 to 8 of the file, then
  * 10 for an unknown place, then 12 for an unknown transition, with 0 in *effect.
  */
 uint32_t nesfoal_effect(const uint8_t *file, size_t file_length,

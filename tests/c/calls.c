@@ -94,13 +94,16 @@ static void effects(void)
         {"direction", 22, 2, 6},
         {"zero byte", 23, 1, 6},
         {"weight 0", 26, 0, 6},
-        {"equal arcs", 32, 0, 7},
+        {"an arc below the one before", 24, 2, 7},
     };
     for (size_t i = 0; i < sizeof faults / sizeof faults[0]; i++) {
         memcpy(spoilt, plan, 108);
         spoilt[faults[i].at] = faults[i].value;
         effect_is(faults[i].what, spoilt, 108, 0, 0, faults[i].number, 0);
     }
+    memcpy(spoilt, plan, 108);
+    spoilt[32] = 0; /* the second arc is parallel to the first */
+    effect_is("parallel arcs", spoilt, 108, 0, 0, 0, -2);
     uint8_t spoilt_cut[78];
     memcpy(spoilt_cut, cut, 78);
     spoilt_cut[54] = 0; /* place origins 0, 0, 2 */

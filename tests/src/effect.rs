@@ -15,11 +15,8 @@ pub fn effect(file: &[u8], place: u16, transition: u16) -> Result<i32, Refusal> 
     Ok(weight(&net, Direction::Out, place, transition) - weight(&net, Direction::In, place, transition))
 }
 
-/// The weight of the arc between the two in a direction, or 0 without one.
+/// The sum of the weights of the arcs between the two in a direction.
 fn weight(net: &Net, direction: Direction, place: u16, transition: u16) -> i32 {
     let arcs = net.arcs_of(usize::from(transition));
-    match arcs.iter().find(|a| a.direction == direction && a.place == place) {
-        Some(arc) => i32::from(arc.weight),
-        None => 0,
-    }
+    arcs.iter().filter(|a| a.direction == direction && a.place == place).map(|a| i32::from(a.weight)).sum()
 }

@@ -145,14 +145,13 @@ pub fn bad_files(slice: bool) -> Vec<(String, Vec<u8>, u32)> {
         ("transition T", changed(&good, |d| d.arcs.last_mut().unwrap().transition = t), 6),
         ("transition 65,535", changed(&good, |d| d.arcs[0].transition = 65_535), 6),
         ("weight 0", changed(&good, |d| d.arcs[3].weight = 0), 6),
-        ("6 before 7 in one arc", changed(&good, |d| (d.arcs[1].place, d.arcs[1].weight) = (0, 0)), 6),
-        ("6 in an arc before 7", changed(&good, |d| (d.arcs[0].weight, d.arcs[1].place) = (0, 0)), 6),
-        ("equal arcs", changed(&good, |d| d.arcs[1] = d.arcs[0]), 7),
-        ("arcs equal but for the weight", changed(&good, |d| (d.arcs[1].place, d.arcs[1].weight) = (0, 9)), 7),
+        ("6 before 7 in one arc", changed(&good, |d| (d.arcs[0].place, d.arcs[1].weight) = (2, 0)), 6),
+        ("6 in an arc before 7", changed(&good, |d| (d.arcs[0].weight, d.arcs[0].place) = (0, 2)), 6),
+        ("an arc below two equal ones", changed(&good, |d| (d.arcs[0].place, d.arcs[2]) = (1, d.arcs[0])), 7),
         ("arcs swapped by place", changed(&good, |d| d.arcs.swap(0, 1)), 7),
         ("arcs swapped by direction", changed(&good, |d| d.arcs.swap(1, 2)), 7),
         ("arcs swapped by transition", changed(&good, |d| d.arcs.swap(2, 3)), 7),
-        ("7 in an arc before 6", changed(&good, |d| (d.arcs[1].place, d.arcs[2].weight) = (0, 0)), 7),
+        ("7 in an arc before 6", changed(&good, |d| (d.arcs[0].place, d.arcs[2].weight) = (2, 0)), 7),
     ];
     if slice {
         files.extend([

@@ -36,7 +36,7 @@ pub struct Arc {
 pub struct Net {
     pub kind: Kind,
     pub marking: Vec<u32>,
-    /// Rising by (transition, direction, place).
+    /// In order by (transition, direction, place); equal neighbours are parallel arcs.
     pub arcs: Vec<Arc>,
     /// The arcs of transition t are those from starts[t] up to starts[t + 1].
     pub starts: Vec<usize>,
@@ -56,7 +56,7 @@ impl Net {
         self.starts.len() - 1
     }
 
-    /// The arcs of a transition: its input arcs, then its output arcs, each rising by place.
+    /// The arcs of a transition: its input arcs, then its output arcs, each in order by place.
     pub fn arcs_of(&self, transition: usize) -> &[Arc] {
         &self.arcs[self.starts[transition]..self.starts[transition + 1]]
     }
@@ -79,11 +79,11 @@ impl Net {
                 (Some(a), Some(b)) => a.place.min(b.place),
             };
             let mut effect = 0;
-            if let Some(a) = ins.first().filter(|a| a.place == place) {
+            while let Some(a) = ins.first().filter(|a| a.place == place) {
                 effect -= i32::from(a.weight);
                 ins = &ins[1..];
             }
-            if let Some(b) = outs.first().filter(|b| b.place == place) {
+            while let Some(b) = outs.first().filter(|b| b.place == place) {
                 effect += i32::from(b.weight);
                 outs = &outs[1..];
             }

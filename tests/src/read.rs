@@ -78,7 +78,7 @@ fn read_arcs(bytes: &[u8], places: usize, transitions: usize) -> Result<Vec<Arc>
             return Err(6);
         }
         let key = |a: &Arc| (a.transition, a.direction, a.place);
-        if arcs.last().is_some_and(|before| key(&arc) <= key(before)) {
+        if arcs.last().is_some_and(|before| key(&arc) < key(before)) {
             return Err(7);
         }
         arcs.push(arc);

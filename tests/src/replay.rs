@@ -44,7 +44,9 @@ pub fn initial(net: &Net) -> Vec<u64> {
 /// The lowest place that is short of tokens for the transition.
 pub fn short_place(net: &Net, transition: usize, marking: &[u64]) -> Option<u16> {
     let (ins, _) = net.in_and_out(transition);
-    ins.iter().find(|a| u64::from(a.weight) > marking[usize::from(a.place)]).map(|a| a.place)
+    ins.chunk_by(|a, b| a.place == b.place)
+        .find(|run| run.iter().map(|a| u64::from(a.weight)).sum::<u64>() > marking[usize::from(run[0].place)])
+        .map(|run| run[0].place)
 }
 
 /// Fires one transition, or names the lowest place that is short and changes nothing.

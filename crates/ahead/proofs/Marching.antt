@@ -49,7 +49,7 @@ module _ {s : List ℕ} {h : Header} {table moves ts was is : List ℕ} {k : ℕ
     inputs-first j a b z i c d q =
         omega (arith, z, q, own run j a b, own run i c (omega arith), order-at s start 0 (h .arcs) i j (r .sound .order) (omega arith) (omega (arith, run .end .within)), good-at s h (r .sound) j (omega (arith, run .end .within)) .place, r .sound .placed .places)
 
-    movable : (m : List ℕ) → length m ≡ length was → ((p : ℕ) → p < length m → 549755813888 ≤ lowAt m p) → ((p : ℕ) → p < length m → lowAt m p < 9007199254740992) → Movable s h moves from to m
+    movable : (m : List ℕ) → length m ≡ length was → ((p : ℕ) → p < length m → 35184372088832 ≤ lowAt m p) → ((p : ℕ) → p < length m → lowAt m p < 9007199254740992) → Movable s h moves from to m
     movable m long least most = record {
       sound = r .sound;
       bytes = r .bytes;
@@ -63,7 +63,7 @@ module _ {s : List ℕ} {h : Header} {table moves ts was is : List ℕ} {k : ℕ
       most = most;
     }
 
-    most-now : (p : ℕ) → lowAt is p < 35184372088832
+    most-now : (p : ℕ) → lowAt is p < 140737488355328
     most-now p = omega (arith, x .underway .low p, lowered-at is p, x .underway .within, x .underway .listed .short)
 
     pub can-shift : Movable s h moves from to is

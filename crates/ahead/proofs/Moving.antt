@@ -48,28 +48,28 @@ sub-takes r v q w a b c e = omega (arith, a, b, c, e)
 sub-gives : (r v q w : ℕ) → w < 65536 → 65536 ≤ low v → (r + (q * 18014398509481984 + w)) % 2 ^ 64 ≡ v → low r + w ≡ low v
 sub-gives r v q w a b e = omega (arith, a, b, e)
 
--- ---- bit 40 of all the entries met
+-- ---- bit 46 of all the entries met
 
--- 2 ^ 40, or 0
+-- 2 ^ 46, or 0
 pub record Mark (n : ℕ) : Type 0 where
-  pub most : n ≤ 1099511627776
-  pub whole : n % 1099511627776 ≡ 0
+  pub most : n ≤ 70368744177664
+  pub whole : n % 70368744177664 ≡ 0
 
 module _ (n v : ℕ) (m : Mark n) where
   pub mark-and : Mark (bitAnd n v)
   mark-and = record {
     most = omega (arith, and-le-l n v, m .most);
-    whole = omega (arith, and-mod n v 40, and-le-l (n % 2 ^ 40) (v % 2 ^ 40), m .whole);
+    whole = omega (arith, and-mod n v 46, and-le-l (n % 2 ^ 46) (v % 2 ^ 46), m .whole);
   }
 
   module _ (some : bitAnd n v ≡ 0 → ⊥) where
     pub mark-was : n ≡ 0 → ⊥
     mark-was e = some (omega (arith, e, and-le-l n v))
 
-    full : bitAnd n v ≡ 1099511627776
+    full : bitAnd n v ≡ 70368744177664
     full = omega (arith, mark-and .most, mark-and .whole, some)
 
-    pub mark-low : 1099511627776 ≤ low v
+    pub mark-low : 70368744177664 ≤ low v
     mark-low = omega (arith, full, and-mod n v 54, and-le-r (n % 2 ^ 54) (v % 2 ^ 54))
 
 -- ---- the arcs from `from` to j of those from..to
@@ -178,14 +178,14 @@ module _ {s : List ℕ} {h : Header} {moves : List ℕ} {from to : ℕ} {was : L
             share-here a 1 (omega (arith, good .direction, z)),
           )
 
--- ---- forwards, with bit 40 of all the entries met
+-- ---- forwards, with bit 46 of all the entries met
 
 pub record Shifting (s : List ℕ) (h : Header) (from j : ℕ) (was is : List ℕ) (r : ℕ) : Type 0 where
   pub moving : Moving 0 1 s h from j was is
   pub mark : Mark r
-  pub enough : (r ≡ 0 → ⊥) → Lifted was → (p : ℕ) → p < length was → 1099511627776 + sumOn 0 s (h .arcstart) p j ≤ lowAt was p + sumOn 0 s (h .arcstart) p from
+  pub enough : (r ≡ 0 → ⊥) → Lifted was → (p : ℕ) → p < length was → 70368744177664 + sumOn 0 s (h .arcstart) p j ≤ lowAt was p + sumOn 0 s (h .arcstart) p from
 
-pub shifting-none : {s : List ℕ} {h : Header} {from : ℕ} {was : List ℕ} → Shifting s h from from was was 1099511627776
+pub shifting-none : {s : List ℕ} {h : Header} {from : ℕ} {was : List ℕ} → Shifting s h from from was was 70368744177664
 shifting-none = record {
   moving = moving-none;
   mark = record { most = omega arith; whole = refl };
@@ -195,7 +195,7 @@ shifting-none = record {
 pub shifting-end : {s : List ℕ} {h : Header} {from j to : ℕ} {was is : List ℕ} {r : ℕ} → j ≤ to → to ≤ j → Shifting s h from j was is r → Shifted s h from to was is r
 shifting-end {s} {h} {from} {j} {to} {was} {is} {r} l u x =
     let e : j ≡ to = omega arith in
-    record { moved = moving-end l u (x .moving); enough = λ n lifted p m. subst (λ (k : ℕ). 1099511627776 + sumOn 0 s (h .arcstart) p k ≤ lowAt was p + sumOn 0 s (h .arcstart) p from) e (x .enough n lifted p m) }
+    record { moved = moving-end l u (x .moving); enough = λ n lifted p m. subst (λ (k : ℕ). 70368744177664 + sumOn 0 s (h .arcstart) p k ≤ lowAt was p + sumOn 0 s (h .arcstart) p from) e (x .enough n lifted p m) }
 
 module _ {s : List ℕ} {h : Header} {moves : List ℕ} {from to : ℕ} {was : List ℕ} (can : Movable s h moves from to was) (j : ℕ) (l : j < to) {is : List ℕ} {r : ℕ} (x : Shifting s h from j was is r)
     (v : ℕ) (e : v ≡ (getD is (placeAt s (h .arcstart) j) 0 + getD moves j 0) % 2 ^ 64) where
@@ -205,11 +205,11 @@ module _ {s : List ℕ} {h : Header} {moves : List ℕ} {from to : ℕ} {was : L
   next : Moving 0 1 s h from (j + 1) was (set is q v)
   next = moving-more can j l (x .moving) v (add-turns can j l (x .moving) v e)
 
-  -- bit 40 of the entry tells that the input did not take more than the tokens
+  -- bit 46 of the entry tells that the input did not take more than the tokens
   still : (bitAnd r v ≡ 0 → ⊥) → Lifted was → (p : ℕ) → p < length was → Dec (arcAt s (h .arcstart + 8 * j) .direction ≡ 0) → Dec (q ≡ p)
-      → 1099511627776 + sumOn 0 s (h .arcstart) p (j + 1) ≤ lowAt was p + sumOn 0 s (h .arcstart) p from
+      → 70368744177664 + sumOn 0 s (h .arcstart) p (j + 1) ≤ lowAt was p + sumOn 0 s (h .arcstart) p from
   still n lifted p m (yes z) (yes f) =
-      subst (λ (k : ℕ). 1099511627776 + sumOn 0 s (h .arcstart) k (j + 1) ≤ lowAt was k + sumOn 0 s (h .arcstart) k from) f
+      subst (λ (k : ℕ). 70368744177664 + sumOn 0 s (h .arcstart) k (j + 1) ≤ lowAt was k + sumOn 0 s (h .arcstart) k from) f
       (omega (
         arith,
         next .moved .at q (place-known can j l),

@@ -26,27 +26,27 @@ module _ {f : ℕ → ℕ} {was : List ℕ} where
   }
 
 -- the tokens of the entry of p
-pub lowered-at : (m : List ℕ) (p : ℕ) → getD (lowered m) p 0 ≡ lowAt m p - 1099511627776
-lowered-at m p = List·getD-map (λ v. v % 18014398509481984 - 1099511627776) m p 0
+pub lowered-at : (m : List ℕ) (p : ℕ) → getD (lowered m) p 0 ≡ lowAt m p - 70368744177664
+lowered-at m p = List·getD-map (λ v. v % 18014398509481984 - 70368744177664) m p 0
 
 pub lowered-long : (m : List ℕ) → length (lowered m) ≡ length m
-lowered-long m = length-map m (λ v. v % 18014398509481984 - 1099511627776)
+lowered-long m = length-map m (λ v. v % 18014398509481984 - 70368744177664)
 
 -- entries that are given by their tokens
-pub lowered-is : (m w : List ℕ) → length m ≡ length w → ((p : ℕ) → p < length m → lowAt m p - 1099511627776 ≡ getD w p 0) → lowered m ≡ w
+pub lowered-is : (m w : List ℕ) → length m ≡ length w → ((p : ℕ) → p < length m → lowAt m p - 70368744177664 ≡ getD w p 0) → lowered m ≡ w
 lowered-is m w e f = ext-getD 0 (lowered m) w (lowered-long m ∙ e) (λ p l. lowered-at m p ∙ f p (omega (arith, lowered-long m)))
 
-up : (v : ℕ) → v < 2 ^ 32 → low (v + 1099511627776) ≡ v + 1099511627776
+up : (v : ℕ) → v < 2 ^ 32 → low (v + 70368744177664) ≡ v + 70368744177664
 up v l = omega (arith, l)
 
-pub raised : {was is : List ℕ} {n : ℕ} → Plain was → Changed (λ v. v + 1099511627776) was is n → length is ≤ n → Raised was is
+pub raised : {was is : List ℕ} {n : ℕ} → Plain was → Changed (λ v. v + 70368744177664) was is n → length is ≤ n → Raised was is
 raised {was} {is} {n} plain x l = record {
   lifted = λ p u. omega (arith, at p u);
   same = lowered-is is was (x .long) (λ p u. omega (arith, at p u));
 }
   where
-    at : (p : ℕ) → p < length is → lowAt is p ≡ getD was p 0 + 1099511627776
+    at : (p : ℕ) → p < length is → lowAt is p ≡ getD was p 0 + 70368744177664
     at p u = ap low (x .done p (omega arith)) ∙ up (getD was p 0) (plain p)
 
-pub all-lowered : {was is : List ℕ} {n : ℕ} → Changed (λ v. v % 18014398509481984 - 1099511627776) was is n → length is ≤ n → is ≡ lowered was
+pub all-lowered : {was is : List ℕ} {n : ℕ} → Changed (λ v. v % 18014398509481984 - 70368744177664) was is n → length is ≤ n → is ≡ lowered was
 all-lowered {was} {is} {n} x l = ext-getD 0 is (lowered was) (x .long ∙ sym (lowered-long was)) (λ p u. x .done p (omega arith) ∙ sym (lowered-at was p))

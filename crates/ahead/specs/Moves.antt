@@ -1,4 +1,4 @@
--- One number for each arc that says what the arc does to its place, and entries that stand 2^40 above their tokens. Assumes nothing.
+-- One number for each arc that says what the arc does to its place, and entries that stand 2^46 above their tokens. Assumes nothing.
 use Prim.Native.Nat.{ℕ, _+_, _*_, _-_, _%_, _^_, _≤_, _<_}
 use mathlib.Core.List.{List, map}
 use mathlib.Core.Path.{_≡_}
@@ -54,7 +54,7 @@ pub record Movable (s : List ℕ) (h : Header) (moves : List ℕ) (from to : ℕ
   pub places : length m ≡ h .places
   pub small : (d p : ℕ) → sumOn d s (h .arcstart) p to ≤ sumOn d s (h .arcstart) p from + 268435456
   pub inputs : (j p : ℕ) → from ≤ j → j < to → arcAt s (h .arcstart + 8 * j) .direction ≡ 0 → sumOn 1 s (h .arcstart) p (j + 1) ≡ sumOn 1 s (h .arcstart) p from
-  pub least : (p : ℕ) → p < length m → 549755813888 ≤ lowAt m p
+  pub least : (p : ℕ) → p < length m → 35184372088832 ≤ lowAt m p
   pub most : (p : ℕ) → p < length m → lowAt m p < 9007199254740992
 
 -- each entry has lost the weights of the arcs from..to in direction d, and got those in direction g
@@ -62,29 +62,29 @@ pub record Moved (d g : ℕ) (s : List ℕ) (h : Header) (from to : ℕ) (was is
   pub long : length is ≡ length was
   pub at : (p : ℕ) → p < length was → lowAt is p + sumOn d s (h .arcstart) p to + sumOn g s (h .arcstart) p from ≡ lowAt was p + sumOn g s (h .arcstart) p to + sumOn d s (h .arcstart) p from
 
--- every entry stands at 2 ^ 40 or above
+-- every entry stands at 2 ^ 46 or above
 abbrev pub Lifted : List ℕ → Type 0
-Lifted m = (p : ℕ) → p < length m → 1099511627776 ≤ lowAt m p
+Lifted m = (p : ℕ) → p < length m → 70368744177664 ≤ lowAt m p
 
 -- the arcs from..to have moved the entries, and where the answer is not 0 no input took more than the tokens
 pub record Shifted (s : List ℕ) (h : Header) (from to : ℕ) (was is : List ℕ) (r : ℕ) : Type 0 where
   pub moved : Moved 0 1 s h from to was is
-  pub enough : (r ≡ 0 → ⊥) → Lifted was → (p : ℕ) → p < length was → 1099511627776 + sumOn 0 s (h .arcstart) p to ≤ lowAt was p + sumOn 0 s (h .arcstart) p from
+  pub enough : (r ≡ 0 → ⊥) → Lifted was → (p : ℕ) → p < length was → 70368744177664 + sumOn 0 s (h .arcstart) p to ≤ lowAt was p + sumOn 0 s (h .arcstart) p from
 
 -- the tokens of each entry
 abbrev pub lowered : List ℕ → List ℕ
-lowered m = map (λ v. v % 18014398509481984 - 1099511627776) m
+lowered m = map (λ v. v % 18014398509481984 - 70368744177664) m
 
 -- no more tokens than a file can give
 abbrev pub Plain : List ℕ → Type 0
 Plain m = (p : ℕ) → getD m p 0 < 2 ^ 32
 
--- the entries stand 2 ^ 40 above the tokens
+-- the entries stand 2 ^ 46 above the tokens
 pub record Raised (was is : List ℕ) : Type 0 where
   pub lifted : Lifted is
   pub same : lowered is ≡ was
 
--- the first k firings are done, on entries that stand 2 ^ 40 above their tokens
+-- the first k firings are done, on entries that stand 2 ^ 46 above their tokens
 pub record Marched (s : List ℕ) (h : Header) (ts was is : List ℕ) (k : ℕ) : Type 0 where
   pub lifted : Lifted is
   pub underway : Underway s h ts (lowered was) (lowered is) k

@@ -1,5 +1,5 @@
 // A quick way through the firings of a list. One number for each arc says what the arc does to its place,
-// and every entry of the marking stands 2^40 above its tokens meanwhile, so that a place that would be short shows in bit 40.
+// and every entry of the marking stands 2^46 above its tokens meanwhile, so that a place that would be short shows in bit 46.
 ghost use mathlib.Core.Path.{_≡_};
 ghost use Prim.Native.Nat.{_<_};
 ghost use lib.ListN.{length, getD};
@@ -42,12 +42,12 @@ fn moves_of(file: &[u8], h: Header, moves: &mut [u64])
     }
 }
 
-// Moves each place by the arcs from `from` to `to`; `file` and `h` only say whose arcs. The answer is 0 if bit 40 was 0 after one of them.
+// Moves each place by the arcs from `from` to `to`; `file` and `h` only say whose arcs. The answer is 0 if bit 46 was 0 after one of them.
 fn shift(file: &[u8], h: Header, moves: &[u64], from: usize, to: usize, marking: &mut [u64]) -> u64
     requires { ⌜ Movable (now file) h (now moves) from to (now marking) ⌝ }
     ensures { λ r. ⌜ Shifted (now (file .entry)) h from to (now (marking .entry)) (now (marking .exit)) r ⌝ }
 {
-    let mut least: u64 = 1099511627776;
+    let mut least: u64 = 70368744177664;
     let mut j = from;
     while j < to {
         let m = moves[j];
@@ -74,7 +74,7 @@ fn back(file: &[u8], h: Header, moves: &[u64], from: usize, to: usize, marking: 
     }
 }
 
-// Fires the listed transitions in turn, until bit 40 tells that a place may be short.
+// Fires the listed transitions in turn, until bit 46 tells that a place may be short.
 fn march(
     file: &[u8],
     h: Header,
@@ -104,14 +104,14 @@ fn march(
     k
 }
 
-// Puts each entry 2^40 above its tokens.
+// Puts each entry 2^46 above its tokens.
 fn lift(marking: &mut [u64])
     requires { ⌜ Plain (now marking) ⌝ }
     ensures { λ _. ⌜ Raised (now (marking .entry)) (now (marking .exit)) ⌝ }
 {
     let mut p: usize = 0;
     while p < marking.len() {
-        marking[p] = marking[p] + 1099511627776;
+        marking[p] = marking[p] + 70368744177664;
         p += 1;
     }
 }
@@ -123,7 +123,7 @@ fn lower(marking: &mut [u64])
 {
     let mut p: usize = 0;
     while p < marking.len() {
-        marking[p] = (marking[p] % 18014398509481984) - 1099511627776;
+        marking[p] = (marking[p] % 18014398509481984) - 70368744177664;
         p += 1;
     }
 }

@@ -38,7 +38,7 @@ at-first f count = let e : count - 0 ≡ count = omega arith in rw e (omega arit
 -- ---- arcs
 
 arcs-step : (s : List ℕ) (P T at least n : ℕ) → 0 < n
-    → arcsPassed s P T at least n ≡ unless (arcWrong P T (arcAt s at) (byteAt s (at + 3)) || ltb (key (arcAt s at)) least) (arcsPassed s P T (at + 8) (key (arcAt s at) + 1) (n - 1))
+    → arcsPassed s P T at least n ≡ unless (arcWrong P T (arcAt s at) (byteAt s (at + 3)) || ltb (key (arcAt s at)) least) (arcsPassed s P T (at + 8) (key (arcAt s at)) (n - 1))
 unfolding arcsPassed
 arcs-step s P T at least zero h = absurd (omega arith)
 arcs-step s P T at least (suc n) h = rw sub-one
@@ -52,7 +52,7 @@ module _ (s : List ℕ) (P T at least count k all : ℕ) (so-far : all ≡ k + a
     pub arcs-stop : (w || ltb x least) ≡ true → k ≡ all
     arcs-stop e = stopped all k _ so-far (arcs-step s P T at least (count - k) (omega arith) ∙ rw (← wrong, ← is, e))
 
-    pub arcs-on : (w || ltb x least) ≡ false → all ≡ k + 1 + arcsPassed s P T (at + 8) (x + 1) (count - (k + 1))
+    pub arcs-on : (w || ltb x least) ≡ false → all ≡ k + 1 + arcsPassed s P T (at + 8) x (count - (k + 1))
     arcs-on e = counted all k _ so-far _ (arcs-step s P T at least (count - k) (omega arith) ∙ rw (← wrong, ← is, e, one-less count k))
 
   pub arcs-end : count ≤ k → k ≡ all

@@ -44,8 +44,8 @@ unfolding arcsRefusal arcsPassed
 arcs-stand s P T at least zero h = absurd (h refl)
 arcs-stand s P T at least (suc n) h =
     next (arcWrong P T (arcAt s at) (byteAt s (at + 3))) (ltb (key (arcAt s at)) least) 5 6 (arcsRefusal s P T at least)
-    (arcsRefusal s P T (at + 8) (key (arcAt s at) + 1)) refl (λ m. refl) n (arcsPassed s P T (at + 8) (key (arcAt s at) + 1) n)
-    (arcs-stand s P T (at + 8) (key (arcAt s at) + 1) n) h
+    (arcsRefusal s P T (at + 8) (key (arcAt s at))) refl (λ m. refl) n (arcsPassed s P T (at + 8) (key (arcAt s at)) n)
+    (arcs-stand s P T (at + 8) (key (arcAt s at)) n) h
 
 pub table-stands : (s : List ℕ) (at least n : ℕ) → (tableRefusal s at least n ≡ 0 → ⊥) → Stands (tableRefusal s at least) n (tablePassed s at least n)
 unfolding tableRefusal tablePassed

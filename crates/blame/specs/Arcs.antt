@@ -18,7 +18,7 @@ unfoldable pub arcsPassed : List ℕ → ℕ → ℕ → ℕ → ℕ → ℕ →
 arcsPassed s P T at least zero = 0
 arcsPassed s P T at least (suc n) =
     unless (arcWrong P T (arcAt s at) (byteAt s (at + 3)) || ltb (key (arcAt s at)) least)
-    (arcsPassed s P T (at + 8) (key (arcAt s at) + 1) n)
+    (arcsPassed s P T (at + 8) (key (arcAt s at)) n)
 
 -- arc k of a file: its fields and its zero byte
 abbrev pub badArc : List ℕ → Header → ℕ → BadArc

@@ -53,7 +53,7 @@ fn passed(file: &[u8], places: usize, transitions: usize, start: usize, count: u
         if wrong(a, get8(file, at + 3), places, transitions) | (key < least) {
             return k;
         }
-        least = key + 1;
+        least = key;
         at += 8;
         k += 1;
     }

@@ -144,20 +144,20 @@ abbrev pub orderKey : ℕ → ℕ
 orderKey x = 131072 * (x % 65536) + 65536 * (x / 65536 % 65536) + x / 4294967296
 
 ordered : (t m p u n q : ℕ) → t < 1024 → m ≤ 1 → p < 1024 → u < 1024 → n ≤ 1 → q < 1024
-    → 4503633987109376 * t + 2251799847239680 * m + 2199023255552 * p < 4503633987109376 * u + 2251799847239680 * n + 2199023255552 * q
-    → 131072 * t + 65536 * m + p < 131072 * u + 65536 * n + q
+    → 4503633987109376 * t + 2251799847239680 * m + 2199023255552 * p ≤ 4503633987109376 * u + 2251799847239680 * n + 2199023255552 * q
+    → 131072 * t + 65536 * m + p ≤ 131072 * u + 65536 * n + q
 ordered t m p u n q ht hm hp hu hn hq h = go (decLt t u) (decLt u t)
   where
-    within : (m p n q : ℕ) → m ≤ 1 → p < 1024 → n ≤ 1 → q < 1024 → 2251799847239680 * m + 2199023255552 * p < 2251799847239680 * n + 2199023255552 * q → 65536 * m + p < 65536 * n + q
+    within : (m p n q : ℕ) → m ≤ 1 → p < 1024 → n ≤ 1 → q < 1024 → 2251799847239680 * m + 2199023255552 * p ≤ 2251799847239680 * n + 2199023255552 * q → 65536 * m + p ≤ 65536 * n + q
     within zero p zero q hm hp hn hq h = omega (arith, h)
     within zero p (suc n) q hm hp hn hq h = omega (arith, hp)
     within (suc m) p zero q hm hp hn hq h = absurd (omega (arith, h, hq))
     within (suc m) p (suc n) q hm hp hn hq h = omega (arith, h, hm, hn)
 
-    later : (t u a b : ℕ) → u < t → b < 4503633987109376 → 4503633987109376 * t + a < 4503633987109376 * u + b → ⊥
+    later : (t u a b : ℕ) → u < t → b < 4503633987109376 → 4503633987109376 * t + a ≤ 4503633987109376 * u + b → ⊥
     later t u a b l hb h = omega (arith, l, hb, h)
 
-    go : Dec (t < u) → Dec (u < t) → 131072 * t + 65536 * m + p < 131072 * u + 65536 * n + q
+    go : Dec (t < u) → Dec (u < t) → 131072 * t + 65536 * m + p ≤ 131072 * u + 65536 * n + q
     go (yes l) e = omega (arith, l, hm, hp)
     go (no l) (yes g) = absurd (later t u (2251799847239680 * m + 2199023255552 * p) (2251799847239680 * n + 2199023255552 * q) g (omega (arith, hn, hq)) (omega (arith, h)))
     go (no l) (no g) =
@@ -165,7 +165,7 @@ ordered t m p u n q ht hm hp hu hn hq h = go (decLt t u) (decLt u t)
         let i = within m p n q hm hp hn hq (omega (arith, h, e)) in
         omega (arith, i, e)
 
-order-later : (x y : ℕ) → Narrow x → Narrow y → sweepKey x + 1 ≤ sweepKey y → orderKey x + 1 ≤ orderKey y
+order-later : (x y : ℕ) → Narrow x → Narrow y → sweepKey x ≤ sweepKey y → orderKey x ≤ orderKey y
 order-later x y n m g =
     let i = ordered (x % 65536) (x / 65536 % 65536) (x / 4294967296) (y % 65536) (y / 65536 % 65536) (y / 4294967296) (n .transition) (n .middle) (n .place) (m .transition) (m .middle) (m .place) (omega (arith, g)) in
     omega (arith, i)
@@ -217,23 +217,23 @@ pub at-start : (s : List ℕ) (P T start count : ℕ) → Reached s P T start co
 at-start s P T start count = record { from = 0; same = refl; above = λ x h l. omega arith }
 
 pub one-on : (s : List ℕ) (P T start count at least left w : ℕ) → P ≤ 1024 → T ≤ 1024 → Reached s P T start count at least left → 0 < left → ArcWord s at w → FitIn P T w
-    → least ≤ sweepKey (w % 281474976710656) → Reached s P T start count (at + 8) (sweepKey (w % 281474976710656) + 1) (left - 1)
+    → least ≤ sweepKey (w % 281474976710656) → Reached s P T start count (at + 8) (sweepKey (w % 281474976710656)) (left - 1)
 one-on s P T start count at least left w hP hT r h word f l =
     let x = w % 281474976710656 in
     let n = narrow P T w hP hT f in
     record {
-      from = key (arcAt s at) + 1;
+      from = key (arcAt s at);
       same = r .same ∙ arcs-on s P T at (r .from) left h (fit-right s P T at w word f) (rw (fit-key s P T at w word f) (r .above x n l));
       above = λ y m g. rw (fit-key s P T at w word f) (order-later x y n m g);
     }
 
 pub two-on : (s : List ℕ) (P T start count at least left w v first second : ℕ) → P ≤ 1024 → T ≤ 1024 → Reached s P T start count at least left → 1 < left
     → ArcWord s at w → ArcWord s (at + 8) v → FitIn P T w × FitIn P T v
-    → first ≡ sweepKey (w % 281474976710656) → second ≡ sweepKey (v % 281474976710656) → least ≤ first → first < second
-    → Reached s P T start count (at + 16) (second + 1) (left - 2)
+    → first ≡ sweepKey (w % 281474976710656) → second ≡ sweepKey (v % 281474976710656) → least ≤ first → first ≤ second
+    → Reached s P T start count (at + 16) second (left - 2)
 two-on s P T start count at least left w v first second hP hT r h one two f e g l m =
     let here = one-on s P T start count at least left w hP hT r (omega (arith, h)) one (f .0) (omega (arith, e, l)) in
-    let next = one-on s P T start count (at + 8) (sweepKey (w % 281474976710656) + 1) (left - 1) v hP hT here (omega (arith, h)) two (f .1) (omega (arith, e, g, m)) in
+    let next = one-on s P T start count (at + 8) (sweepKey (w % 281474976710656)) (left - 1) v hP hT here (omega (arith, h)) two (f .1) (omega (arith, e, g, m)) in
     let a : at + 8 + 8 ≡ at + 16 = omega arith in
     let b : left - 1 - 1 ≡ left - 2 = omega arith in
     record {

@@ -9,7 +9,7 @@ use Rattle.net.specs.declared.Arc.{Arc}
 use Rattle.file.specs.Word.{le16}
 use Rattle.file.specs.Layout.{arcAt, arcsFrom, wordsFrom}
 use Rattle.file.specs.Refusal.{key}
-use Rattle.file.specs.Facts.{ArcGood, InRange, RisingFrom}
+use Rattle.file.specs.Facts.{ArcGood, InRange, OrderedFrom}
 
 -- ---- arcs
 
@@ -37,19 +37,20 @@ range-at P T s at zero i r l = absurd (omega arith)
 range-at P T s at (suc n) zero r l = subst (ArcGood P T) (sym (first s at)) (r .0)
 range-at P T s at (suc n) (suc i) r l = subst (ArcGood P T) (sym (later s at i)) (range-at P T s (at + 8) n i (r .1) (omega arith))
 
-least-at : (s : List ℕ) (at least n i : ℕ) → RisingFrom least (map key (arcsFrom s at n)) → i < n → least ≤ key (arcAt s (at + 8 * i))
+least-at : (s : List ℕ) (at least n i : ℕ) → OrderedFrom least (map key (arcsFrom s at n)) → i < n → least ≤ key (arcAt s (at + 8 * i))
 unfolding arcsFrom
 least-at s at least zero i r l = absurd (omega arith)
 least-at s at least (suc n) zero r l = omega (arith, r .0, ap key (first s at))
 least-at s at least (suc n) (suc i) r l = omega (arith, r .0, ap key (later s at i), least-at s (at + 8) _ n i (r .1) (omega arith))
 
--- "Arcs rise strictly"
-pub key-less : (s : List ℕ) (at least n i j : ℕ) → RisingFrom least (map key (arcsFrom s at n)) → i < j → j < n → key (arcAt s (at + 8 * i)) < key (arcAt s (at + 8 * j))
+-- "Arcs now need only not fall in order"
+pub key-le : (s : List ℕ) (at least n i j : ℕ) → OrderedFrom least (map key (arcsFrom s at n)) → i ≤ j → j < n → key (arcAt s (at + 8 * i)) ≤ key (arcAt s (at + 8 * j))
 unfolding arcsFrom
-key-less s at least zero i j r l h = absurd (omega arith)
-key-less s at least (suc n) i zero r l h = absurd (omega arith)
-key-less s at least (suc n) zero (suc j) r l h = omega (arith, ap key (first s at), ap key (later s at j), least-at s (at + 8) _ n j (r .1) (omega arith))
-key-less s at least (suc n) (suc i) (suc j) r l h = omega (arith, ap key (later s at i), ap key (later s at j), key-less s (at + 8) _ n i j (r .1) (omega arith) (omega arith))
+key-le s at least zero i j r l h = absurd (omega arith)
+key-le s at least (suc n) zero zero r l h = omega arith
+key-le s at least (suc n) (suc i) zero r l h = absurd (omega arith)
+key-le s at least (suc n) zero (suc j) r l h = omega (arith, ap key (first s at), ap key (later s at j), least-at s (at + 8) _ n j (r .1) (omega arith))
+key-le s at least (suc n) (suc i) (suc j) r l h = omega (arith, ap key (later s at i), ap key (later s at j), key-le s (at + 8) _ n i j (r .1) (omega arith) (omega arith))
 
 -- weights, one arc more at the end
 pub weight-none : (d p t : ℕ) (s : List ℕ) (at : ℕ) → weightOn d p t (arcsFrom s at 0) ≡ 0

@@ -70,6 +70,11 @@ abbrev pub InRange : ℕ → ℕ → List Arc → Type 0
 InRange P T [] = Unit {0}
 InRange P T (a ∷ rest) = ArcGood P T a × InRange P T rest
 
+-- each number is at least `least`, and not below the one before
+abbrev pub OrderedFrom : ℕ → List ℕ → Type 0
+OrderedFrom least [] = Unit {0}
+OrderedFrom least (x ∷ rest) = (least ≤ x) × OrderedFrom x rest
+
 -- each number is at least `least`, and above the one before
 abbrev pub RisingFrom : ℕ → List ℕ → Type 0
 RisingFrom least [] = Unit {0}
@@ -79,7 +84,7 @@ RisingFrom least (x ∷ rest) = (least ≤ x) × RisingFrom (x + 1) rest
 pub record Sound (s : List ℕ) (h : Header) : Type 0 where
   pub placed : Placed (length s) h
   pub arcs : InRange (h .places) (h .transitions) (netFrom s h .arcs)
-  pub order : RisingFrom 0 (map key (netFrom s h .arcs))
+  pub order : OrderedFrom 0 (map key (netFrom s h .arcs))
   pub placeOrigins : h .kind ≡ 1 → RisingFrom 0 (sliceFrom s h .placeOrigins)
   pub transitionOrigins : h .kind ≡ 1 → RisingFrom 0 (sliceFrom s h .transitionOrigins)
 

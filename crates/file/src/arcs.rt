@@ -70,7 +70,7 @@ fn first_refusal(file: &[u8], places: usize, transitions: usize, start: usize, c
         if key < least {
             return 7;
         }
-        least = key + 1;
+        least = key;
         at += 8;
         left -= 1;
     }

@@ -39,7 +39,7 @@ fn sweep_key(x: usize) -> usize
     (x << 52) + (x << 35) + (x << 9)
 }
 
-// Is each of `count` arcs from `start` on in range, and above the one before?
+// Is each of `count` arcs from `start` on in range, and not below the one before?
 pub(crate) fn all_good(
     file: &[u8],
     places: usize,
@@ -63,10 +63,10 @@ pub(crate) fn all_good(
         }
         let first = sweep_key(w % 281474976710656);
         let second = sweep_key(v % 281474976710656);
-        if (first < least) | (second <= first) {
+        if (first < least) | (second < first) {
             return false;
         }
-        least = second + 1;
+        least = second;
         at += 16;
         left -= 2;
     }

@@ -16,8 +16,7 @@ use Rattle.file.specs.Layout.{arcAt, arcsFrom, netFrom}
 use Rattle.file.specs.Facts.{InRange, Sound}
 use Rattle.file.specs.declared.Header.{Header}
 use Rattle.starts.specs.Table.{slotOf, slotAt, numberBelow, Split}
-use Rattle.file.proofs.Rows.{key-less}
-use native.Mathlib.Decide.{decLt}
+use Rattle.file.proofs.Rows.{key-le}
 use Rattle.starts.proofs.Reached.{number-below, good-at}
 use Rattle.gain.specs.Gain.{sumTo}
 use Rattle.gain.proofs.Weights.{weight-run, rising}
@@ -58,14 +57,10 @@ module _ (s : List ℕ) (h : Header) (w : Sound s h) (t : ℕ) where
   ways : (i : ℕ) → i < h .arcs → arcAt s (h .arcstart + 8 * i) .direction ≤ 1
   ways i l = good-at s h w i l .direction
 
-  -- arcs with the same slot rise by their places
+  -- arcs with the same slot are in order by their places
   places-rise : (k i j : ℕ) → i ≤ j → j < h .arcs → slotAt s (h .arcstart) i ≡ k → slotAt s (h .arcstart) j ≡ k → arcAt s (h .arcstart + 8 * i) .place ≤ arcAt s (h .arcstart + 8 * j) .place
   unfolding slotAt
-  places-rise k i j l m e f = go (decLt i j)
-    where
-      go : Dec (i < j) → arcAt s (h .arcstart + 8 * i) .place ≤ arcAt s (h .arcstart + 8 * j) .place
-      go (yes q) = omega (arith, e, f, key-less s (h .arcstart) 0 (h .arcs) i j (w .order) q m)
-      go (no q) = let z : i ≡ j = omega (arith, q, l) in omega (arith, ap (λ (x : ℕ). arcAt s (h .arcstart + 8 * x) .place) z)
+  places-rise k i j l m e f = omega (arith, e, f, key-le s (h .arcstart) 0 (h .arcs) i j (w .order) l m)
 
   module _ (a b c : ℕ) (low : Cuts (2 * t) a) (middle : Cuts (2 * t + 1) b) (high : Cuts (2 * t + 2) c) where
     low₀ : Cuts (2 * t + 0) a

@@ -1,4 +1,4 @@
-// The arcs of each place that lower it, and those that raise it, linked: from the last of them to the one before it.
+// The arcs of each place that lower it, and those that raise it, linked by groups of parallel arcs: from the last of them to the one before it.
 ghost use mathlib.Core.Path.{_≡_};
 ghost use Prim.Native.Nat.{ℕ, _*_, _%_, _<_, _≤_};
 ghost use lib.Dec.{eqb};
@@ -8,7 +8,7 @@ ghost use Rattle.starts.specs.Table.{choose};
 ghost use Rattle.rows.specs.Rows.{Rows, entryOf};
 ghost use Rattle.index.specs.Steps.{arcIn, Fronted, Returned, Linked, Room};
 use file::Header;
-use file::word::get16;
+use groups::group;
 
 // The start of the arcs of transition t: j where t is a new one.
 fn begin(t: usize, last: usize, from: usize, j: usize) -> usize
@@ -25,7 +25,7 @@ fn entry(j: usize, from: usize) -> u32
     (65536 * (from + 1) + j + 1) as u32
 }
 
-// Puts arc j in front of the row.
+// Puts the group that starts with arc j in front of the row.
 fn link_arc(row: usize, j: usize, from: usize, head: &mut [u32], next: &mut [u32])
     requires { ⌜ (j < 4096) × (from ≤ 4096) × (row < length (now head)) × (j < length (now next)) ⌝ }
     ensures { λ _. ⌜ Fronted row j from (now (head .entry)) (now (next .entry)) (now (head .exit)) (now (next .exit)) ⌝ }
@@ -34,53 +34,59 @@ fn link_arc(row: usize, j: usize, from: usize, head: &mut [u32], next: &mut [u32
     head[row] = entry(j, from);
 }
 
-// Arc j gives back to the place p, from which its transition takes: only the difference counts.
+// The group of arc j gives back to the place p, from which its transition takes: only the difference counts. Answers the arc after the group.
 fn link_back(
     file: &[u8],
     start: usize,
+    arcs: usize,
     j: usize,
     from: usize,
     p: usize,
-    weight: usize,
     head: &mut [u32],
     next: &mut [u32],
-)
-    requires { ⌜ Room (now file) start j from p (now head) (now next) × (0 < getD (now head) (2 * p) 0 % 65536) ⌝ }
-    ensures { λ _. ⌜ Returned (now (file .entry)) start j from p weight (arcIn (getD (now (head .entry)) (2 * p) 0)) (now (head .entry)) (now (next .entry)) (now (head .exit)) (now (next .exit)) ⌝ }
+) -> usize
+    requires { ⌜ Room (now file) start arcs j from p (now head) (now next) × (0 < getD (now head) (2 * p) 0 % 65536) ⌝ }
+    ensures { λ r. ⌜ Returned (now (file .entry)) start arcs j from p (arcIn (getD (now (head .entry)) (2 * p) 0)) (now (head .entry)) (now (next .entry)) (now (head .exit)) (now (next .exit)) r ⌝ }
 {
     let i = (head[2 * p] % 65536 - 1) as usize;
-    let taken = get16(file, start + 8 * i + 6);
-    if weight < taken {
-        return;
+    let taken = group(file, start, i, j);
+    let given = group(file, start, j, arcs);
+    if given.weight < taken.weight {
+        return given.end;
     }
     head[2 * p] = next[i];
-    if taken == weight {
-        return;
+    if taken.weight == given.weight {
+        return given.end;
     }
     link_arc(2 * p + 1, j, from, head, next);
+    given.end
 }
 
-// Links arc j, which is at the place p.
+// Links arc j, which is at the place p, unless a parallel one is linked. Answers the arc that is next.
 fn link(
     file: &[u8],
     start: usize,
+    arcs: usize,
     j: usize,
     from: usize,
     p: usize,
     direction: usize,
-    weight: usize,
     head: &mut [u32],
     next: &mut [u32],
-)
-    requires { ⌜ Room (now file) start j from p (now head) (now next) × (direction ≤ 1) ⌝ }
-    ensures { λ _. ⌜ Linked (now (file .entry)) start j from p direction weight (now (head .entry)) (now (next .entry)) (now (head .exit)) (now (next .exit)) ⌝ }
+) -> usize
+    requires { ⌜ Room (now file) start arcs j from p (now head) (now next) × (direction ≤ 1) ⌝ }
+    ensures { λ r. ⌜ Linked (now (file .entry)) start arcs j from p direction (now (head .entry)) (now (next .entry)) (now (head .exit)) (now (next .exit)) r ⌝ }
 {
+    let own = (head[2 * p + direction] / 65536) as usize;
+    if own == from + 1 {
+        return j + 1;
+    }
     let begun = (head[2 * p] / 65536) as usize;
     if begun == from + 1 {
-        link_back(file, start, j, from, p, weight, head, next);
-        return;
+        return link_back(file, start, arcs, j, from, p, head, next);
     }
     link_arc(2 * p + direction, j, from, head, next);
+    j + 1
 }
 
 // Links the arcs of every transition.
@@ -98,17 +104,16 @@ pub fn index(file: &[u8], h: Header, head: &mut [u32], next: &mut [u32])
         let t = a.transition;
         from = begin(t, last, from, j);
         last = t;
-        link(
+        j = link(
             file,
             h.arcstart,
+            h.arcs,
             j,
             from,
             a.place,
             a.direction,
-            a.weight,
             head,
             next,
         );
-        j += 1;
     }
 }

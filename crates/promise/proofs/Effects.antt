@@ -1,55 +1,65 @@
--- "Effect is out minus in, from -65,535 to 65,535": a file has one arc at most each way between a place and a transition. Assumes nothing.
-use Prim.Native.Nat.{ℕ, zero, suc, _+_, _*_, _≤_, _<_}
-use mathlib.Core.Path.{_≡_, refl, sym, ap, _∙_}
-use mathlib.Core.Bool.{Bool, true, false, _&&_}
-use mathlib.Core.List.{List, map}
+-- "Effect then spans -268,431,360 to 268,431,360": a file has at most 4,096 arcs, of weights up to 65,535; and so "a replayed marking stays below 2 to the power 45".
+-- Assumes nothing.
+use Prim.Native.Nat.{ℕ, zero, suc, _+_, _*_, _^_, _≤_, _<_}
+use mathlib.Core.Path.{_≡_}
+use mathlib.Core.Bool.{Bool, true, false}
+use mathlib.Core.List.{List, [], _∷_}
 use native.Mathlib.Omega.{arith}
-use lib.Dec.{eqb}
-use borrow.Author.Tests.{eqb-true}
-use Rattle.net.specs.Net.{counted, joins, weightOn, input, output}
-use Rattle.net.specs.declared.Arc.{Arc}
+use native.Mathlib.Decide.{decLt}
+use lib.Dec.{ltb, leb}
+use lib.ListN.{length}
+use borrow.Author.Tests.{ltb-false}
+use Rattle.net.specs.Numbers.{any}
+use Rattle.net.specs.Net.{Net, Marking, counted, joins, weightOn, input, output, fire, shortPlace, replayFrom, replay}
 use Rattle.net.proofs.Numbers.{by-cases}
-use Rattle.file.specs.Word.{Bytes}
+use Rattle.net.proofs.Markings.{below-at, below-off}
+use Rattle.file.specs.Word.{Bytes, le32}
 use Rattle.file.specs.Layout.{headerOf, arcAt, arcsFrom, netOf}
-use Rattle.file.specs.Refusal.{key, fileRefusal}
-use Rattle.file.specs.Facts.{RisingFrom}
+use Rattle.file.specs.Refusal.{refuse, fileRefusal}
 use Rattle.file.specs.declared.Due.the-variants as due
-use Rattle.file.proofs.Bytes.{le16-lt}
-use Rattle.file.proofs.Opening.{sound}
-use Rattle.promise.specs.Promise.{EffectRange}
+use Rattle.file.proofs.Bytes.{le16-lt, le32-lt}
+use Rattle.file.proofs.Opening.{sound, refuse-0}
+use Rattle.promise.specs.Firing.{listRefusal}
+use Rattle.promise.specs.Promise.{EffectRange, Bounded}
 
--- the arc that joins p and t in direction d has this key
-joined-key : (d p t : ℕ) (a : Arc) → joins d p t a ≡ true → key a ≡ 131072 * t + 65536 * d + p
-joined-key d p t a e = go (eqb (a .transition) t) (eqb (a .direction) d) (eqb (a .place) p) refl refl refl e
-  where
-    go : (x y z : Bool) → eqb (a .transition) t ≡ x → eqb (a .direction) d ≡ y → eqb (a .place) p ≡ z → x && y && z ≡ true → key a ≡ 131072 * t + 65536 * d + p
-    go true true true f g h q = omega (arith, eqb-true (a .transition) t f, eqb-true (a .direction) d g, eqb-true (a .place) p h)
-    go true true false f g h q = absurd (let z : _≡_ {A = ℕ} 0 1 = cc in omega (arith, z))
-    go true false z f g h q = absurd (let z : _≡_ {A = ℕ} 0 1 = cc in omega (arith, z))
-    go false true z f g h q = absurd (let z : _≡_ {A = ℕ} 0 1 = cc in omega (arith, z))
-    go false false z f g h q = absurd (let z : _≡_ {A = ℕ} 0 1 = cc in omega (arith, z))
+counted-le : (b : Bool) (n : ℕ) → counted b n ≤ n
+counted-le true n = omega arith
+counted-le false n = omega arith
 
--- past that key there is no such arc
-none-past : (d p t : ℕ) (s : List ℕ) (at least n : ℕ) → RisingFrom least (map key (arcsFrom s at n)) → 131072 * t + 65536 * d + p < least → weightOn d p t (arcsFrom s at n) ≡ 0
+-- weights are of 16 bits
+weight-small : (d p t : ℕ) (s : List ℕ) → Bytes s → (at n : ℕ) → weightOn d p t (arcsFrom s at n) ≤ 65535 * n
 unfolding weightOn arcsFrom
-none-past d p t s at least zero r l = refl
-none-past d p t s at least (suc n) r l =
-    by-cases (joins d p t (arcAt s at)) (λ e. absurd (omega (arith, r .0, l, joined-key d p t (arcAt s at) e)))
-    (λ e. rw e (omega (arith, none-past d p t s (at + 8) (key (arcAt s at) + 1) n (r .1) (omega (arith, r .0, l)))))
-
-weight-small : (d p t : ℕ) (s : List ℕ) → Bytes s → (at least n : ℕ) → RisingFrom least (map key (arcsFrom s at n)) → weightOn d p t (arcsFrom s at n) ≤ 65535
-unfolding weightOn arcsFrom
-weight-small d p t s b at least zero r = omega arith
-weight-small d p t s b at least (suc n) r =
-    by-cases (joins d p t (arcAt s at))
-    (λ e. rw e (omega (arith, le16-lt s b (at + 6), none-past d p t s (at + 8) (key (arcAt s at) + 1) n (r .1) (omega (arith, joined-key d p t (arcAt s at) e)))))
-    (λ e. rw e (omega (arith, weight-small d p t s b (at + 8) (key (arcAt s at) + 1) n (r .1))))
+weight-small d p t s b at zero = omega arith
+weight-small d p t s b at (suc n) = omega (arith, le16-lt s b (at + 6), counted-le (joins d p t (arcAt s at)) (arcAt s at .weight), weight-small d p t s b (at + 8) n)
 
 pub effect-range : (file : List ℕ) → Bytes file → fileRefusal due.Either file ≡ 0 → EffectRange file
 unfolding input output
 effect-range file b e =
-    let order = sound due.Either file e .order in
+    let few = sound due.Either file e .placed .arcs in
     record {
-      input-small = λ p t. weight-small 0 p t file b (headerOf file .arcstart) 0 (headerOf file .arcs) order;
-      output-small = λ p t. weight-small 1 p t file b (headerOf file .arcstart) 0 (headerOf file .arcs) order;
+      input-small = λ p t. omega (arith, few, weight-small 0 p t file b (headerOf file .arcstart) (headerOf file .arcs));
+      output-small = λ p t. omega (arith, few, weight-small 1 p t file b (headerOf file .arcstart) (headerOf file .arcs));
     }
+
+-- each firing adds an output at most
+replay-low : (N : Net) → ((p t : ℕ) → output N p t ≤ 268431360) → (i : ℕ) (M : Marking) (ts : List ℕ) (p : ℕ) → replayFrom N i M ts .marking p ≤ M p + 268431360 * length ts
+unfolding replayFrom fire
+replay-low N small i M [] p = omega arith
+replay-low N small i M (t ∷ ts) p =
+    by-cases (ltb (shortPlace N t M) (N .places))
+    (λ e. rw (e, replayFrom) (omega arith))
+    (λ e. rw (e, replayFrom) (omega (arith, small p t, replay-low N small (suc i) (fire N t M) ts p)))
+
+-- "a marking 0 to 4,294,967,295"
+marking-low : (file : List ℕ) → Bytes file → (p : ℕ) → netOf file .marking p < 4294967296
+marking-low file b p = go (decLt p (headerOf file .places))
+  where
+    go : Dec (p < headerOf file .places) → netOf file .marking p < 4294967296
+    go (yes l) = omega (arith, below-at (headerOf file .places) (λ q. le32 file (headerOf file .markstart + 4 * q)) p l, le32-lt file b (headerOf file .markstart + 4 * p))
+    go (no l) = omega (arith, below-off (headerOf file .places) (λ q. le32 file (headerOf file .markstart + 4 * q)) p (omega (arith, l)))
+
+pub bounded : (file list : List ℕ) → Bytes file → fileRefusal due.Either file ≡ 0 → listRefusal (netOf file .transitions) list ≡ 0 → Bounded file list
+unfolding replay listRefusal
+bounded file list b e l =
+    let short = ltb-false 65535 (length list) (refuse-0 (ltb 65535 (length list)) 10 (refuse (any (λ t. leb (netOf file .transitions) t) list) 12 0) l .0) in
+    record { tokens-low = λ p. omega (arith, short, marking-low file b p, replay-low (netOf file) (effect-range file b e .output-small) 0 (netOf file .marking) list p) }

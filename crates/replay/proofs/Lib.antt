@@ -1,4 +1,3 @@
-pub mod Order
 pub mod Firing
 pub mod Short
 pub mod Listing

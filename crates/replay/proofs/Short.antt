@@ -1,26 +1,25 @@
 -- The lowest place that is short, found among the input arcs of a transition in their order. Assumes nothing.
-use Prim.Native.Nat.{ℕ, _+_, _*_, _<_, _≤_}
-use mathlib.Core.Path.{_≡_, ap, sym, subst}
+use Prim.Native.Nat.{ℕ, _+_, _-_, _*_, _<_, _≤_}
+use mathlib.Core.Path.{_≡_, refl, ap, sym, _∙_, subst}
 use mathlib.Core.Bool.{Bool}
 use mathlib.Core.List.{List}
 use native.Mathlib.Omega.{arith}
 use native.Mathlib.Decide.{decLt, ℕ-discrete}
-use borrow.Author.Tests.{lt-ltb, ltb-true}
-use lib.Dec.{ltb}
+use borrow.Author.Tests.{lt-ltb, ltb-true, eqb-true, eqb-false}
+use lib.Dec.{ltb, eqb}
 use lib.ListN.{getD}
 use Rattle.net.specs.Numbers.{first}
 use Rattle.net.specs.Net.{Net, Marking, input, weightOn, shortPlace}
-use Rattle.net.proofs.Numbers.{holds, is-true, first-passes, first-lowest}
+use Rattle.net.proofs.Numbers.{by-cases, holds, is-true, first-passes, first-lowest}
 use Rattle.file.specs.Layout.{arcsFrom, netFrom}
 use Rattle.file.specs.Facts.{Sound}
 use Rattle.file.specs.declared.Header.{Header}
-use Rattle.file.proofs.Rows.{weight-none}
-use Rattle.starts.specs.Table.{slotAt, Split}
-use Rattle.starts.proofs.Reached.{order-at}
+use Rattle.file.proofs.Rows.{key-le, weight-none}
+use Rattle.starts.specs.Table.{slotAt, choose, Split}
 use Rattle.ahead.specs.Steps.{held}
-use Rattle.replay.specs.Steps.{arcOn, InputAt, needAt}
+use Rattle.replay.specs.Steps.{arcOn}
 use Rattle.gain.proofs.Arcs.{good-at}
-use Rattle.gain.proofs.Shares.{share-unless, sum-next, sum-same, sum-more}
+use Rattle.gain.proofs.Shares.{share-is, share-unless, sum-next, sum-same, sum-more}
 
 module _ (N : Net) (t : ℕ) (M : Marking) where
   pub short-is : (q : ℕ) → q < N .places → M q < input N q t → ((p : ℕ) → p < q → input N p t ≤ M p) → shortPlace N t M ≡ q
@@ -39,17 +38,33 @@ module _ (N : Net) (t : ℕ) (M : Marking) where
           absurd (omega (arith, low p u, ltb-true (M p) (input N p t) (is-true (f p) (first-passes f 0 (N .places) (omega arith)))))
       go (no u) = omega (arith, u, most)
 
--- m has enough for the inputs of t before arc j; the inputs are the arcs from..middle
-pub record Covered (s : List ℕ) (h : Header) (t from middle : ℕ) (m : List ℕ) (j : ℕ) : Type 0 where
+-- m has enough for the inputs of t before arc j, the last of which is at the place `last`, where they take `need`; the inputs are the arcs from..middle
+pub record Covered (s : List ℕ) (h : Header) (t from middle : ℕ) (m : List ℕ) (j last need : ℕ) : Type 0 where
   pub sound : Sound s h
   pub first : Split s (h .arcstart) (h .arcs) (2 * t) from
   pub second : Split s (h .arcstart) (h .arcs) (2 * t + 1) middle
   pub begun : from ≤ j
   pub within : j ≤ h .arcs
   pub enough : (p : ℕ) → weightOn 0 p t (arcsFrom s (h .arcstart) j) ≤ getD m p 0
+  pub passed : j ≤ middle
+  pub at-last : from < j → last ≡ arcOn s h (j - 1) .place
+  pub so-far : need ≡ weightOn 0 last t (arcsFrom s (h .arcstart) j)
+  pub low : need ≤ 65535 * (j - from)
+
+-- equal numbers of order are of the same place
+same-place : (t p q r : ℕ) → 131072 * t + 65536 * 0 + p ≤ 131072 * t + 65536 * 0 + q → 131072 * t + 65536 * 0 + q ≤ 131072 * t + 65536 * 0 + r → p ≡ r → q ≡ r
+same-place t p q r a b e = omega arith
+
+none-before : (s : List ℕ) (h : Header) (t from : ℕ) → Split s (h .arcstart) (h .arcs) (2 * t) from → (p : ℕ) → weightOn 0 p t (arcsFrom s (h .arcstart) from) ≡ 0
+unfolding slotAt
+none-before s h t from first p = omega (
+  arith,
+  weight-none 0 p t s (h .arcstart),
+  sum-same 0 p t s (h .arcstart) 0 from (omega arith) (λ i l u. share-unless 0 p t (arcOn s h i) (λ e d g. omega (arith, first .below i u))),
+)
 
 module _ {s : List ℕ} {h : Header} {t from middle : ℕ} {m : List ℕ} where
-  pub covered-none : Sound s h → Split s (h .arcstart) (h .arcs) (2 * t) from → Split s (h .arcstart) (h .arcs) (2 * t + 1) middle → Covered s h t from middle m from
+  pub covered-none : Sound s h → Split s (h .arcstart) (h .arcs) (2 * t) from → Split s (h .arcstart) (h .arcs) (2 * t + 1) middle → Covered s h t from middle m from 65536 0
   unfolding slotAt
   covered-none w first second = record {
     sound = w;
@@ -57,64 +72,110 @@ module _ {s : List ℕ} {h : Header} {t from middle : ℕ} {m : List ℕ} where
     second = second;
     begun = omega arith;
     within = first .within;
-    enough = λ p. omega (
-      arith,
-      weight-none 0 p t s (h .arcstart),
-      sum-same 0 p t s (h .arcstart) 0 from (omega arith) (λ i l u. share-unless 0 p t (arcOn s h i) (λ e d g. omega (arith, first .below i u))),
-    );
+    enough = λ p. omega (arith, none-before s h t from first p);
+    passed = go (decLt middle from);
+    at-last = λ l. absurd (omega arith);
+    so-far = sym (none-before s h t from first 65536);
+    low = omega arith;
   }
+    where
+      go : Dec (middle < from) → from ≤ middle
+      go (yes q) = absurd (omega (arith, first .below middle q, second .above middle (omega arith) (omega (arith, first .within))))
+      go (no q) = omega arith
 
-  module _ {j : ℕ} (c : Covered s h t from middle m j) where
+  module _ {j last need : ℕ} (c : Covered s h t from middle m j last need) where
     module _ (l : j < middle) where
       pub known : j < h .arcs
       known = omega (arith, c .second .within)
 
-      is-input : arcOn s h j .direction ≡ 0
+      -- the arcs from `from` on are inputs of t
+      input-of : (i : ℕ) → from ≤ i → i < middle → (arcOn s h i .direction ≡ 0) × (arcOn s h i .transition ≡ t)
       unfolding slotAt
-      is-input = omega (arith, c .first .above j (c .begun) known, c .second .below j l, good-at s h (c .sound) j known .direction)
-
-      mine : arcOn s h j .transition ≡ t
-      unfolding slotAt
-      mine = omega (arith, c .first .above j (c .begun) known, c .second .below j l, good-at s h (c .sound) j known .direction)
-
-      pub input-at : InputAt s h j
-      input-at = record { sound = c .sound; known = known; input = is-input }
-
-      need-is : needAt s h j ≡ input (netFrom s h) (arcOn s h j .place) t
-      need-is = ap (input (netFrom s h) (arcOn s h j .place)) mine
+      input-of i a b =
+          let k : i < h .arcs = omega (arith, c .second .within) in
+          let d = good-at s h (c .sound) i k .direction in
+          (omega (arith, c .first .above i a k, c .second .below i b), omega (arith, c .first .above i a k, c .second .below i b))
 
       pub place-known : arcOn s h j .place < h .places
       place-known = good-at s h (c .sound) j known .place
 
-      pub covered-next : needAt s h j ≤ getD m (arcOn s h j .place) 0 → Covered s h t from middle m (j + 1)
-      unfolding input
-      covered-next g = record {
+      -- what the arcs before take from the place of arc j, unless it is the last place too
+      none-there : (arcOn s h j .place ≡ last → ⊥) → weightOn 0 (arcOn s h j .place) t (arcsFrom s (h .arcstart) j) ≡ 0
+      none-there n = omega (
+        arith,
+        none-before s h t from (c .first) (arcOn s h j .place),
+        sum-same 0 (arcOn s h j .place) t s (h .arcstart) from j (c .begun) (λ i a b. share-unless 0 (arcOn s h j .place) t (arcOn s h i) (λ e d g. n (there i a b g))),
+      )
+        where
+          there : (i : ℕ) → from ≤ i → i < j → arcOn s h i .place ≡ arcOn s h j .place → arcOn s h j .place ≡ last
+          there i a b g =
+              let x = input-of i a (omega arith) in
+              let y = input-of (j - 1) (omega arith) (omega arith) in
+              let z = input-of j (c .begun) l in
+              let u = key-le s (h .arcstart) 0 (h .arcs) i (j - 1) (c .sound .order) (omega arith) (omega (arith, known)) in
+              let v = key-le s (h .arcstart) 0 (h .arcs) (j - 1) j (c .sound .order) (omega arith) known in
+              sym (c .at-last (omega arith) ∙ same-place t (arcOn s h i .place) (arcOn s h (j - 1) .place) (arcOn s h j .place)
+              (omega (arith, u, x .0, x .1, y .0, y .1)) (omega (arith, v, y .0, y .1, z .0, z .1)) g)
+
+      -- arc j added
+      pub adds-up : (n : ℕ) → n ≡ choose (eqb (arcOn s h j .place) last) (need + arcOn s h j .weight) (arcOn s h j .weight) → n ≡ weightOn 0 (arcOn s h j .place) t (arcsFrom s (h .arcstart) (j + 1))
+      adds-up n e =
+          let z = input-of j (c .begun) l in
+          let w = share-is 0 (arcOn s h j .place) t (arcOn s h j) (z .1) (z .0) refl in
+          by-cases (eqb (arcOn s h j .place) last)
+          (λ q. omega (
+            arith,
+            rw q at e,
+            w,
+            sum-next 0 (arcOn s h j .place) t s (h .arcstart) j,
+            c .so-far,
+            ap (λ (k : ℕ). weightOn 0 k t (arcsFrom s (h .arcstart) j)) (eqb-true (arcOn s h j .place) last q),
+          ))
+          (λ q. omega (arith, rw q at e, w, sum-next 0 (arcOn s h j .place) t s (h .arcstart) j, none-there (eqb-false (arcOn s h j .place) last q)))
+
+      pub low-next : (n : ℕ) → n ≡ choose (eqb (arcOn s h j .place) last) (need + arcOn s h j .weight) (arcOn s h j .weight) → arcOn s h j .weight < 65536 → n ≤ 65535 * (j + 1 - from)
+      low-next n e w =
+          by-cases (eqb (arcOn s h j .place) last)
+          (λ q. omega (arith, rw q at e, w, c .low, c .begun))
+          (λ q. omega (arith, rw q at e, w, c .begun))
+
+      pub covered-next : (n : ℕ) → n ≡ choose (eqb (arcOn s h j .place) last) (need + arcOn s h j .weight) (arcOn s h j .weight) → arcOn s h j .weight < 65536 → n ≤ getD m (arcOn s h j .place) 0
+          → Covered s h t from middle m (j + 1) (arcOn s h j .place) n
+      covered-next n e w g = record {
         sound = c .sound;
         first = c .first;
         second = c .second;
         begun = omega (arith, c .begun);
         within = omega (arith, known);
         enough = λ p. at p (ℕ-discrete p (arcOn s h j .place));
+        passed = omega arith;
+        at-last = λ u. let k : j ≡ j + 1 - 1 = omega arith in ap (λ (i : ℕ). arcOn s h i .place) k;
+        so-far = adds-up n e;
+        low = low-next n e w;
       }
         where
           at : (p : ℕ) → Dec (p ≡ arcOn s h j .place) → weightOn 0 p t (arcsFrom s (h .arcstart) (j + 1)) ≤ getD m p 0
-          at p (yes e) =
-              subst (λ (q : ℕ). weightOn 0 q t (arcsFrom s (h .arcstart) (j + 1)) ≤ getD m q 0) (sym e)
-              (omega (arith, need-is, sum-more 0 (arcOn s h j .place) t s (h .arcstart) (j + 1) (h .arcs) (omega (arith, known))))
-          at p (no e) = omega (arith, c .enough p, sum-next 0 p t s (h .arcstart) j, share-unless 0 p t (arcOn s h j) (λ a b q. e (sym q)))
+          at p (yes q) =
+              subst (λ (k : ℕ). weightOn 0 k t (arcsFrom s (h .arcstart) (j + 1)) ≤ getD m k 0) (sym q) (omega (arith, adds-up n e))
+          at p (no q) = omega (arith, c .enough p, sum-next 0 p t s (h .arcstart) j, share-unless 0 p t (arcOn s h j) (λ a b z. q (sym z)))
 
       -- a lower place has no input arc of t from j on
       lower : (r : ℕ) → r < arcOn s h j .place → input (netFrom s h) r t ≤ getD m r 0
       unfolding input
-      lower r u = omega (
-        arith,
-        c .enough r,
-        sum-same 0 r t s (h .arcstart) j (h .arcs) (c .within)
-            (λ i a b. share-unless 0 r t (arcOn s h i) (λ e d p. omega (arith, order-at s (h .arcstart) 0 (h .arcs) j i (c .sound .order) a b, is-input, mine))),
-      )
+      lower r u =
+          let z = input-of j (c .begun) l in
+          omega (
+            arith,
+            c .enough r,
+            sum-same 0 r t s (h .arcstart) j (h .arcs) (c .within)
+                (λ i a b. share-unless 0 r t (arcOn s h i) (λ e d p. omega (arith, key-le s (h .arcstart) 0 (h .arcs) j i (c .sound .order) a b, z .0, z .1))),
+          )
 
-      pub short-here : getD m (arcOn s h j .place) 0 < needAt s h j → shortPlace (netFrom s h) t (held m) ≡ arcOn s h j .place
-      short-here g = short-is (netFrom s h) t (held m) (arcOn s h j .place) place-known (omega (arith, need-is)) lower
+      pub short-here : (n : ℕ) → n ≡ choose (eqb (arcOn s h j .place) last) (need + arcOn s h j .weight) (arcOn s h j .weight) → getD m (arcOn s h j .place) 0 < n
+          → shortPlace (netFrom s h) t (held m) ≡ arcOn s h j .place
+      unfolding input
+      short-here n e g = short-is (netFrom s h) t (held m) (arcOn s h j .place) place-known
+          (omega (arith, adds-up n e, sum-more 0 (arcOn s h j .place) t s (h .arcstart) (j + 1) (h .arcs) (omega (arith, known)))) lower
 
     pub enabled : middle ≤ j → (p : ℕ) → input (netFrom s h) p t ≤ getD m p 0
     unfolding input slotAt

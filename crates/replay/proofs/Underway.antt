@@ -1,15 +1,17 @@
 -- How a replay ends: all fired, or stuck at a firing. Assumes nothing.
-use Prim.Native.Nat.{ℕ, _<_, _≤_}
+use Prim.Native.Nat.{ℕ, _+_, _<_, _≤_}
 use mathlib.Core.Path.{_≡_, ap, sym, _∙_}
 use mathlib.Core.List.{List}
 use native.Mathlib.Omega.{arith}
+use lib.Dec.{eqb}
 use lib.ListN.{length, getD}
 use Rattle.net.specs.Net.{Answer, fired, stuck, Replay, replayFrom}
 use Rattle.file.specs.Layout.{netFrom}
 use Rattle.file.specs.declared.Header.{Header}
 use Rattle.ahead.specs.Steps.{held, Holds, Underway}
 use Rattle.ahead.proofs.Underway.{known, replay-end, replay-stuck}
-use Rattle.replay.specs.Steps.{arcOn, needAt, Firable}
+use Rattle.starts.specs.Table.{choose}
+use Rattle.replay.specs.Steps.{arcOn, Firable}
 use Rattle.replay.proofs.Short.{Covered, enabled, short-here, place-known}
 
 module _ {s : List ℕ} {h : Header} {ts m₀ m : List ℕ} {k : ℕ} (u : Underway s h ts m₀ m k) where
@@ -20,9 +22,10 @@ module _ {s : List ℕ} {h : Header} {ts m₀ m : List ℕ} {k : ℕ} (u : Under
   pub tokens-left : {a : Answer} → replayFrom (netFrom s h) 0 (held m₀) ts ≡ record { answer = a; marking = held m } → Holds m₀ m (replayFrom (netFrom s h) 0 (held m₀) ts .marking)
   tokens-left e = record { long = u .long; at = λ p. ap (λ (R : Replay). R .marking p) (sym e) }
 
-  module _ (l : k < length ts) {from middle j : ℕ} (c : Covered s h (getD ts k 0) from middle m j) where
-    pub stuck-at : j < middle → getD m (arcOn s h j .place) 0 < needAt s h j → replayFrom (netFrom s h) 0 (held m₀) ts ≡ record { answer = stuck k (arcOn s h j .place); marking = held m }
-    stuck-at d g = sym (u .same) ∙ replay-stuck (netFrom s h) ts k (held m) l (arcOn s h j .place) (place-known c d) (short-here c d g)
+  module _ (l : k < length ts) {from middle j last need : ℕ} (c : Covered s h (getD ts k 0) from middle m j last need) where
+    pub stuck-at : j < middle → (n : ℕ) → n ≡ choose (eqb (arcOn s h j .place) last) (need + arcOn s h j .weight) (arcOn s h j .weight) → getD m (arcOn s h j .place) 0 < n
+        → replayFrom (netFrom s h) 0 (held m₀) ts ≡ record { answer = stuck k (arcOn s h j .place); marking = held m }
+    stuck-at d n e g = sym (u .same) ∙ replay-stuck (netFrom s h) ts k (held m) l (arcOn s h j .place) (place-known c d) (short-here c d n e g)
 
     pub firable : middle ≤ j → Firable s h (getD ts k 0) m
     firable d = record { known = known u l; enabled = enabled c d; low = λ p. omega (arith, u .low p, u .within, u .listed .short) }

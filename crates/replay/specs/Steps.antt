@@ -1,4 +1,4 @@
--- What the steps of a replay ask and ensure: the test of one input arc, one firing.
+-- What the steps of a replay ask and ensure: one firing.
 -- Assumes nothing.
 use Prim.Native.Nat.{ℕ, _+_, _*_, _^_, _≤_, _<_}
 use mathlib.Core.List.{List}
@@ -14,16 +14,6 @@ use Rattle.promise.specs.Firing.{listRefusal}
 -- arc j of the file
 abbrev pub arcOn : List ℕ → Header → ℕ → Arc
 arcOn s h j = arcAt s (h .arcstart + 8 * j)
-
--- arc j goes from a place to a transition
-pub record InputAt (s : List ℕ) (h : Header) (j : ℕ) : Type 0 where
-  pub sound : Sound s h
-  pub known : j < h .arcs
-  pub input : arcOn s h j .direction ≡ 0
-
--- in(p,t), at the place and the transition of arc j: the sum over all arcs that join them so
-abbrev pub needAt : List ℕ → Header → ℕ → ℕ
-needAt s h j = input (netFrom s h) (arcOn s h j .place) (arcOn s h j .transition)
 
 -- t is a transition, and is enabled at m
 pub record Firable (s : List ℕ) (h : Header) (t : ℕ) (m : List ℕ) : Type 0 where

@@ -2,7 +2,7 @@
 ghost use mathlib.Core.Path.{_≡_};
 ghost use Prim.Native.Nat.{ℕ, _+_, _*_, _^_, _<_, _≤_};
 ghost use lib.ListN.{length, getD};
-ghost use lib.Dec.{ltb};
+ghost use lib.Dec.{eqb};
 ghost use Rattle.net.specs.Net.{fire as fireOf, replay as replayOf, replayFrom, tokens};
 ghost use Rattle.file.specs.Layout.{netFrom};
 ghost use Rattle.file.specs.Facts.{Sound};
@@ -11,7 +11,8 @@ ghost use Rattle.promise.specs.Calls.{written};
 ghost use Rattle.promise.specs.Firing.{replayTold, replayOr};
 ghost use Rattle.replay.specs.Told.{outcomeNumbers, heldBack};
 ghost use Rattle.ahead.specs.Steps.{held, Ready, Holds, Listed};
-ghost use Rattle.replay.specs.Steps.{InputAt, needAt, Firable, Passed};
+ghost use Rattle.starts.specs.Table.{choose};
+ghost use Rattle.replay.specs.Steps.{Firable, Passed};
 use ahead::entry;
 use file::Header;
 use file::arcs::arc;
@@ -23,21 +24,15 @@ pub enum Outcome {
     Refused(u32),
 }
 
-// What the transition of input arc j takes from the place of the arc.
-fn need_at(file: &[u8], h: Header, j: usize) -> u64
-    requires { ⌜ InputAt (now file) h j ⌝ }
-    ensures { λ r. ⌜ r ≡ needAt (now (file .entry)) h j ⌝ }
+// What the arcs so far take from the place p: one more, of this weight, after those that took `need` from the place `last`.
+fn add_up(p: usize, weight: usize, last: usize, need: u64) -> u64
+    requires { ⌜ (weight < 65536) × (need ≤ 268435456) ⌝ }
+    ensures { λ r. ⌜ r ≡ choose (eqb p last) (need + weight) weight ⌝ }
 {
-    let a = arc(file, h.arcstart + 8 * j);
-    a.weight as u64
-}
-
-// Is the place of input arc j short, where it holds so many tokens?
-fn short_at(file: &[u8], h: Header, j: usize, count: u64) -> bool
-    requires { ⌜ InputAt (now file) h j ⌝ }
-    ensures { λ r. ⌜ r ≡ ltb count (needAt (now (file .entry)) h j) ⌝ }
-{
-    count < need_at(file, h, j)
+    if p == last {
+        return need + (weight as u64);
+    }
+    weight as u64
 }
 
 // Takes the weights of the arcs from `from` to `to` out of the marking.
@@ -99,10 +94,14 @@ fn run(file: &[u8], h: Header, table: &[u16], list: &[u16], marking: &mut [u64])
         let from = entry(table, 2 * t);
         let middle = entry(table, 2 * t + 1);
         let mut j = from;
+        let mut last: usize = 65536;
+        let mut need: u64 = 0;
         while j < middle {
             let a = arc(file, h.arcstart + 8 * j);
             let p = a.place;
-            if short_at(file, h, j, marking[p]) {
+            need = add_up(p, a.weight, last, need);
+            last = p;
+            if marking[p] < need {
                 let index = k as u32;
                 let place = p as u32;
                 break 'firings Outcome::Stuck(index, place);

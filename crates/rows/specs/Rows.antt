@@ -1,4 +1,4 @@
--- The arcs of each place that lower it, and those that raise it, linked: from the last of them to the one before it. Assumes nothing.
+-- The arcs of each place that lower it, and those that raise it, linked by groups of parallel arcs: from the last of them to the one before it. Assumes nothing.
 use Prim.Native.Nat.{ℕ, zero, suc, _+_, _*_, _-_, _/_, _%_, _≤_, _<_}
 use mathlib.Core.Bool.{Bool}
 use mathlib.Core.List.{List}
@@ -10,6 +10,7 @@ use Rattle.file.specs.Layout.{netFrom}
 use Rattle.file.specs.declared.Header.{Header}
 use Rattle.starts.specs.Table.{Split}
 use Rattle.gain.specs.Ways.{placeAt, transitionAt, directionAt}
+use Rattle.groups.specs.Groups.{Opens}
 
 -- t moves p in the direction d: it lowers p where d is 0, and raises p where d is above 0
 unfoldable pub moves : Net → ℕ → ℕ → ℕ → Bool
@@ -20,7 +21,7 @@ moves N (suc d) p t = ltb (input N p t) (output N p t)
 abbrev pub entryOf : ℕ → ℕ → ℕ
 entryOf j from = 65536 * suc from + suc j
 
--- e is the entry of the last of the first i arcs that are at p, go in the direction d and are of a transition that passes; or 0
+-- e is the entry of the last group of parallel arcs, of the first i arcs, that are at p, go in the direction d and are of a transition that passes: of its first arc; or 0
 pub record Ends (s : List ℕ) (h : Header) (passes : ℕ → Bool) (i d p e : ℕ) : Type 0 where
   pub within : e % 65536 ≤ i
   pub ends : e % 65536 ≡ 0 → e ≡ 0
@@ -29,16 +30,18 @@ pub record Ends (s : List ℕ) (h : Header) (passes : ℕ → Bool) (i d p e : �
   pub passes-it : (j : ℕ) → e % 65536 ≡ suc j → T (passes (transitionAt s (h .arcstart) j))
   pub begun : (j : ℕ) → e % 65536 ≡ suc j → 0 < e / 65536
   pub first : (j : ℕ) → e % 65536 ≡ suc j → Split s (h .arcstart) (h .arcs) (2 * transitionAt s (h .arcstart) j) (e / 65536 - 1)
-  pub rest : (k : ℕ) → e % 65536 ≤ k → k < i → placeAt s (h .arcstart) k ≡ p → directionAt s (h .arcstart) k ≡ d → T (passes (transitionAt s (h .arcstart) k)) → ⊥
+  pub opens : (j : ℕ) → e % 65536 ≡ suc j → Opens s (h .arcstart) j
+  pub rest : (k : ℕ) → e % 65536 ≤ k → k < i → placeAt s (h .arcstart) k ≡ p → directionAt s (h .arcstart) k ≡ d → T (passes (transitionAt s (h .arcstart) k))
+      → (0 < e % 65536) × (transitionAt s (h .arcstart) k ≡ transitionAt s (h .arcstart) (e % 65536 - 1))
 
 -- the same of the transitions that move p so
 abbrev pub Last : List ℕ → Header → ℕ → ℕ → ℕ → ℕ → Type 0
 Last s h i d p e = Ends s h (moves (netFrom s h) d p) i d p e
 
--- head leads to the last arc of each place and direction, next from an arc to the one before it
+-- head leads to the last group of each place and direction, next from a group to the one before it
 pub record Rows (s : List ℕ) (h : Header) (head next : List ℕ) : Type 0 where
   pub head-long : 2 * h .places ≤ length head
   pub next-long : h .arcs ≤ length next
   pub heads : (d p : ℕ) → d ≤ 1 → p < h .places → Last s h (h .arcs) d p (getD head (2 * p + d) 0)
-  pub nexts : (j : ℕ) → j < h .arcs → T (moves (netFrom s h) (directionAt s (h .arcstart) j) (placeAt s (h .arcstart) j) (transitionAt s (h .arcstart) j))
+  pub nexts : (j : ℕ) → j < h .arcs → Opens s (h .arcstart) j → T (moves (netFrom s h) (directionAt s (h .arcstart) j) (placeAt s (h .arcstart) j) (transitionAt s (h .arcstart) j))
       → Last s h j (directionAt s (h .arcstart) j) (placeAt s (h .arcstart) j) (getD next j 0)

@@ -8,18 +8,13 @@ use lib.Dec.{ltb}
 use borrow.Author.Tests.{lt-ltb, le-ltb}
 use Rattle.file.specs.Layout.{arcAt, arcsFrom}
 use Rattle.file.specs.Refusal.{key}
-use Rattle.file.specs.Facts.{ArcGood, RisingFrom, Sound}
+use Rattle.file.specs.Facts.{ArcGood, OrderedFrom, Sound}
 use Rattle.file.specs.declared.Header.{Header}
 use Rattle.starts.specs.Table
-use native.Mathlib.Decide.{decLt}
-use Rattle.file.proofs.Rows.{first, later, range-at, key-less}
+use Rattle.file.proofs.Rows.{first, later, range-at, key-le}
 
-pub order-at : (s : List ℕ) (at least n i j : ℕ) → RisingFrom least (map key (arcsFrom s at n)) → i ≤ j → j < n → key (arcAt s (at + 8 * i)) ≤ key (arcAt s (at + 8 * j))
-order-at s at least n i j r l h = go (decLt i j)
-  where
-    go : Dec (i < j) → key (arcAt s (at + 8 * i)) ≤ key (arcAt s (at + 8 * j))
-    go (yes k) = omega (arith, key-less s at least n i j r k h)
-    go (no k) = let e : i ≡ j = omega (arith, k, l) in omega (arith, ap (λ (x : ℕ). key (arcAt s (at + 8 * x))) e)
+pub order-at : (s : List ℕ) (at least n i j : ℕ) → OrderedFrom least (map key (arcsFrom s at n)) → i ≤ j → j < n → key (arcAt s (at + 8 * i)) ≤ key (arcAt s (at + 8 * j))
+order-at = key-le
 
 -- a file that was read has what the table asks
 pub tabled : (s : List ℕ) (h : Header) (size : ℕ) → Sound s h → 2 * h .transitions < size → Table.Tabled s (h .arcstart) (h .arcs) (h .transitions) size

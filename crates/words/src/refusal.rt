@@ -10,7 +10,7 @@ fn file_condition(n: u32) {
         4 => say::text(b"P, T or A above its limit, or P and T both 0\n"),
         5 => say::text(b"body length not as computed, or above file length less 16\n"),
         6 => say::text(b"zero byte, direction, place, transition or weight out of range\n"),
-        7 => say::text(b"not above the arc before\n"),
+        7 => say::text(b"below the arc before\n"),
         _ => say::text(b"a table of origins not strictly rising\n"),
     }
 }

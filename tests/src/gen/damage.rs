@@ -133,16 +133,20 @@ fn wrong_order(rng: &mut Rng, draft: &mut Draft) {
             let j = rng.below(n);
             draft.arcs.swap(i, j);
         }
-        _ => {
-            // Equal but for the weight, or wholly equal.
+        2 => {
+            // Equal but for the weight, or wholly equal: no fault.
             let mut copy = draft.arcs[i];
             copy.weight = if rng.percent(50) { copy.weight } else { rng.range(1, 65_535) as u16 };
             if n < MAX_ARCS {
                 draft.arcs.insert(i, copy);
                 draft.count();
-            } else {
-                draft.arcs[(i + 1) % n] = copy;
             }
+        }
+        _ => {
+            // A copy further on, below the arcs between.
+            let j = rng.below(n);
+            let copy = draft.arcs[i.min(j)];
+            draft.arcs[i.max(j)] = copy;
         }
     }
 }

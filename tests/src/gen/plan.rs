@@ -15,8 +15,38 @@ pub fn plan(rng: &mut Rng) -> Draft {
         }
         _ => tiny(rng),
     };
+    if draft.note.is_empty() && rng.percent(30) {
+        add_parallels(rng, &mut draft);
+    }
     add_note(rng, &mut draft);
     draft
+}
+
+/// Some arcs again, next to themselves, with the same weight or another; now and then one arc as often as there is room.
+fn add_parallels(rng: &mut Rng, draft: &mut Draft) {
+    let room = MAX_ARCS - draft.arcs.len();
+    if draft.arcs.is_empty() || room == 0 {
+        return;
+    }
+    let (times, same) = match rng.below(60) {
+        0 => (room, true),
+        1 => (rng.range(1, room.min(300)), true),
+        _ => (rng.range(1, room.min(6)), false),
+    };
+    let mut i = rng.below(draft.arcs.len());
+    for _ in 0..times {
+        if !same {
+            i = rng.below(draft.arcs.len());
+        }
+        let mut arc = draft.arcs[i];
+        match rng.below(4) {
+            0 | 1 => (),
+            2 => arc.weight = rng.range(1, 3) as u16,
+            _ => arc.weight = *rng.pick(&[1, 2, 65_534, 65_535]),
+        }
+        draft.arcs.insert(i + rng.below(2), arc);
+    }
+    draft.count();
 }
 
 /// How heavy the arcs of a net are, and how full its places.

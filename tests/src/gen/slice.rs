@@ -184,8 +184,21 @@ fn tamper_arcs(rng: &mut Rng, plan: &Net, slice: &mut Draft) {
     let places = slice.marking.len();
     let transitions = slice.transition_origins.len();
     let arcs = slice.arcs.len();
-    let way = if arcs == 0 { rng.range(4, 5) } else { rng.below(6) };
+    let way = if arcs == 0 { rng.range(4, 5) } else { rng.below(8) };
     match way {
+        // One of two equal neighbours less, their weights joined, or their weights exchanged.
+        6 => {
+            if let Some(i) = parallel(rng, slice) {
+                let sum = u32::from(slice.arcs[i].weight) + u32::from(slice.arcs[i + 1].weight);
+                slice.arcs[i].weight = if rng.percent(50) { sum.min(65_535) as u16 } else { slice.arcs[i].weight };
+                slice.arcs.remove(i + 1);
+            }
+        }
+        7 => {
+            if let Some(i) = parallel(rng, slice) {
+                slice.arcs.swap(i, i + 1);
+            }
+        }
         0 => {
             let i = rng.below(arcs);
             let weight = slice.arcs[i].weight;
@@ -224,6 +237,16 @@ fn tamper_arcs(rng: &mut Rng, plan: &Net, slice: &mut Draft) {
     }
     // The file must stay readable.
     slice.arcs.sort_by_key(|a| (a.transition, a.direction, a.place));
-    slice.arcs.dedup_by_key(|a| (a.transition, a.direction, a.place));
     slice.arcs.truncate(crate::net::MAX_ARCS);
+}
+
+/// An arc that has a parallel one after it.
+fn parallel(rng: &mut Rng, slice: &Draft) -> Option<usize> {
+    let key = |a: &DraftArc| (a.transition, a.direction, a.place);
+    let those: Vec<usize> =
+        (1..slice.arcs.len()).filter(|&i| key(&slice.arcs[i - 1]) == key(&slice.arcs[i])).map(|i| i - 1).collect();
+    if those.is_empty() {
+        return None;
+    }
+    Some(*rng.pick(&those))
 }

@@ -8,7 +8,7 @@ use Rattle.ahead.proofs.lift.Statement.{statement}
 use Rattle.ahead.proofs.lift.Tie as tie
 
 abbrev Inv-loop : tie.InvT-loop
-Inv-loop marking₀ p₀ marking p = Changed (λ v. v + 1099511627776) marking₀ marking p
+Inv-loop marking₀ p₀ marking p = Changed (λ v. v + 70368744177664) marking₀ marking p
 
 abbrev μ-loop : tie.MeasureT-loop
 μ-loop marking₀ p₀ marking p = length marking₀ - p

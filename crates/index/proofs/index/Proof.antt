@@ -1,5 +1,5 @@
 use borrow.Author.Needs.{needs}
-use Prim.Native.Nat.{_+_, _-_, _≤_}
+use Prim.Native.Nat.{_+_, _-_, _≤_, _<_}
 use mathlib.Core.Path.{_≡_, sym, ap, _∙_, subst}
 use native.Mathlib.Omega.{arith}
 use lib.Dec.{eqb}
@@ -8,7 +8,7 @@ use Rattle.starts.specs.Table.{choose}
 use Rattle.gain.specs.Ways.{transitionAt}
 use Rattle.gain.proofs.Arcs.{good-at}
 use Rattle.index.specs.Steps.{Linked, Room}
-use Rattle.index.proofs.Linking.{Linking, room, linking-none, linking-more, linking-end}
+use Rattle.index.proofs.Linking.{Linking, room, linking-none, linking-more, linking-end, linked-on}
 use Rattle.index.proofs.index.Statement.{statement}
 use Rattle.index.proofs.index.Tie as tie
 
@@ -46,16 +46,13 @@ link-requires c κs =
     let s = start .args .file .now in
     let h = start .args .h in
     let l = c .before .before .before .before .before .if1 .taken in
-    subst (λ (a : Arc). Room s (h .arcstart) (at .j) (c .before .before .begin .result) (a .place) (at .head) (at .next) × (a .direction ≤ 1)) (sym (c .before .before .before .arc .ensures .0)) (
+    subst (λ (a : Arc). Room s (h .arcstart) (h .arcs) (at .j) (c .before .before .begin .result) (a .place) (at .head) (at .next) × (a .direction ≤ 1)) (sym (c .before .before .before .arc .ensures .0)) (
       room s h (start .pre .0) _ _ _ _ _ _ _ (at .inv) l (start .pre .1 .0 .0) (start .pre .1 .0 .1) _ (start-at (c .before .before)),
       good-at s h (start .pre .0) (at .j) l .direction,
     )
 
-add-j : tie.Need-add-j Inv-loop μ-loop
-add-j c = search needs
-
 loop-less : tie.Need-loop-less Inv-loop μ-loop
-loop-less c = omega (arith, c .before .before .before .before .before .before .before .before .before .before .if1 .taken)
+loop-less c = let l = c .before .before .before .before .before .before .before .before .before .before .if1 .taken in let g = linked-on (c .before .before .before .before .link .ensures) in omega arith
 
 loop-again : tie.Need-loop-again Inv-loop μ-loop
 loop-again c =
@@ -65,9 +62,9 @@ loop-again c =
     let h = start .args .h in
     let l = c .before .before .before .before .before .before .before .before .before .before .if1 .taken in
     let done = c .before .before .before .before .link in
-    subst (λ (a : Arc). Linking s h (start .args .head .now) (start .args .next .now) (done .last .1 .1 .1 .1 .1 .1 .1 .0) (done .last .1 .1 .1 .1 .1 .1 .1 .1 .0) (a .transition) (c .before .before .before .before .before .before .before .begin .result) (at .j + 1)) (sym (c .before .before .before .before .before .before .before .before .arc .ensures .0))
-    (linking-more s h (start .pre .0) _ _ _ _ _ _ _ (at .inv) l (start .pre .1 .0 .0) (start .pre .1 .0 .1) _ (start-at (c .before .before .before .before .before .before .before)) _ _ (search needs) (search needs)
-    (subst (λ (a : Arc). Linked s (h .arcstart) (at .j) (c .before .before .before .before .before .before .before .begin .result) (a .place) (a .direction) (a .weight) (at .head) (at .next) (done .last .1 .1 .1 .1 .1 .1 .1 .0) (done .last .1 .1 .1 .1 .1 .1 .1 .1 .0)) (c .before .before .before .before .before .before .before .before .arc .ensures .0) (done .ensures)))
+    subst (λ (a : Arc). Linking s h (start .args .head .now) (start .args .next .now) (done .last .1 .1 .1 .1 .1 .1 .1 .0) (done .last .1 .1 .1 .1 .1 .1 .1 .1 .0) (a .transition) (c .before .before .before .before .before .before .before .begin .result) (done .result)) (sym (c .before .before .before .before .before .before .before .before .arc .ensures .0))
+    (linking-more s h (start .pre .0) _ _ _ _ _ _ _ (at .inv) l (start .pre .1 .0 .0) (start .pre .1 .0 .1) _ (start-at (c .before .before .before .before .before .before .before)) _ _ (search needs) (search needs) _
+    (subst (λ (a : Arc). Linked s (h .arcstart) (h .arcs) (at .j) (c .before .before .before .before .before .before .before .begin .result) (a .place) (a .direction) (at .head) (at .next) (done .last .1 .1 .1 .1 .1 .1 .1 .0) (done .last .1 .1 .1 .1 .1 .1 .1 .1 .0) (done .result)) (c .before .before .before .before .before .before .before .before .arc .ensures .0) (done .ensures)))
 
 same-length : tie.Need-same-length Inv-loop μ-loop
 same-length c = c .before .before .loop .inv .head-long
@@ -90,7 +87,6 @@ index-spec =
     arc-requires
     begin-requires
     link-requires
-    add-j
     loop-less
     loop-again
     same-length

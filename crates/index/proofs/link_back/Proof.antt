@@ -1,5 +1,5 @@
 use borrow.Author.Needs.{needs}
-use mathlib.Core.Path.{refl, ap, _∙_}
+use mathlib.Core.Path.{refl, sym, ap, _∙_}
 use native.Mathlib.Omega.{arith}
 use lib.ListN.{length, length-set}
 use Rattle.index.proofs.link_back.Statement.{statement}
@@ -20,25 +20,25 @@ sub-i c = search needs
 cast-i : tie.Need-cast-i
 cast-i c = search needs
 
-mul-get16 : tie.Need-mul-get16
-mul-get16 c = search needs
+group-requires : tie.Need-group-requires
+group-requires c κs =
+    let x = c .before .before .before .before .pre .0 in
+    record { some = omega (arith, x .within, c .before .before .before .before .pre .1); few = omega (arith, x .stands .some, x .stands .few); fit = omega (arith, x .stands .some, x .stands .fit); short = x .stands .short }
 
-add-get16 : tie.Need-add-get16
-add-get16 c = search needs
-
-add-get16-2 : tie.Need-add-get16-2
-add-get16-2 c = search needs
-
-get16-requires : tie.Need-get16-requires
-get16-requires c κs = search needs
+group-requires-2 : tie.Need-group-requires-2
+group-requires-2 c κs = c .before .before .before .before .before .pre .0 .stands
 
 returns : tie.Need-returns
 returns c =
-    let taken = c .if1 .taken in
+    let taken = c .before .before .before .before .group in
+    let given = c .before .before .before .group2 in
     record {
+      own = given .ensures .0;
+      until = taken .result .end;
+      group = taken .ensures .0;
       less = λ l. (refl, refl);
-      level = λ e. absurd (omega (arith, c .before .get16 .ensures .0));
-      more = λ l. absurd (omega (arith, c .before .get16 .ensures .0));
+      level = λ e. absurd (omega (arith, e, c .if1 .taken, taken .ensures .1, given .ensures .1));
+      more = λ l. absurd (omega (arith, l, c .if1 .taken, taken .ensures .1, given .ensures .1));
     }
 
 mul-head : tie.Need-mul-head
@@ -61,12 +61,15 @@ same-length c = search needs
 
 returns-2 : tie.Need-returns-2
 returns-2 c =
-    let left = c .before .before .if1 .left in
-    let taken = c .if2 .taken in
+    let taken = c .before .before .before .before .before .before .before .before .group in
+    let given = c .before .before .before .before .before .before .before .group2 in
     record {
-      less = λ l. absurd (omega (arith, c .before .before .before .get16 .ensures .0));
+      own = given .ensures .0;
+      until = taken .result .end;
+      group = taken .ensures .0;
+      less = λ l. absurd (omega (arith, l, c .if2 .taken, taken .ensures .1, given .ensures .1));
       level = λ e. (refl, refl);
-      more = λ l. absurd (omega (arith, c .before .before .before .get16 .ensures .0));
+      more = λ l. absurd (omega (arith, l, c .if2 .taken, taken .ensures .1, given .ensures .1));
     }
 
 mul-link-arc : tie.Need-mul-link-arc
@@ -76,7 +79,7 @@ add-link-arc : tie.Need-add-link-arc
 add-link-arc c = search needs
 
 link-arc-requires : tie.Need-link-arc-requires
-link-arc-requires c κs = search needs
+link-arc-requires c κs = let x = c .before .before .before .before .before .before .before .before .before .before .before .before .before .before .before .pre .0 in (omega (arith, x .stands .few, x .stands .some), search needs, search needs, search needs)
 
 same-length-2 : tie.Need-same-length-2
 same-length-2 c = ap length (c .before .before .before .before .link-arc .ensures .head-is) ∙ simp length-set
@@ -86,11 +89,14 @@ same-length-3 c = search needs
 
 returns-3 : tie.Need-returns-3
 returns-3 c =
-    let left = c .before .before .before .before .before .before .before .before .before .if1 .left in
-    let other = c .before .before .before .before .before .before .before .if2 .left in
+    let taken = c .before .before .before .before .before .before .before .before .before .before .before .before .before .before .before .group in
+    let given = c .before .before .before .before .before .before .before .before .before .before .before .before .before .before .group2 in
     record {
-      less = λ l. absurd (omega (arith, c .before .before .before .before .before .before .before .before .before .before .get16 .ensures .0));
-      level = λ e. absurd (other (c .before .before .before .before .before .before .before .before .before .before .get16 .ensures .0 ∙ e));
+      own = given .ensures .0;
+      until = taken .result .end;
+      group = taken .ensures .0;
+      less = λ l. absurd (omega (arith, l, c .before .before .before .before .before .before .before .before .before .before .before .if1 .left, taken .ensures .1, given .ensures .1));
+      level = λ e. absurd (c .before .before .before .before .before .before .before .if2 .left (taken .ensures .1 ∙ e ∙ sym (given .ensures .1)));
       more = λ l. c .before .before .before .before .link-arc .ensures;
     }
 
@@ -103,10 +109,8 @@ link-back-spec =
     slice-read-i
     sub-i
     cast-i
-    mul-get16
-    add-get16
-    add-get16-2
-    get16-requires
+    group-requires
+    group-requires-2
     returns
     mul-head
     slice-read-head

@@ -1,18 +1,20 @@
 -- Outer loop: what was the marking after k₀ firings is that after k, from which the rest of the list replays as the whole list does from the start (`Underway`).
 -- Inner loop: every place has enough for the input arcs passed (`Covered`). Assumes nothing.
-use Rattle.replay.specs.Steps.{needAt}
-use Prim.Native.Nat.{ℕ, _*_, _+_, _-_}
-use mathlib.Core.Path.{ap, sym, _∙_}
+use Prim.Native.Nat.{ℕ, _*_, _+_, _-_, _≤_, _<_}
+use mathlib.Core.Path.{_≡_, ap, sym, _∙_, subst}
 use mathlib.Core.Bool.{true}
 use native.Mathlib.Omega.{arith}
-use borrow.Author.Tests.{ltb-true, ltb-false}
+use lib.Dec.{eqb}
 use lib.ListN.{length, getD}
+use Rattle.starts.specs.Table.{choose}
+use Rattle.replay.specs.Steps.{arcOn}
 use mathlib.Core.List.{List}
 use Rattle.net.specs.Net.{Replay}
 use Rattle.net.specs.declared.Arc.{Arc}
+use Rattle.file.specs.declared.Header.{Header}
 use Rattle.promise.specs.Firing.{ReplayAnswer, replayTold}
 use Rattle.replay.proofs.Firing.{arcs-fit, split-by}
-use Rattle.replay.proofs.Short.{Covered, covered-none, covered-next, enabled, input-at, place-known}
+use Rattle.replay.proofs.Short.{Covered, covered-none, covered-next, enabled, place-known}
 use Rattle.replay.proofs.Short as short
 use Rattle.ahead.specs.Steps.{Underway}
 use Rattle.ahead.proofs.Underway.{known, ready-still, fired-on}
@@ -22,10 +24,10 @@ use Rattle.replay.proofs.run.Statement.{statement}
 use Rattle.replay.proofs.run.Tie as tie
 
 abbrev Inv-loop : tie.InvT-loop
-Inv-loop file h table list marking k t from middle j₀ j = Covered file h t from middle marking j
+Inv-loop file h table list marking k t from middle j₀ last₀ need₀ j last need = Covered file h t from middle marking j last need
 
 abbrev μ-loop : tie.MeasureT-loop
-μ-loop file h table list marking k t from middle j₀ j = h .arcs - j
+μ-loop file h table list marking k t from middle j₀ last₀ need₀ j last need = h .arcs - j
 
 abbrev Inv-firings : tie.InvT-firings
 Inv-firings file h table list marking₀ k₀ marking k = (m : List ℕ) → Underway file h list m marking₀ k₀ → Underway file h list m marking k
@@ -36,6 +38,11 @@ abbrev μ-firings : tie.MeasureT-firings
 -- the marking after k firings, of those ahead and of the loop
 here : (c : tie.At-firings Inv-loop μ-loop Inv-firings μ-firings) → Underway (c .before .before .before .before .before .before .before .before .before .args .file .now) (c .before .before .before .before .before .before .before .before .before .args .h) (c .before .before .before .before .before .before .before .before .before .args .list .now) (c .before .before .before .before .before .before .before .before .before .args .marking .now) (c .firings .marking) (c .firings .k)
 here c = c .firings .inv (c .before .before .before .before .before .before .before .before .before .args .marking .now) (c .before .before .before .ahead .ensures)
+
+-- what the arcs up to this one take from its place
+sum-by : (s : List ℕ) (h : Header) (j last need n : ℕ) (a : Arc) → a ≡ arcOn s h j → n ≡ choose (eqb (a .place) last) (need + a .weight) (a .weight)
+    → n ≡ choose (eqb (arcOn s h j .place) last) (need + arcOn s h j .weight) (arcOn s h j .weight)
+sum-by s h j last need n a e f = subst (λ (b : Arc). n ≡ choose (eqb (b .place) last) (need + b .weight) (b .weight)) e f
 
 ahead-requires : tie.Need-ahead-requires Inv-loop μ-loop Inv-firings μ-firings
 ahead-requires c κs = search needs
@@ -82,14 +89,16 @@ add-arc c = omega (arith, short.known (c .before .before .loop .inv) (c .before 
 arc-requires : tie.Need-arc-requires Inv-loop μ-loop Inv-firings μ-firings
 arc-requires c κs = omega (arith, short.known (c .before .before .loop .inv) (c .before .loop-test .taken), arcs-fit (c .before .before .loop .inv .sound))
 
-mul-short-at : tie.Need-mul-short-at Inv-loop μ-loop Inv-firings μ-firings
-mul-short-at c = omega (arith, c .arc .ensures .1 .place)
+add-up-requires : tie.Need-add-up-requires Inv-loop μ-loop Inv-firings μ-firings
+add-up-requires c κs =
+    let x = c .before .before .before .loop .inv in
+    (c .arc .ensures .1 .weight, omega (arith, x .low, x .within, x .sound .placed .arcs))
 
-slice-read-short-at : tie.Need-slice-read-short-at Inv-loop μ-loop Inv-firings μ-firings
-slice-read-short-at c = omega (arith, place-known (c .before .before .before .before .loop .inv) (c .before .before .before .loop-test .taken), ap (λ (x : Arc). x .place) (c .before .arc .ensures .0), here (c .before .before .before .before .before .before .before .before .before) .long, c .before .before .before .before .before .before .before .before .before .before .before .before .before .before .before .before .before .before .pre .0 .places)
+mul-if2 : tie.Need-mul-if2 Inv-loop μ-loop Inv-firings μ-firings
+mul-if2 c = omega (arith, c .before .arc .ensures .1 .place)
 
-short-at-requires : tie.Need-short-at-requires Inv-loop μ-loop Inv-firings μ-firings
-short-at-requires c κs = input-at (c .before .before .before .before .loop .inv) (c .before .before .before .loop-test .taken)
+slice-read-if2 : tie.Need-slice-read-if2 Inv-loop μ-loop Inv-firings μ-firings
+slice-read-if2 c = omega (arith, place-known (c .before .before .before .before .before .loop .inv) (c .before .before .before .before .loop-test .taken), ap (λ (x : Arc). x .place) (c .before .before .arc .ensures .0), here (c .before .before .before .before .before .before .before .before .before .before) .long, c .before .before .before .before .before .before .before .before .before .before .before .before .before .before .before .before .before .before .before .pre .0 .places)
 
 cast-index : tie.Need-cast-index Inv-loop μ-loop Inv-firings μ-firings
 cast-index c = omega (arith, (c .before .before .before .before .before .before .before .before .before .before .if1 .left), here (c .before .before .before .before .before .before .before .before .before .before .before) .listed .short)
@@ -104,7 +113,14 @@ loop-less : tie.Need-loop-less Inv-loop μ-loop Inv-firings μ-firings
 loop-less c = omega (arith, short.known (c .before .before .before .before .before .before .loop .inv) (c .before .before .before .before .before .loop-test .taken))
 
 loop-again : tie.Need-loop-again Inv-loop μ-loop Inv-firings μ-firings
-loop-again c = covered-next (c .before .before .before .before .before .before .loop .inv) (c .before .before .before .before .before .loop-test .taken) (omega (arith, ltb-false (getD (c .before .before .before .before .before .before .before .before .before .before .before .firings .marking) (c .before .before .before .arc .result .place) 0) (needAt (c .before .before .before .before .before .before .before .before .before .before .before .before .before .before .before .before .before .before .before .before .args .file .now) (c .before .before .before .before .before .before .before .before .before .before .before .before .before .before .before .before .before .before .before .before .args .h) (c .before .before .before .before .before .before .loop .j)) (sym (c .before .short-at .ensures) ∙ c .if2 .left), ap (λ (x : Arc). getD (c .before .before .before .before .before .before .before .before .before .before .before .firings .marking) (x .place) 0) (c .before .before .before .arc .ensures .0)))
+loop-again c =
+    let x = c .before .before .before .before .before .before .loop .inv in
+    let l = c .before .before .before .before .before .loop-test .taken in
+    let a = c .before .before .before .arc .ensures .0 in
+    let n = c .before .before .add-up .result in
+    subst (λ (b : Arc). Covered (c .before .before .before .before .before .before .before .before .before .before .before .before .before .before .before .before .before .before .before .before .args .file .now) (c .before .before .before .before .before .before .before .before .before .before .before .before .before .before .before .before .before .before .before .before .args .h) (getD (c .before .before .before .before .before .before .before .before .before .before .before .before .before .before .before .before .before .before .before .before .args .list .now) (c .before .before .before .before .before .before .before .before .before .before .before .firings .k) 0) (c .before .before .before .before .before .before .before .before .entry .result) (c .before .before .before .before .before .before .before .entry2 .result) (c .before .before .before .before .before .before .before .before .before .before .before .firings .marking) (c .before .before .before .before .before .before .loop .j + 1) (b .place) n) (sym a)
+    (covered-next x l n (sum-by (c .before .before .before .before .before .before .before .before .before .before .before .before .before .before .before .before .before .before .before .before .args .file .now) (c .before .before .before .before .before .before .before .before .before .before .before .before .before .before .before .before .before .before .before .before .args .h) (c .before .before .before .before .before .before .loop .j) (c .before .before .before .before .before .before .loop .last) (c .before .before .before .before .before .before .loop .need) n _ a (c .before .before .add-up .ensures)) (subst (λ (b : Arc). b .weight < 65536) a (c .before .before .before .arc .ensures .1 .weight))
+    (subst (λ (b : Arc). n ≤ getD (c .before .before .before .before .before .before .before .before .before .before .before .firings .marking) (b .place) 0) a (c .if2 .left)))
 
 fire-requires : tie.Need-fire-requires Inv-loop μ-loop Inv-firings μ-firings
 fire-requires c κs = (ready-still (here (c .before .before .before .before .before .before .before)) (c .before .before .before .before .before .before .before .before .before .before .before .before .before .before .before .before .pre .0), firable (here (c .before .before .before .before .before .before .before)) (c .before .before .before .before .before .before .if1 .left) (c .before .before .loop .inv) (c .before .loop-test .left))
@@ -134,9 +150,11 @@ same-length-2 c = here (c .before .before .before .before .before .before .befor
 returns-2 : tie.Need-returns-2 Inv-loop μ-loop Inv-firings μ-firings
 returns-2 c =
     let k = c .before .before .before .before .before .before .before .before .before .before .before .firings .k in
-    let e = stuck-at (here (c .before .before .before .before .before .before .before .before .before .before .before)) (c .before .before .before .before .before .before .before .before .before .before .if1 .left) (c .before .before .before .before .before .before .loop .inv) (c .before .before .before .before .before .loop-test .taken) (omega (arith, ltb-true (getD (c .before .before .before .before .before .before .before .before .before .before .before .firings .marking) (c .before .before .before .arc .result .place) 0) (needAt (c .before .before .before .before .before .before .before .before .before .before .before .before .before .before .before .before .before .before .before .before .args .file .now) (c .before .before .before .before .before .before .before .before .before .before .before .before .before .before .before .before .before .before .before .before .args .h) (c .before .before .before .before .before .before .loop .j)) (sym (c .before .short-at .ensures) ∙ c .if2 .taken), ap (λ (x : Arc). getD (c .before .before .before .before .before .before .before .before .before .before .before .firings .marking) (x .place) 0) (c .before .before .before .arc .ensures .0))) in
+    let a = c .before .before .before .arc .ensures .0 in
+    let n = c .before .before .add-up .result in
+    let e = stuck-at (here (c .before .before .before .before .before .before .before .before .before .before .before)) (c .before .before .before .before .before .before .before .before .before .before .if1 .left) (c .before .before .before .before .before .before .loop .inv) (c .before .before .before .before .before .loop-test .taken) n (sum-by (c .before .before .before .before .before .before .before .before .before .before .before .before .before .before .before .before .before .before .before .before .args .file .now) (c .before .before .before .before .before .before .before .before .before .before .before .before .before .before .before .before .before .before .before .before .args .h) (c .before .before .before .before .before .before .loop .j) (c .before .before .before .before .before .before .loop .last) (c .before .before .before .before .before .before .loop .need) n _ a (c .before .before .add-up .ensures)) (subst (λ (b : Arc). getD (c .before .before .before .before .before .before .before .before .before .before .before .firings .marking) (b .place) 0 < n) a (c .if2 .taken)) in
     let told : Arc → ReplayAnswer = λ a. record { refusal = 0; stuck = true; index = k; place = a .place } in
-    (ap told (c .before .before .before .arc .ensures .0) ∙ ap (λ (R : Replay). replayTold (R .answer)) (sym e), tokens-left (here (c .before .before .before .before .before .before .before .before .before .before .before)) e)
+    (ap told a ∙ ap (λ (R : Replay). replayTold (R .answer)) (sym e), tokens-left (here (c .before .before .before .before .before .before .before .before .before .before .before)) e)
 
 pub run-spec : {M : Type 1} → statement M
 run-spec =
@@ -160,9 +178,9 @@ run-spec =
     mul-arc
     add-arc
     arc-requires
-    mul-short-at
-    slice-read-short-at
-    short-at-requires
+    add-up-requires
+    mul-if2
+    slice-read-if2
     cast-index
     cast-place
     add-j

@@ -50,9 +50,6 @@ returns c = (
   search needs,
 )
 
-add-least : tie.Need-add-least Inv-loop μ-loop
-add-least c = search needs
-
 add-at : tie.Need-add-at Inv-loop μ-loop
 add-at c = search needs
 
@@ -85,7 +82,6 @@ passed-spec =
     get8-requires
     wrong-requires
     returns
-    add-least
     add-at
     add-k
     loop-less

@@ -64,10 +64,6 @@ order-requires c κs = search needs
 returns-2 : tie.Need-returns-2 Inv-loop μ-loop
 returns-2 c = sym (c .before .before .before .before .before .before .before .loop .inv .1 ∙ arcs-7 _ _ _ _ _ _ (c .before .before .before .before .before .before .loop-test .taken) (sym (wrong-is (c .before .before .before)) ∙ c .before .before .if1 .left) (rw (← key-is (c .before)) (c .if2 .taken)))
 
--- src/arcs.rt:84:17
-add-least : tie.Need-add-least Inv-loop μ-loop
-add-least c = search needs
-
 -- src/arcs.rt:85:9
 add-at : tie.Need-add-at Inv-loop μ-loop
 add-at c = search needs
@@ -104,7 +100,6 @@ first-refusal-spec =
     returns
     order-requires
     returns-2
-    add-least
     add-at
     sub-left
     loop-less

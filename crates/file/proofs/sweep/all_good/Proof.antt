@@ -1,6 +1,6 @@
 use native.Mathlib.Omega.{arith}
 use borrow.Author.Needs.{needs}
-use borrow.Author.Tests.{not-false, ltb-false, leb-false, leb-true}
+use borrow.Author.Tests.{not-false, ltb-false, leb-true}
 use mathlib.Core.Path.{_≡_, sym, ap, _∙_}
 use mathlib.Core.Bool.{Bool, true, false}
 use Prim.Native.Nat.{ℕ, _+_, _*_, _-_, _≤_}
@@ -88,10 +88,6 @@ sweep-key-requires-2 c κs =
 returns-2 : tie.Need-returns-2 Inv-loop μ-loop
 returns-2 c = λ e. never e
 
--- src/sweep.rt:69:17
-add-least : tie.Need-add-least Inv-loop μ-loop
-add-least c = search needs
-
 -- src/sweep.rt:70:9
 add-at : tie.Need-add-at Inv-loop μ-loop
 add-at c = search needs
@@ -115,7 +111,7 @@ loop-again c =
           (c .before .before .before .before .before .before .word .result) (c .before .before .before .before .before .word2 .result) (c .before .before .sweep-key .result) (c .before .sweep-key2 .result)
           (start .pre .1 .0) (start .pre .1 .1) (loop .inv .1) (c .before .before .before .before .before .before .before .loop-test .taken)
           (c .before .before .before .before .before .before .word .ensures) (c .before .before .before .before .before .word2 .ensures) (fits-both (c .before .before .before))
-          (c .before .before .sweep-key .ensures .0) (c .before .sweep-key2 .ensures .0) (ltb-false _ _ (order .0)) (leb-false _ _ (order .1)),
+          (c .before .before .sweep-key .ensures .0) (c .before .sweep-key2 .ensures .0) (ltb-false _ _ (order .0)) (ltb-false _ _ (order .1)),
     )
 
 -- src/sweep.rt:74:9
@@ -166,7 +162,6 @@ all-good-spec =
     sweep-key-requires
     sweep-key-requires-2
     returns-2
-    add-least
     add-at
     sub-left
     loop-less
