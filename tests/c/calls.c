@@ -222,9 +222,76 @@ static void projections(void)
     expect("a plan is no slice", nesfoal_project(plan, 108, plan, 108, list, 4, out, 3, &count), 3);
 }
 
+/* The kerb with the input of transition 2 as two arcs of weight 1. */
+static void parallel_kerb(uint8_t *to)
+{
+    memcpy(to, plan, 76);
+    to[74] = 1;
+    memcpy(to + 76, to + 68, 8);
+    memcpy(to + 84, plan + 76, 32);
+    to[100] = 100; /* body length */
+    to[108] = 10;  /* arcs */
+}
+
+/* One place with these tokens, and one transition joined with it by 4,096 arcs of weight 65,535 in this direction. */
+static uint8_t widest[32788];
+
+static void widen(uint32_t tokens, uint8_t direction)
+{
+    const uint8_t trailer[16] = {4, 128, 0, 0, 1, 0, 1, 0, 0, 16, 0, 1, 'B', 'E', 'L', 'L'};
+    for (int i = 0; i < 4; i++)
+        widest[i] = (uint8_t)(tokens >> 8 * i);
+    for (int i = 0; i < 4096; i++) {
+        const uint8_t arc[8] = {0, 0, direction, 0, 0, 0, 255, 255};
+        memcpy(widest + 4 + 8 * i, arc, 8);
+    }
+    memcpy(widest + 32772, trailer, 16);
+}
+
+static void parallels(void)
+{
+    const uint16_t list[] = {0, 1, 0, 1, 2}, three[] = {3};
+    uint8_t twice[116], room[110], other[110];
+    uint64_t marking[5];
+    uint32_t index, place, length, places, transitions, number;
+    parallel_kerb(twice);
+    effect_is("two arcs, one effect", twice, 116, 3, 2, 0, -2);
+    run_is("a run with its repeats", twice, 116, cut, 78, false, 2, 24, 68);
+    expect("parallel, 0,1,0,1,2", nesfoal_replay(twice, 116, list, 5, marking, 5, &index, &place), 0);
+    expect("parallel, left", marking[3], 0);
+    expect("parallel, 0,1,2", nesfoal_replay(twice, 116, list + 2, 3, marking, 5, &index, &place), 100);
+    expect("parallel, 0,1,2, index", index, 2);
+    expect("parallel, 0,1,2, place", place, 3);
+    expect("parallel, safety", nesfoal_safety(twice, 116, three, 1, room, 110, &length, &places, &transitions), 0);
+    expect("parallel, safety, bytes", length, 110);
+    expect("parallel, accepted", nesfoal_verdict(twice, 116, room, 110, three, 1, &number), 0);
+    expect("parallel, joined", nesfoal_safety(plan, 108, three, 1, other, 110, &length, &places, &transitions), 0);
+    expect("parallel, joined, rule 4", nesfoal_verdict(twice, 116, other, length, three, 1, &number), 104);
+    expect("parallel, joined, transition", number, 2);
+    twice[74] = 2; /* weights 2 and 1; in the cut the two arcs start at 64 */
+    memcpy(room + 64, twice + 68, 16);
+    expect("weights in any order", nesfoal_verdict(twice, 116, room, 110, three, 1, &number), 0);
+    room[70] = 1;
+    room[78] = 2;
+    expect("permuted, rule 4", nesfoal_verdict(twice, 116, room, 110, three, 1, &number), 104);
+
+    static uint16_t longest[65535];
+    widen(268431360, 0);
+    effect_is("the lowest effect", widest, sizeof widest, 0, 0, 0, -268431360);
+    expect("exactly enough", nesfoal_replay(widest, sizeof widest, longest, 1, marking, 1, &index, &place), 0);
+    expect("exactly enough, marking", (long long)marking[0], 0);
+    widen(268431359, 0);
+    expect("one too few", nesfoal_replay(widest, sizeof widest, longest, 1, marking, 1, &index, &place), 100);
+    widen(4294967295, 1);
+    effect_is("the highest effect", widest, sizeof widest, 0, 0, 0, 268431360);
+    expect("65,535 firings", nesfoal_replay(widest, sizeof widest, longest, 65535, marking, 1, &index, &place), 0);
+    expect("65,535 firings, marking", (long long)marking[0], 17591649177600 + 4294967295);
+}
+
 int main(void)
 {
     effects();
+    parallels();
     arcs();
     replays();
     cuts();

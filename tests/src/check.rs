@@ -67,7 +67,7 @@ pub fn judge(plan: &Net, slice: &Net, q: &[u16]) -> Verdict {
             return broken(3, usize::from(origin));
         }
     }
-    // 4: arcs. Both runs rise by direction and place, and renumbering keeps the order.
+    // 4: arcs, with repeats. Both runs are in order by direction and place, and renumbering keeps the order.
     for (number, &origin) in slice.transition_origins.iter().enumerate() {
         let t = usize::from(origin);
         let due = plan

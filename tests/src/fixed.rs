@@ -86,6 +86,29 @@ pub fn small_safety_for_3() -> Draft {
     draft.into_slice(vec![0, 1, 2, 3], vec![0, 1, 2])
 }
 
+/// The kerb with the input of transition 2 as two arcs of weight 1.
+pub fn parallel_plan() -> Draft {
+    let mut draft = small_plan();
+    draft.arcs[6].weight = 1;
+    draft.arcs.insert(6, draft.arcs[6]);
+    draft.count();
+    draft
+}
+
+/// Its safety cut for {3}, put down by hand.
+pub fn parallel_safety_for_3() -> Draft {
+    let mut draft = parallel_plan();
+    draft.arcs.retain(|a| a.transition != 3 && a.place != 4);
+    draft.marking.pop();
+    draft.into_slice(vec![0, 1, 2, 3], vec![0, 1, 2])
+}
+
+/// One place, one transition, and arcs of these weights from the place, then to it, in this order.
+fn several(ins: &[u16], outs: &[u16], tokens: u32) -> Draft {
+    let arc = |direction| move |&weight: &u16| DraftArc::new(0, direction, 0, weight);
+    Draft::plan(vec![tokens], 1, ins.iter().map(arc(0)).chain(outs.iter().map(arc(1))).collect())
+}
+
 fn changed(draft: &Draft, change: impl FnOnce(&mut Draft)) -> Vec<u8> {
     let mut draft = draft.clone();
     change(&mut draft);
@@ -148,6 +171,11 @@ pub fn bad_files(slice: bool) -> Vec<(String, Vec<u8>, u32)> {
         ("6 before 7 in one arc", changed(&good, |d| (d.arcs[0].place, d.arcs[1].weight) = (2, 0)), 6),
         ("6 in an arc before 7", changed(&good, |d| (d.arcs[0].weight, d.arcs[0].place) = (0, 2)), 6),
         ("an arc below two equal ones", changed(&good, |d| (d.arcs[0].place, d.arcs[2]) = (1, d.arcs[0])), 7),
+        (
+            "a heavier arc below",
+            changed(&good, |d| (d.arcs[0].place, d.arcs[1].place, d.arcs[1].weight) = (1, 0, 65_535)),
+            7,
+        ),
         ("arcs swapped by place", changed(&good, |d| d.arcs.swap(0, 1)), 7),
         ("arcs swapped by direction", changed(&good, |d| d.arcs.swap(1, 2)), 7),
         ("arcs swapped by transition", changed(&good, |d| d.arcs.swap(2, 3)), 7),
@@ -247,6 +275,13 @@ pub fn effects() -> Vec<Fixed<EffectCase>> {
         ("65,535 out", Draft::plan(vec![0], 1, vec![DraftArc::new(0, 1, 0, 65_535)]).bytes(), 65_535),
         ("slice", small_safety().bytes(), -1),
         ("full net", full_net().bytes(), 0),
+        ("equal arcs", several(&[3, 3], &[], 0).bytes(), -6),
+        ("equal arcs in a slice", several(&[], &[3, 3], 0).into_slice(vec![7], vec![9]).bytes(), 6),
+        ("parallel, weights rising and falling", several(&[1, 9, 4], &[65_535, 2], 0).bytes(), 65_523),
+        ("reader by sums", several(&[1, 1], &[2], 0).bytes(), 0),
+        ("4,096 of 65,535 in", several(&[65_535; 4_096], &[], 0).bytes(), -268_431_360),
+        ("4,096 of 65,535 out", several(&[], &[65_535; 4_096], 0).bytes(), 268_431_360),
+        ("2,048 of 65,535 both", several(&[65_535; 2_048], &[65_535; 2_048], 0).bytes(), 0),
     ];
     for (name, file, effect) in nets {
         list.push(fixed(name, case(&file, 0, 0), 0, [effect, 0, 0]));
@@ -306,6 +341,12 @@ pub fn arc_runs() -> Vec<Fixed<ArcsCase>> {
     let bare = Draft::plan(vec![1], 2, vec![DraftArc::new(1, 0, 0, 1)]).bytes();
     list.push(fixed("transition without arcs", case(&bare, &slice, false, 0), 0, [0; 3]));
     list.push(fixed("after one without arcs", case(&bare, &slice, false, 1), 8, [4, 0, 0]));
+    let (parallel, parallel_cut) = (parallel_plan().bytes(), parallel_safety_for_3().bytes());
+    list.push(fixed("parallel arcs", case(&parallel, &parallel_cut, false, 2), 24, [68, 0, 0]));
+    list.push(fixed("after parallel arcs", case(&parallel, &parallel_cut, false, 3), 8, [92, 0, 0]));
+    list.push(fixed("parallel arcs in the slice", case(&parallel, &parallel_cut, true, 2), 16, [64, 0, 0]));
+    let widest = several(&[65_535; 4_096], &[], 0).bytes();
+    list.push(fixed("4,096 parallel arcs", case(&widest, &slice, false, 0), 32_768, [4, 0, 0]));
     let full = full_net().bytes();
     list.push(fixed("last run of the full net", case(&full, &slice, false, 1_023), 32, [4_096 + 32_736, 0, 0]));
     for (name, bad, _) in bad_plans() {
@@ -381,6 +422,21 @@ pub fn replays() -> Vec<Fixed<ReplayCase>> {
     let well = Draft::plan(vec![u32::MAX], 1, vec![DraftArc::new(0, 1, 0, 65_535)]).bytes();
     let most = 4_294_967_295 + 65_535 * 65_535;
     add("the most tokens there can be".into(), &well, &[0; 65_535], 1, 0, (0, 0), &[most]);
+    // 65,535 firings that add 4,096 × 65,535 each.
+    for tokens in [0, u32::MAX] {
+        let spring = several(&[], &[65_535; 4_096], tokens).bytes();
+        let most = 17_591_649_177_600 + u64::from(tokens);
+        add(format!("the most with parallel arcs, from {tokens}"), &spring, &[0; 65_535], 1, 0, (0, 0), &[most]);
+    }
+    let drain = |tokens| several(&[65_535; 4_096], &[], tokens).bytes();
+    add("4,096 inputs, enough".into(), &drain(268_431_360), &[0], 1, 0, (0, 0), &[0]);
+    add("4,096 inputs, one too few".into(), &drain(268_431_359), &[0], 1, 100, (0, 0), &[268_431_359]);
+    add("4,096 inputs, 16 times".into(), &drain(u32::MAX), &[0; 70], 1, 100, (16, 0), &[65_535]);
+    let parallel = parallel_plan().bytes();
+    add("parallel kerb, 0,1,0,1,2".into(), &parallel, &[0, 1, 0, 1, 2], 5, 0, (0, 0), &[0, 1, 0, 0, 1]);
+    add("parallel kerb, 0,1,2".into(), &parallel, &[0, 1, 2], 5, 100, (2, 3), &[1, 1, 0, 1, 0]);
+    add("each alone would do".into(), &several(&[2, 3], &[], 4).bytes(), &[0], 1, 100, (0, 0), &[4]);
+    add("together they do".into(), &several(&[2, 3], &[1, 1], 5).bytes(), &[0], 1, 0, (0, 0), &[2]);
     add("exactly enough".into(), &loop_net(65_535, 1, 65_535), &[0], 1, 0, (0, 0), &[1]);
     add("one too few".into(), &loop_net(65_535, 1, 65_534), &[0], 1, 100, (0, 0), &[65_534]);
     add("a reader needs its tokens".into(), &loop_net(2, 2, 1), &[0], 1, 100, (0, 0), &[1]);
@@ -433,6 +489,7 @@ pub fn cuts(which: Cut) -> Vec<Fixed<CutCase>> {
         Cut::Safety => {
             written("kerb for {2}", &small, &[2], &small_safety().bytes(), 3, 2);
             written("kerb for {3}", &small, &[3], &small_safety_for_3().bytes(), 4, 3);
+            written("parallel kerb for {3}", &parallel_plan().bytes(), &[3], &parallel_safety_for_3().bytes(), 4, 3);
         }
         Cut::Branching => written("kerb for {2}", &small, &[2], &small_branching().bytes(), 3, 3),
     }
@@ -442,6 +499,13 @@ pub fn cuts(which: Cut) -> Vec<Fixed<CutCase>> {
     // In a loop with unequal weights it is kept, both arcs with it.
     let kept = Draft::plan(vec![4], 1, vec![DraftArc::new(0, 0, 0, 2), DraftArc::new(0, 1, 0, 1)]);
     written("unequal loop", &kept.clone().bytes(), &[0], &kept.into_slice(vec![0], vec![0]).bytes(), 1, 1);
+    // With parallel arcs the sums decide, and all arcs go with the transition.
+    written("reader by sums", &several(&[1, 3], &[2, 2], 4).bytes(), &[0], &reader, 1, 0);
+    for (ins, outs) in [(&[2, 1][..], &[2][..]), (&[2], &[2, 1]), (&[1, 65_535, 1], &[65_535, 1])] {
+        let kept = several(ins, outs, 4);
+        let slice = kept.clone().into_slice(vec![0], vec![0]).bytes();
+        written("unequal sums", &kept.bytes(), &[0], &slice, 1, 1);
+    }
     // An arc to a kept place that is no input stays; an arc to one left out goes.
     let a = DraftArc::new;
     let fork = Draft::plan(vec![1, 0, 0], 1, vec![a(0, 0, 0, 1), a(0, 1, 1, 1), a(0, 1, 2, 1)]).bytes();
@@ -588,6 +652,23 @@ fn judged() -> Vec<(String, Vec<u8>, Vec<u8>, Vec<u16>, u32, i64)> {
     add("left out, reads Q", &read, one_place_of(1), &[0], 0, 0);
     let grows = Draft::plan(vec![1], 1, vec![a(0, 0, 0, 3), a(0, 1, 0, 4)]);
     add("left out, raises Q in a loop", &grows, one_place_of(1), &[0], 106, 0);
+    // Parallel arcs: with their repeats, in order, for rule 4; by sums for rules 6 and 8.
+    let parallel = parallel_plan();
+    add("parallel arcs", &parallel, parallel_safety_for_3().bytes(), &[3], 0, 0);
+    add("parallel arcs joined", &parallel, small_safety_for_3().bytes(), &[3], 104, 2);
+    add("an arc parted", &plan, parallel_safety_for_3().bytes(), &[3], 104, 2);
+    add("one of two lost", &parallel, counted(&parallel_safety_for_3(), |d| d.arcs.truncate(7)), &[3], 104, 2);
+    let three = several(&[1, 2, 1], &[5], 0);
+    let slice_of_three = three.clone().into_slice(vec![0], vec![0]);
+    add("three parallel arcs", &three, slice_of_three.bytes(), &[0], 0, 0);
+    add("three permuted", &three, changed(&slice_of_three, |d| d.arcs.swap(0, 1)), &[0], 104, 0);
+    add("three, another sum", &three, changed(&slice_of_three, |d| d.arcs[2].weight = 2), &[0], 104, 0);
+    add("left out, reads Q by sums", &several(&[1, 3], &[2, 2], 1), one_place_of(1), &[0], 0, 0);
+    add("left out, changes Q by sums", &several(&[2, 2], &[2, 1], 1), one_place_of(1), &[0], 106, 0);
+    let raiser =
+        Draft::plan(vec![1, 0], 2, vec![a(0, 0, 0, 1), a(0, 1, 1, 1), a(1, 0, 0, 2), a(1, 1, 0, 1), a(1, 1, 0, 2)]);
+    let without = Draft::plan(vec![1, 0], 1, vec![a(0, 0, 0, 1), a(0, 1, 1, 1)]).into_slice(vec![0, 1], vec![0]);
+    add("left out, raises by sums", &raiser, without.bytes(), &[1], 108, 1);
     // Harmless extras: a transition without arcs, a place without arcs.
     let spare = Draft::plan(vec![1, 5], 2, vec![a(1, 0, 0, 1)]);
     let all = spare.clone().into_slice(vec![0, 1], vec![0, 1]);
@@ -671,6 +752,8 @@ mod tests {
         assert_eq!((small_safety().bytes().len(), small_safety().arcs.len()), (78, 5));
         assert_eq!((small_branching().bytes().len(), small_branching().arcs.len()), (88, 6));
         assert_eq!((small_safety_for_3().bytes().len(), small_safety_for_3().arcs.len()), (102, 7));
+        assert_eq!(parallel_plan().bytes().len(), 116);
+        assert_eq!((parallel_safety_for_3().bytes().len(), parallel_safety_for_3().arcs.len()), (110, 8));
     }
 
     #[test]
@@ -684,6 +767,9 @@ mod tests {
             (longest.bytes(), Kind::Plan),
             (Draft::plan(vec![], 1, vec![]).bytes(), Kind::Plan),
             (full_net().bytes(), Kind::Plan),
+            (parallel_plan().bytes(), Kind::Plan),
+            (parallel_safety_for_3().bytes(), Kind::Slice),
+            (several(&[9, 1, 9, 9], &[2, 65_535, 1], 0).bytes(), Kind::Plan),
             (full_net().into_slice((0..1_024).collect(), (0..1_024).collect()).bytes(), Kind::Slice),
         ];
         for (file, kind) in files {

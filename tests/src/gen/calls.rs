@@ -334,6 +334,26 @@ mod tests {
         }
     }
 
+    /// Of the plans a third has parallel arcs; equal records, other weights and 4,096 of the largest weight come too.
+    #[test]
+    fn parallel_arcs_have_their_share() {
+        let key = |a: &DraftArc| (a.transition, a.direction, a.place);
+        let (mut parallel, mut equal, mut falling, mut heaviest) = (0, 0, 0, 0);
+        for number in 0..CASES {
+            let arcs = plan(&mut Rng::for_case(6, "parallel", number)).arcs;
+            let twins: Vec<_> = arcs.windows(2).filter(|two| key(&two[0]) == key(&two[1])).collect();
+            parallel += u64::from(!twins.is_empty());
+            equal += u64::from(twins.iter().any(|two| two[0] == two[1]));
+            falling += u64::from(twins.iter().any(|two| two[0].weight > two[1].weight));
+            heaviest += u64::from(twins.len() == 4_095 && arcs.iter().all(|a| a.weight == 65_535));
+        }
+        assert!(3 * parallel >= CASES, "{parallel} plans with parallel arcs");
+        assert!(
+            equal >= 500 && falling >= 500 && heaviest >= 1,
+            "{equal} equal, {falling} falling, {heaviest} heaviest"
+        );
+    }
+
     #[test]
     fn honest_slices_are_accepted() {
         for number in 0..CASES {

@@ -15,38 +15,52 @@ pub fn plan(rng: &mut Rng) -> Draft {
         }
         _ => tiny(rng),
     };
-    if draft.note.is_empty() && rng.percent(30) {
+    if draft.note.is_empty() && rng.percent(40) {
         add_parallels(rng, &mut draft);
     }
     add_note(rng, &mut draft);
     draft
 }
 
-/// Some arcs again, next to themselves, with the same weight or another; now and then one arc as often as there is room.
+/// Some arcs several times, in any order of their weights: a few, or now and then one arc as often as there is room.
 fn add_parallels(rng: &mut Rng, draft: &mut Draft) {
     let room = MAX_ARCS - draft.arcs.len();
     if draft.arcs.is_empty() || room == 0 {
         return;
     }
-    let (times, same) = match rng.below(60) {
-        0 => (room, true),
-        1 => (rng.range(1, room.min(300)), true),
-        _ => (rng.range(1, room.min(6)), false),
-    };
-    let mut i = rng.below(draft.arcs.len());
-    for _ in 0..times {
-        if !same {
-            i = rng.below(draft.arcs.len());
+    let way = rng.below(200);
+    if way < 4 {
+        let times = if way == 0 { room } else { rng.range(1, room.min(300)) };
+        let i = rng.below(draft.arcs.len());
+        let heavy = rng.percent(50);
+        let weight = |rng: &mut Rng| if heavy { 65_535 } else { rng.range(1, 65_535) as u16 };
+        let more: Vec<DraftArc> = (0..times).map(|_| DraftArc { weight: weight(rng), ..draft.arcs[i] }).collect();
+        draft.arcs.splice(i..i, more);
+    } else {
+        for _ in 0..rng.range(1, room.min(6)) {
+            add_parallel(rng, draft);
         }
-        let mut arc = draft.arcs[i];
-        match rng.below(4) {
-            0 | 1 => (),
-            2 => arc.weight = rng.range(1, 3) as u16,
-            _ => arc.weight = *rng.pick(&[1, 2, 65_534, 65_535]),
-        }
-        draft.arcs.insert(i + rng.below(2), arc);
     }
     draft.count();
+}
+
+/// One more arc beside one that joins the same two: the record again, another weight, or a part of its weight.
+fn add_parallel(rng: &mut Rng, draft: &mut Draft) {
+    let i = rng.below(draft.arcs.len());
+    let mut arc = draft.arcs[i];
+    match rng.below(5) {
+        0 => (),
+        1 => arc.weight = rng.range(1, 3) as u16,
+        2 => arc.weight = *rng.pick(&[1, 2, 65_534, 65_535]),
+        // The sum stays, so that readers stay readers.
+        _ if arc.weight > 1 => {
+            let part = rng.range(1, usize::from(arc.weight) - 1) as u16;
+            draft.arcs[i].weight -= part;
+            arc.weight = part;
+        }
+        _ => (),
+    }
+    draft.arcs.insert(i + rng.below(2), arc);
 }
 
 /// How heavy the arcs of a net are, and how full its places.
@@ -193,7 +207,7 @@ fn chain(rng: &mut Rng, places: usize, backwards: bool) -> Draft {
 
 /// Nets at the limits of the format.
 pub fn limit_plan(rng: &mut Rng) -> Draft {
-    let mut draft = match rng.below(9) {
+    let mut draft = match rng.below(10) {
         0 | 1 => full(rng, false),
         2 => full(rng, true),
         3 => one_wide_transition(rng),
@@ -201,6 +215,7 @@ pub fn limit_plan(rng: &mut Rng) -> Draft {
         5 => chain(rng, MAX_PLACES, false),
         6 => Draft::plan(vec![u32::MAX; rng.range(MAX_PLACES - 1, MAX_PLACES)], 0, Vec::new()),
         7 => Draft::plan(Vec::new(), rng.range(MAX_TRANSITIONS - 1, MAX_TRANSITIONS), Vec::new()),
+        8 => one_pair(rng),
         _ => one_wide_place(),
     };
     if rng.percent(50) {
@@ -258,6 +273,15 @@ fn one_wide_place() -> Draft {
         }
     }
     Draft::plan(vec![1; MAX_PLACES], MAX_TRANSITIONS, arcs)
+}
+
+/// One place and one transition joined by 4,096 arcs of the largest weight, one way or both.
+fn one_pair(rng: &mut Rng) -> Draft {
+    let any = rng.range(0, MAX_ARCS);
+    let inputs = *rng.pick(&[0, MAX_ARCS, MAX_ARCS / 2, any]);
+    let arc = |i| DraftArc::new(0, u8::from(i >= inputs), 0, 65_535);
+    let marking = *rng.pick(&[0, 65_535 * inputs as u32, u32::MAX]);
+    Draft::plan(vec![marking], 1, (0..MAX_ARCS).map(arc).collect())
 }
 
 fn add_note(rng: &mut Rng, draft: &mut Draft) {

@@ -179,26 +179,17 @@ fn raise_origins(rng: &mut Rng, origins: &mut [u16], count: usize) {
     }
 }
 
-/// A weight changed, an arc lost, added, turned or moved, or a transition's origin moved.
+/// A weight changed, an arc lost, added, turned or moved, a transition's origin moved, or parallel arcs permuted or joined.
 fn tamper_arcs(rng: &mut Rng, plan: &Net, slice: &mut Draft) {
     let places = slice.marking.len();
     let transitions = slice.transition_origins.len();
     let arcs = slice.arcs.len();
-    let way = if arcs == 0 { rng.range(4, 5) } else { rng.below(8) };
+    let change = if rng.percent(50) { permute_parallels } else { join_parallels };
+    if rng.percent(40) && change(rng, slice) {
+        return;
+    }
+    let way = if arcs == 0 { rng.range(4, 5) } else { rng.below(6) };
     match way {
-        // One of two equal neighbours less, their weights joined, or their weights exchanged.
-        6 => {
-            if let Some(i) = parallel(rng, slice) {
-                let sum = u32::from(slice.arcs[i].weight) + u32::from(slice.arcs[i + 1].weight);
-                slice.arcs[i].weight = if rng.percent(50) { sum.min(65_535) as u16 } else { slice.arcs[i].weight };
-                slice.arcs.remove(i + 1);
-            }
-        }
-        7 => {
-            if let Some(i) = parallel(rng, slice) {
-                slice.arcs.swap(i, i + 1);
-            }
-        }
         0 => {
             let i = rng.below(arcs);
             let weight = slice.arcs[i].weight;
@@ -240,13 +231,69 @@ fn tamper_arcs(rng: &mut Rng, plan: &Net, slice: &mut Draft) {
     slice.arcs.truncate(crate::net::MAX_ARCS);
 }
 
-/// An arc that has a parallel one after it.
-fn parallel(rng: &mut Rng, slice: &Draft) -> Option<usize> {
+/// An arc with a parallel one after it, for which the two weights pass.
+fn parallel(rng: &mut Rng, slice: &Draft, wanted: impl Fn(u16, u16) -> bool) -> Option<usize> {
     let key = |a: &DraftArc| (a.transition, a.direction, a.place);
-    let those: Vec<usize> =
-        (1..slice.arcs.len()).filter(|&i| key(&slice.arcs[i - 1]) == key(&slice.arcs[i])).map(|i| i - 1).collect();
+    let pairs = slice.arcs.windows(2).enumerate();
+    let those: Vec<usize> = pairs
+        .filter(|(_, two)| key(&two[0]) == key(&two[1]) && wanted(two[0].weight, two[1].weight))
+        .map(|(i, _)| i)
+        .collect();
     if those.is_empty() {
         return None;
     }
     Some(*rng.pick(&those))
+}
+
+/// Two parallel arcs of other weights the other way round: the same sums.
+fn permute_parallels(rng: &mut Rng, slice: &mut Draft) -> bool {
+    let found = parallel(rng, slice, |a, b| a != b);
+    if let Some(i) = found {
+        slice.arcs.swap(i, i + 1);
+    }
+    found.is_some()
+}
+
+/// Two parallel arcs as one of both weights: the same sums.
+fn join_parallels(rng: &mut Rng, slice: &mut Draft) -> bool {
+    let found = parallel(rng, slice, |a, b| u32::from(a) + u32::from(b) <= 65_535);
+    if let Some(i) = found {
+        let joined = slice.arcs.remove(i + 1);
+        slice.arcs[i].weight += joined.weight;
+    }
+    found.is_some()
+}
+
+#[cfg(test)]
+mod tests {
+    use super::*;
+    use crate::check::{judge, Verdict};
+    use crate::gen::good_criterion;
+
+    /// Rule 4 compares arcs with their repeats, in order.
+    #[test]
+    fn permuted_and_joined_parallels_break_rule_4() {
+        let (mut permuted, mut joined) = (0, 0);
+        for seed in 0..20_000 {
+            let mut rng = Rng::new(seed);
+            let plan = net_of(&plan(&mut rng));
+            if plan.places() == 0 {
+                continue;
+            }
+            let q = good_criterion(&mut rng, plan.places());
+            let honest = honest_slice(&mut rng, &plan, &q);
+            for (change, count) in
+                [(permute_parallels as fn(&mut Rng, &mut Draft) -> bool, &mut permuted), (join_parallels, &mut joined)]
+            {
+                let mut slice = honest.clone();
+                if change(&mut rng, &mut slice) {
+                    slice.count();
+                    let verdict = judge(&plan, &net_of(&slice), &q);
+                    assert!(matches!(verdict, Verdict::Broken { rule: 4, .. }), "seed {seed}: {verdict:?}");
+                    *count += 1;
+                }
+            }
+        }
+        assert!(permuted > 500 && joined > 500, "{permuted} permuted, {joined} joined");
+    }
 }
