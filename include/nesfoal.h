@@ -2,6 +2,8 @@
  *
  * Plans and slices are place/transition nets in byte strings: markings, arcs and, in a slice, the plan's numbers of
  * its places and transitions ("Plan and slice files" of the scope paper). Places and transitions are numbered from 0.
+ * Several arcs may join the same place and transition in the same direction: what a transition takes from a place, or
+ * adds to it, is the sum of their weights, in every call.
  *
  * What holds for every call
  * - A byte string is a pointer and a count. A pointer whose count is 0 may be null. Strings may stand at any address.
@@ -20,7 +22,7 @@
  *    4  trailer: places, transitions (1,024 each) or arcs (4,096) above the limit, or neither place nor transition
  *    5  trailer: body length not as computed, or above the file's length less 16
  *    6  an arc: zero byte, direction, place, transition or weight out of range
- *    7  an arc: below the arc before it
+ *    7  an arc: below the arc before it, by transition, then direction, then place (equal ones are parallel arcs)
  *    8  a table of origins: not strictly rising
  *    9  criterion: empty (in bytes also: an odd count)
  *   10  criterion or place: a number that is no place, or a criterion that does not rise
@@ -52,6 +54,7 @@ extern "C" {
  *   102 an origin that is no transition of the plan   106 a transition left out that changes a place of the criterion
  *   103 a marking other than the plan's               107 a kept transition with an input place that is not kept
  *   104 arcs other than the plan's to kept places     108 a transition left out that raises a kept place
+ * Rule 104 compares arc by arc: parallel arcs in another order, or joined into one, are other arcs.
  */
 uint32_t nesfoal_check(const uint8_t *plan, size_t plan_length,
                        const uint8_t *slice, size_t slice_length,
@@ -68,8 +71,8 @@ uint32_t nesfoal_verdict(const uint8_t *plan, size_t plan_length,
 
 /* The effect of a transition on a place of a plan or a slice: by how much one firing changes the place's tokens.
  *
- * Returns 0 and puts the effect, from -268,431,360 to 268,431,360, into *effect; or returns a refusal: 1 to 8 of the file, then
- * 10 for an unknown place, then 12 for an unknown transition, with 0 in *effect.
+ * Returns 0 and puts the effect, from -268,431,360 to 268,431,360, into *effect; or returns a refusal: 1 to 8 of the
+ * file, then 10 for an unknown place, then 12 for an unknown transition, with 0 in *effect.
  */
 uint32_t nesfoal_effect(const uint8_t *file, size_t file_length,
                         uint16_t place, uint16_t transition,
@@ -81,7 +84,7 @@ uint32_t nesfoal_effect(const uint8_t *file, size_t file_length,
  * place that is short in *place; or a refusal: 1 to 8, 11, 12, and 13 where marking has fewer entries than the net has
  * places. *index and *place are 0 but where the answer is 100.
  * The first entries of marking, one for each place, become the marking after all firings, or the one before the firing
- * that sticks; later entries keep their values.
+ * that sticks; later entries keep their values. Every entry of such a marking is below 2 to the power 45.
  */
 uint32_t nesfoal_replay(const uint8_t *file, size_t file_length,
                         const uint16_t *list, size_t list_count,
@@ -122,7 +125,7 @@ uint32_t nesfoal_project(const uint8_t *plan, size_t plan_length,
  *
  * Returns the length of the run in bytes, 8 for each arc, and puts the offset of its first byte in the file named into
  * *start. An arc is: transition (2 bytes, low byte first), direction (1: 0 from place to transition, 1 from transition to
- * place), a zero byte, place (2), weight (2).
+ * place), a zero byte, place (2), weight (2). Parallel arcs stand there one by one, as in the file.
  * The run is empty, and both numbers are 0, exactly where either file is refused, the number is unknown in the file
  * named, or the transition has no arcs there.
  */
