@@ -1,16 +1,18 @@
 -- "Effect then spans -268,431,360 to 268,431,360": a file has at most 4,096 arcs, of weights up to 65,535; and so "a replayed marking stays below 2 to the power 45".
 -- Assumes nothing.
-use Prim.Native.Nat.{ℕ, zero, suc, _+_, _*_, _^_, _≤_, _<_}
+use Prim.Native.Nat.{ℕ, zero, suc, _+_, _-_, _*_, _^_, _≤_, _<_}
 use mathlib.Core.Path.{_≡_}
 use mathlib.Core.Bool.{Bool, true, false}
 use mathlib.Core.List.{List, [], _∷_}
 use native.Mathlib.Omega.{arith}
 use native.Mathlib.Decide.{decLt}
-use lib.Dec.{ltb, leb}
+use lib.Dec.{ltb, leb, le→leb}
+use lib.IntN.{pos, negsuc, _-ℤ_}
+use lib.Signed.{_≤ℤ_, leZ-yes}
 use lib.ListN.{length}
 use borrow.Author.Tests.{ltb-false}
 use Rattle.net.specs.Numbers.{any}
-use Rattle.net.specs.Net.{Net, Marking, counted, joins, weightOn, input, output, fire, shortPlace, replayFrom, replay}
+use Rattle.net.specs.Net.{Net, Marking, counted, joins, weightOn, input, output, effect, fire, shortPlace, replayFrom, replay}
 use Rattle.net.proofs.Numbers.{by-cases}
 use Rattle.net.proofs.Markings.{below-at, below-off}
 use Rattle.file.specs.Word.{Bytes, le32}
@@ -32,14 +34,26 @@ unfolding weightOn arcsFrom
 weight-small d p t s b at zero = omega arith
 weight-small d p t s b at (suc n) = omega (arith, le16-lt s b (at + 6), counted-le (joins d p t (arcAt s at)) (arcAt s at .weight), weight-small d p t s b (at + 8) n)
 
+-- of a file that can be read, in(p,t) and out(p,t) are sums of at most 4,096 weights
+sum-small : (file : List ℕ) → Bytes file → fileRefusal due.Either file ≡ 0 → (d p t : ℕ) → weightOn d p t (netOf file .arcs) ≤ 268431360
+sum-small file b e d p t = omega (arith, sound due.Either file e .placed .arcs, weight-small d p t file b (headerOf file .arcstart) (headerOf file .arcs))
+
+-- a difference is not below minus what is taken away
+difference-low : (n a b : ℕ) → b ≤ suc n → negsuc n ≤ℤ (pos a -ℤ pos b)
+difference-low n a zero h = leZ-yes tt
+difference-low n a (suc b) h = by-cases (ltb a (suc b)) (λ e. rw e (leZ-yes (le→leb (suc b - suc a) n (omega arith)))) (λ e. rw e (leZ-yes tt))
+
+-- and not above what it is taken from
+difference-high : (n a b : ℕ) → a ≤ n → (pos a -ℤ pos b) ≤ℤ pos n
+difference-high n a zero h = leZ-yes (le→leb (a + 0) n (omega arith))
+difference-high n a (suc b) h = by-cases (ltb a (suc b)) (λ e. rw e (leZ-yes tt)) (λ e. rw e (leZ-yes (le→leb (a - suc b) n (omega arith))))
+
 pub effect-range : (file : List ℕ) → Bytes file → fileRefusal due.Either file ≡ 0 → EffectRange file
-unfolding input output
-effect-range file b e =
-    let few = sound due.Either file e .placed .arcs in
-    record {
-      input-small = λ p t. omega (arith, few, weight-small 0 p t file b (headerOf file .arcstart) (headerOf file .arcs));
-      output-small = λ p t. omega (arith, few, weight-small 1 p t file b (headerOf file .arcstart) (headerOf file .arcs));
-    }
+unfolding input output effect
+effect-range file b e = record {
+  lowest = λ p t. difference-low _ (output (netOf file) p t) (input (netOf file) p t) (omega (arith, sum-small file b e 0 p t));
+  highest = λ p t. difference-high _ (output (netOf file) p t) (input (netOf file) p t) (omega (arith, sum-small file b e 1 p t));
+}
 
 -- each firing adds an output at most
 replay-low : (N : Net) → ((p t : ℕ) → output N p t ≤ 268431360) → (i : ℕ) (M : Marking) (ts : List ℕ) (p : ℕ) → replayFrom N i M ts .marking p ≤ M p + 268431360 * length ts
@@ -59,7 +73,7 @@ marking-low file b p = go (decLt p (headerOf file .places))
     go (no l) = omega (arith, below-off (headerOf file .places) (λ q. le32 file (headerOf file .markstart + 4 * q)) p (omega (arith, l)))
 
 pub bounded : (file list : List ℕ) → Bytes file → fileRefusal due.Either file ≡ 0 → listRefusal (netOf file .transitions) list ≡ 0 → Bounded file list
-unfolding replay listRefusal
+unfolding replay output listRefusal
 bounded file list b e l =
     let short = ltb-false 65535 (length list) (refuse-0 (ltb 65535 (length list)) 10 (refuse (any (λ t. leb (netOf file .transitions) t) list) 12 0) l .0) in
-    record { tokens-low = λ p. omega (arith, short, marking-low file b p, replay-low (netOf file) (effect-range file b e .output-small) 0 (netOf file .marking) list p) }
+    record { tokens-low = λ p. omega (arith, short, marking-low file b p, replay-low (netOf file) (sum-small file b e 1) 0 (netOf file .marking) list p) }

@@ -14,7 +14,7 @@ use Rattle.file.specs.Criterion.{placesRefusal, criterionRefusal, criterionOf, 
 use Rattle.file.specs.Writing.{markingsBytes, arcBytes, arcsBytes, originsBytes, sliceBody, trailerBytes, sliceBytes}
 use Rattle.promise.specs.Calls.{cutOf, safetyFile, branchingFile, cutRefusal, writeRefusal, safetyAnswer, checkRefusal, checked, checkedBytes}
 use Rattle.promise.specs.Firing.{effectRefusal, effectAnswer, listRefusal, replayRefusal, replayAnswer, replayMarking, projectRefusal, projectAnswer, projectOutput, before, runIn, arcRun}
-use Rattle.promise.specs.Example.{smallPlan, onePlace, onePlaceCut, Starred, Noted}
+use Rattle.promise.specs.Example.{smallPlan, onePlace, onePlaceCut, parallelPlan, Starred, Noted, Parallels}
 
 pub starred : Starred
 unfolding among position any selected first below weightOn input output effect changes raises takesFrom fire shortPlace replayFrom replay tokens growth safety branching drawnBy grown rounds keptPlaces keptTransitions strike own project renumber restrict arcsOf sliceRun planRun placeOf transitionOf keeping cut breaks breaker sameArc sameArcs lacksInput rule1 rule2 rule3 rule4 rule5 rule6 rule7 rule8 rules verdictFrom verdict le16 le32 bytes16 bytes32 trailerOf headerOf arcsFrom wordsFrom trailerRefusal arcsRefusal tableRefusal originsRefusal bodyRefusal fileRefusal placesRefusal criterionRefusal markingsBytes arcBytes arcsBytes originsBytes sliceBody trailerBytes sliceBytes cutOf safetyFile branchingFile checkRefusal checked smallPlan effectRefusal effectAnswer listRefusal replayRefusal replayAnswer replayMarking projectRefusal projectAnswer projectOutput
@@ -58,4 +58,17 @@ noted = record {
   no-run = refl;
   tokens-in-plan = refl;
   tokens-in-slice = refl;
+}
+
+pub parallels : Parallels
+unfolding among position any selected first below weightOn input output effect changes raises takesFrom fire shortPlace replayFrom replay tokens growth safety branching drawnBy grown rounds keptPlaces keptTransitions strike own project renumber restrict arcsOf sliceRun planRun placeOf transitionOf keeping cut breaks breaker sameArc sameArcs lacksInput rule1 rule2 rule3 rule4 rule5 rule6 rule7 rule8 rules verdictFrom verdict le16 le32 bytes16 bytes32 trailerOf headerOf arcsFrom wordsFrom trailerRefusal arcsRefusal tableRefusal originsRefusal bodyRefusal fileRefusal placesRefusal criterionRefusal markingsBytes arcBytes arcsBytes originsBytes sliceBody trailerBytes sliceBytes cutOf safetyFile branchingFile checkRefusal checked smallPlan onePlace onePlaceCut effectRefusal effectAnswer listRefusal replayRefusal replayAnswer replayMarking projectRefusal projectAnswer projectOutput after planTokens sliceTokens cutRefusal writeRefusal safetyAnswer criterionOf criterionBytesRefusal checkedBytes before runIn arcRun parallelPlan
+parallels = record {
+  file = (refl, refl);
+  takes-two = refl;
+  fires = record { answer = refl; marking = refl };
+  sticks = refl;
+  run = refl;
+  safety-for-3 = record { read = refl; places = refl; transitions = refl; arc-count = refl; byte-count = refl };
+  joined = refl;
+  falling = refl;
 }

@@ -1,11 +1,11 @@
--- The starred examples of document 01 ("A small kerb"), over bytes, as one table: the plan's file, its cuts' files, replay, effect, projection, check.
+-- The starred examples of document 01 ("A small kerb"), over bytes, as one table: the plan's file, its cuts' files, replay, effect, projection, check; and the same kerb with parallel arcs.
 -- Places 0 to 4 are that section's waiting, bay free, in bay, left and bell.
 -- Assumes nothing.
 use Prim.Native.Nat.{ℕ}
-use mathlib.Core.List.{List, [], _∷_}
+use mathlib.Core.List.{List, [], _∷_, _++_}
 use mathlib.Core.Path.{_≡_}
 use mathlib.Core.Bool.{true, false}
-use lib.ListN.{length, take, set}
+use lib.ListN.{length, take, drop, set}
 use lib.IntN.{pos, negsuc}
 use Rattle.net.specs.Guarantee.{planTokens, sliceTokens}
 use Rattle.file.specs.Layout.{netOf, sliceOf}
@@ -45,15 +45,15 @@ pub record Holds (file ps ts : List ℕ) (arcs bytes : ℕ) : Type 0 where
   pub byte-count : length file ≡ bytes
 
 -- a list that fires, and the six entries lent after it, the last of them being 7 before
-pub record Ends (list entries : List ℕ) : Type 0 where
-  pub answer : replayAnswer smallPlan list 6 ≡ record { refusal = 0; stuck = false; index = 0; place = 0 }
-  pub marking : replayMarking smallPlan list (9 ∷ 9 ∷ 9 ∷ 9 ∷ 9 ∷ 7 ∷ []) ≡ entries
+pub record Ends (plan list entries : List ℕ) : Type 0 where
+  pub answer : replayAnswer plan list 6 ≡ record { refusal = 0; stuck = false; index = 0; place = 0 }
+  pub marking : replayMarking plan list (9 ∷ 9 ∷ 9 ∷ 9 ∷ 9 ∷ 7 ∷ []) ≡ entries
 
 -- the starred examples
 pub record Starred : Type 0 where
   pub file : (length smallPlan ≡ 108) × (fileRefusal due.Plan smallPlan ≡ 0)
-  pub fires : Ends (0 ∷ 1 ∷ 0 ∷ 1 ∷ 2 ∷ []) (0 ∷ 1 ∷ 0 ∷ 0 ∷ 1 ∷ 7 ∷ [])
-  pub empty : Ends [] (2 ∷ 1 ∷ 0 ∷ 0 ∷ 0 ∷ 7 ∷ [])
+  pub fires : Ends smallPlan (0 ∷ 1 ∷ 0 ∷ 1 ∷ 2 ∷ []) (0 ∷ 1 ∷ 0 ∷ 0 ∷ 1 ∷ 7 ∷ [])
+  pub empty : Ends smallPlan [] (2 ∷ 1 ∷ 0 ∷ 0 ∷ 0 ∷ 7 ∷ [])
   pub second-sticks : replayAnswer smallPlan (0 ∷ 0 ∷ []) 6 ≡ record { refusal = 0; stuck = true; index = 1; place = 1 }
   pub third-sticks : replayAnswer smallPlan (3 ∷ 3 ∷ 0 ∷ []) 6 ≡ record { refusal = 0; stuck = true; index = 2; place = 0 }
   pub takes-two : effectAnswer smallPlan 3 2 ≡ record { refusal = 0; effect = negsuc 1 }
@@ -89,3 +89,18 @@ pub record Noted : Type 0 where
   -- "after 3,0,1 waiting is 0 in the plan; after its projection 0,1 it is 1 in the safety cut for {2}"
   pub tokens-in-plan : planTokens (netOf smallPlan) (3 ∷ 0 ∷ 1 ∷ []) 0 ≡ 0
   pub tokens-in-slice : sliceTokens (sliceOf (safetyFile smallPlan (2 ∷ []))) (0 ∷ 1 ∷ []) 0 ≡ 1
+
+-- the small plan with the input of transition 2 as two arcs of weight 1: body length 100, 10 arcs
+unfoldable pub parallelPlan : List ℕ
+parallelPlan = set (set (set (take 76 smallPlan) 74 1 ++ 2 ∷ 0 ∷ 0 ∷ 0 ∷ 3 ∷ 0 ∷ 1 ∷ 0 ∷ drop 76 smallPlan) 100 100) 108 10
+
+-- "equal neighbours are allowed", "sums over all such arcs", "Rule 4 compares arc runs with repeats, in order", "7 now means below the arc before"
+pub record Parallels : Type 0 where
+  pub file : (length parallelPlan ≡ 116) × (fileRefusal due.Plan parallelPlan ≡ 0)
+  pub takes-two : effectAnswer parallelPlan 3 2 ≡ record { refusal = 0; effect = negsuc 1 }
+  pub fires : Ends parallelPlan (0 ∷ 1 ∷ 0 ∷ 1 ∷ 2 ∷ []) (0 ∷ 1 ∷ 0 ∷ 0 ∷ 1 ∷ 7 ∷ [])
+  pub sticks : replayAnswer parallelPlan (0 ∷ 1 ∷ 2 ∷ []) 6 ≡ record { refusal = 0; stuck = true; index = 2; place = 3 }
+  pub run : arcRun parallelPlan onePlaceCut false 2 ≡ 2 ∷ 0 ∷ 0 ∷ 0 ∷ 3 ∷ 0 ∷ 1 ∷ 0 ∷ 2 ∷ 0 ∷ 0 ∷ 0 ∷ 3 ∷ 0 ∷ 1 ∷ 0 ∷ 2 ∷ 0 ∷ 1 ∷ 0 ∷ 4 ∷ 0 ∷ 1 ∷ 0 ∷ []
+  pub safety-for-3 : Holds (safetyFile parallelPlan (3 ∷ [])) (0 ∷ 1 ∷ 2 ∷ 3 ∷ []) (0 ∷ 1 ∷ 2 ∷ []) 8 110
+  pub joined : checked parallelPlan (safetyFile smallPlan (3 ∷ [])) (3 ∷ []) ≡ record { code = 104; number = 2 }
+  pub falling : fileRefusal due.Plan (set smallPlan 24 2) ≡ 7
