@@ -70,7 +70,7 @@ fn repeat(words: &[&str]) -> Option<ExitCode> {
         _ => return None,
     };
     let call = calls::CALLS.into_iter().find(|c| c.name() == *call)?;
-    let input = nets::six().into_iter().find(|input| input.name.starts_with(net))?;
+    let input = nets::eight().into_iter().find(|input| input.name.starts_with(net))?;
     let times: u64 = times.parse().ok()?;
     let mut job = calls::Job::new(program, call, &input)?;
     let mut side = job.side();

@@ -78,15 +78,24 @@ fn firing_list(net: &Net, firings: usize) -> Vec<u16> {
     list
 }
 
-/// The six nets.
-pub fn six() -> Vec<Input> {
-    vec![small(2, 5), random(100, 11), random(1_000, 11), chain(1_024), wide(1_024), readers_writers(22)]
+/// The eight nets.
+pub fn eight() -> Vec<Input> {
+    vec![
+        small(2, 5),
+        random(100, 11),
+        random(1_000, 11),
+        chain(1_024),
+        wide(1_024),
+        readers_writers(22),
+        doubles(1_000, 11),
+        parallel(4_096),
+    ]
 }
 
-/// Random nets of one size, so many that the branches of none are learnt by heart when they are taken in turn.
-pub fn many_random(size: usize) -> Vec<Input> {
-    let mut many: Vec<Input> = (11..27).map(|seed| random(size, seed)).collect();
-    many[0].name = format!("{} random {size}", many.len());
+/// Random nets of one kind, so many that the branches of none are learnt by heart when they are taken in turn.
+pub fn many(kind: fn(usize, u64) -> Input, size: usize) -> Vec<Input> {
+    let mut many: Vec<Input> = (11..27).map(|seed| kind(size, seed)).collect();
+    many[0].name = format!("{} {}", many.len(), many[0].name);
     many
 }
 
@@ -117,17 +126,50 @@ pub fn small(waiting: u32, firings: usize) -> Input {
 /// So many places and transitions, four arcs for each on average: transition, direction and place at random.
 pub fn random(size: usize, seed: u64) -> Input {
     let mut rng = Rng::new(seed);
-    let mut keys: Vec<(usize, u8, usize)> = Vec::new();
-    while keys.len() < 4 * size {
-        while keys.len() < 4 * size {
+    let keys = keys(&mut rng, size, 4 * size);
+    weighted(&mut rng, &format!("random {size}"), size, &keys)
+}
+
+/// The same with parallel arcs: for each transition three arcs and one of them again on average.
+pub fn doubles(size: usize, seed: u64) -> Input {
+    let mut rng = Rng::new(seed);
+    let mut keys = keys(&mut rng, size, 3 * size);
+    for _ in 0..size {
+        keys.push(keys[rng.below(3 * size)]);
+    }
+    keys.sort();
+    weighted(&mut rng, &format!("doubles {size}"), size, &keys)
+}
+
+/// Transition, direction and place.
+type Key = (usize, u8, usize);
+
+/// So many of them, in order, each once.
+fn keys(rng: &mut Rng, size: usize, count: usize) -> Vec<Key> {
+    let mut keys = Vec::new();
+    while keys.len() < count {
+        while keys.len() < count {
             keys.push((rng.below(size), rng.below(2) as u8, rng.below(size)));
         }
         keys.sort();
         keys.dedup();
     }
+    keys
+}
+
+fn weighted(rng: &mut Rng, name: &str, size: usize, keys: &[Key]) -> Input {
     let arcs = keys.iter().map(|&(t, d, p)| DraftArc::new(t, d, p, rng.range(1, 2) as u16)).collect();
     let marking = (0..size).map(|_| rng.range(50, 500) as u32).collect();
-    Input::new(&format!("random {size}"), Draft::plan(marking, size, arcs), None, MAX_LIST)
+    Input::new(name, Draft::plan(marking, size, arcs), None, MAX_LIST)
+}
+
+/// One place and one transition: half of the arcs take, the others give one token more.
+pub fn parallel(arcs: usize) -> Input {
+    let half = arcs / 2;
+    let ins = (0..half).map(|_| DraftArc::new(0, 0, 0, 1));
+    let outs = (0..half).map(|i| DraftArc::new(0, 1, 0, if i + 1 == half { 2 } else { 1 }));
+    let draft = Draft::plan(vec![half as u32], 1, ins.chain(outs).collect());
+    Input::new(&format!("parallel {arcs}"), draft, Some(0), MAX_LIST)
 }
 
 /// A chain of places, numbered backwards: transition t moves a token from place t + 1 to place t.
@@ -193,11 +235,13 @@ mod tests {
 
     #[test]
     fn nets_are_of_the_size_told() {
-        let counts: Vec<[usize; 3]> = six().iter().map(|n| n.counts[0]).collect();
+        let nets = eight();
+        let counts: Vec<[usize; 3]> = nets.iter().map(|n| n.counts[0]).collect();
         let wide = [1_024, 1, 2_048];
         assert_eq!(counts[..3], [[5, 4, 9], [100, 100, 400], [1_000, 1_000, 4_000]]);
-        assert_eq!(counts[3..], [[1_024, 1_023, 2_046], wide, [113, 1_013, 4_050]]);
-        assert!(six()[1..].iter().all(|n| n.list.len() == MAX_LIST));
+        assert_eq!(counts[3..6], [[1_024, 1_023, 2_046], wide, [113, 1_013, 4_050]]);
+        assert_eq!(counts[6..], [[1_000, 1_000, 4_000], [1, 1, 4_096]]);
+        assert!(nets[1..].iter().all(|n| n.list.len() == MAX_LIST));
         assert_eq!(small(2, 5).plan.len(), 108);
     }
 }

@@ -12,8 +12,8 @@ pub fn print() {
     println!(
         "Stack of each call in bytes, from the arguments that are handed over on the stack, not counted, down to the"
     );
-    println!("lowest byte written, the return address included: the most on the six nets and on a full one.");
-    let mut inputs = nets::six();
+    println!("lowest byte written, the return address included: the most on the eight nets and on a full one.");
+    let mut inputs = nets::eight();
     inputs.push(nets::random(1_024, 11));
     println!();
     println!("| call | ours | tuned |");

@@ -6,8 +6,8 @@ use crate::time::{interleaved, Effort, Rounds, Side};
 use nesfoal_tests::net::MAX_LIST;
 
 pub fn print(effort: Effort) {
-    let mut entries: Vec<Vec<Input>> = nets::six().into_iter().map(|input| vec![input]).collect();
-    entries.insert(3, nets::many_random(1_000));
+    let mut entries: Vec<Vec<Input>> = nets::eight().into_iter().map(|input| vec![input]).collect();
+    entries.insert(3, nets::many(nets::random, 1_000));
     entries.push(vec![nets::small(65_535, MAX_LIST)]);
     println!("Times in microseconds, medians. ours : tuned is the median of the ratios of neighbouring rounds, and in");
     println!(

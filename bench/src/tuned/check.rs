@@ -258,14 +258,19 @@ unsafe fn effects(p: &Header, from: usize, own: Own) -> (bool, bool, usize) {
     let (mut i, mut o) = (from, middle);
     let (mut changes, mut raises) = (false, false);
     while i < middle || o < to {
-        let input = if i < middle { p.arc(i) } else { u64::MAX };
-        let output = if o < to { p.arc(o) } else { u64::MAX };
-        let (from_place, to_place) = (place(input), place(output));
-        let taken = if from_place <= to_place { weight(input) } else { 0 };
-        let given = if to_place <= from_place { weight(output) } else { 0 };
-        i += usize::from(from_place <= to_place);
-        o += usize::from(to_place <= from_place);
-        let at = *own.places.add(from_place.min(to_place));
+        let input = if i < middle { place(p.arc(i)) } else { NONE };
+        let output = if o < to { place(p.arc(o)) } else { NONE };
+        let here = input.min(output);
+        let (mut taken, mut given) = (0, 0);
+        while i < middle && place(p.arc(i)) == here {
+            taken += weight(p.arc(i));
+            i += 1;
+        }
+        while o < to && place(p.arc(o)) == here {
+            given += weight(p.arc(o));
+            o += 1;
+        }
+        let at = *own.places.add(here);
         changes |= given != taken && at & IN_Q != 0;
         raises |= given > taken && at & PLACE_LEFT_OUT == 0;
     }

@@ -6,12 +6,21 @@ use super::read::*;
 
 const LEFT_OUT: u16 = 0xFFFF;
 
-/// The rows of a net. For each place the last arc, counted from 1, that lowers it and the last that raises it. For each
-/// arc, also from 1: the arc before it in its row (16 bits), its transition (16), and that transition's first arc (16).
+/// The rows of a net. For each place its heads. For each arc, counted from 1: the arc before it in its row (16 bits), its
+/// transition (16), and that transition's first arc (16).
 #[derive(Clone, Copy)]
 struct Rows {
-    heads: *mut u16,
+    heads: *mut Heads,
     links: *mut u64,
+}
+
+/// The last arc, counted from 1, that lowers a place and the last that raises it; and what the transition of the lowering
+/// one takes, less what it gave back so far.
+#[derive(Clone, Copy)]
+#[repr(C)]
+struct Heads {
+    arcs: [u16; 2],
+    taken: u32,
 }
 
 /// What is kept so far, a byte for each, and the kept places that are still to be gone through.
@@ -29,13 +38,13 @@ pub fn cut<const SAFETY: bool>(plan: &[u8], q: &[u16], slice: &mut [u8], results
     *length = 0;
     *places = 0;
     *transitions = 0;
-    let mut heads = raw::<u16, { 2 * PLACES }>();
+    let mut heads = raw::<Heads, PLACES>();
     let mut links = raw::<u64, { ARCS + 1 }>();
     let rows = Rows { heads: heads.as_mut_ptr().cast(), links: links.as_mut_ptr().cast() };
     // SAFETY: numbers are below the limits once read; tables are cleared as far as the net goes.
     unsafe {
         let read = read_by(plan, PLAN, |h| {
-            rows.heads.write_bytes(0, 2 * h.places);
+            rows.heads.write_bytes(0, h.places);
             *rows.links = u64::MAX;
             rows_of(h.arcs_at, h.arcs, room(h), rows)
         });
@@ -62,7 +71,8 @@ pub fn cut<const SAFETY: bool>(plan: &[u8], q: &[u16], slice: &mut [u8], results
     }
 }
 
-/// Checks the arcs and links the rows.
+/// Checks the arcs and links the rows. Of parallel arcs that take, the first one is linked; of those that give, each that
+/// raises its place, since the search passes over a transition that it knows.
 #[inline(never)]
 unsafe fn rows_of(at: *const u8, count: usize, room: u64, rows: Rows) -> u32 {
     let (mut last, mut first) = (usize::MAX, 0);
@@ -70,21 +80,27 @@ unsafe fn rows_of(at: *const u8, count: usize, room: u64, rows: Rows) -> u32 {
         let (t, d, p) = (transition(arc), direction(arc), place(arc));
         first = if t == last { first } else { j };
         last = t;
-        let lowering = rows.heads.add(2 * p);
+        let heads = &mut *rows.heads.add(p);
+        let lowering = heads.arcs.as_mut_ptr();
         let before = *rows.links.add(usize::from(*lowering));
         let link = |head: *mut u16| {
             *rows.links.add(j + 1) = u64::from(*head) | (t as u64) << 16 | (first as u64) << 32;
             *head = j as u16 + 1;
         };
+        let tokens = weight(arc);
         if (before >> 16) as u16 != t as u16 {
             link(lowering.add(d));
+            heads.taken = tokens;
+        } else if d == 0 {
+            heads.taken += tokens;
         } else {
             // Both ways: only the difference counts.
-            let taken = weight(get64(at.add(8 * usize::from(*lowering) - 8)));
-            if weight(arc) >= taken {
+            let taken = heads.taken;
+            heads.taken = taken.wrapping_sub(tokens);
+            if tokens >= taken {
                 *lowering = before as u16;
             }
-            if weight(arc) > taken {
+            if tokens > taken {
                 link(lowering.add(1));
             }
         }
@@ -96,8 +112,8 @@ unsafe fn rows_of(at: *const u8, count: usize, room: u64, rows: Rows) -> u32 {
 unsafe fn keep<const SAFETY: bool>(h: &Header, rows: Rows, q: &[u16], kept: Kept) {
     let (arcs_at, arcs) = (h.arcs_at, h.arcs);
     let mut count = 0;
-    let follow = |head: *const u16, mut count: usize| {
-        let mut j = usize::from(*head);
+    let follow = |head: u16, mut count: usize| {
+        let mut j = usize::from(head);
         while j != 0 {
             let link = *rows.links.add(j);
             j = (link & 0xFFFF) as usize;
@@ -129,16 +145,18 @@ unsafe fn keep<const SAFETY: bool>(h: &Header, rows: Rows, q: &[u16], kept: Kept
     }
     for &p in q {
         // In the safety cut what raises a place of Q changes it too, so Q need not be pending.
-        count = follow(rows.heads.add(2 * usize::from(p)), count);
-        count = follow(rows.heads.add(2 * usize::from(p) + 1), count);
+        let [lowering, raising] = (*rows.heads.add(usize::from(p))).arcs;
+        count = follow(lowering, count);
+        count = follow(raising, count);
     }
     while count > 0 {
         count -= 1;
         let p = usize::from(*kept.pending.add(count));
+        let [lowering, raising] = (*rows.heads.add(p)).arcs;
         if !SAFETY {
-            count = follow(rows.heads.add(2 * p), count);
+            count = follow(lowering, count);
         }
-        count = follow(rows.heads.add(2 * p + 1), count);
+        count = follow(raising, count);
     }
 }
 

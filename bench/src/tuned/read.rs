@@ -108,7 +108,7 @@ pub unsafe fn each_arc(at: *const u8, count: usize, room: u64, mut see: impl FnM
             return 6;
         }
         let key = (arc & 0xFFFF_FFFF_FFFF).wrapping_mul(GATHER) as i64;
-        if key <= before {
+        if key < before {
             return 7;
         }
         before = key;

@@ -72,13 +72,17 @@ unsafe fn moves_of(at: *const u8, count: usize, room: u64, table: *mut u16, move
     })
 }
 
-/// The first of the moves that takes more than there is; there is one.
+/// The place of the first of the moves that, with those before it at the same place, takes more than there is; there is
+/// one.
 #[cold]
 unsafe fn lowest_short(moves: *const i32, count: usize, tokens: *const i64) -> u32 {
+    let (mut last, mut sum) = (usize::MAX, 0);
     for j in 0..count {
         let m = *moves.add(j);
         let p = (m & 1023) as usize;
-        if *tokens.add(p) + i64::from(m >> 10) < 0 {
+        sum = if p == last { sum } else { 0 } + i64::from(m >> 10);
+        last = p;
+        if *tokens.add(p) + sum < 0 {
             return p as u32;
         }
     }

@@ -30,15 +30,17 @@ pub unsafe fn first(h: &Header, transition: u64, direction: u64, place: u64) -> 
     low
 }
 
-/// The weight of the arc between the two in a direction, or 0 without one.
+/// The sum of the weights of the arcs between the two in a direction.
 #[inline(always)]
 pub unsafe fn weight_of(h: &Header, transition: u64, direction: u64, place: u64) -> i32 {
-    let at = first(h, transition, direction, place);
-    if at < h.arcs {
-        let arc = h.arc(at);
-        if arc & 0xFFFF_FFFF_FFFF == transition | direction << 16 | place << 32 {
-            return weight(arc) as i32;
+    let joining = transition | direction << 16 | place << 32;
+    let mut sum = 0;
+    for j in first(h, transition, direction, place)..h.arcs {
+        let arc = h.arc(j);
+        if arc & 0xFFFF_FFFF_FFFF != joining {
+            break;
         }
+        sum += weight(arc) as i32;
     }
-    0
+    sum
 }

@@ -29,8 +29,8 @@ unsafe fn good(at: *const u8, blocks: usize, room: u64) -> bool {
     // Transition, direction and place as one number of 21 bits.
     let steps = _mm_set_epi16(0, 1, 1_024, 2_048, 0, 1, 1_024, 2_048);
     let mut wrong = _mm_setzero_si128();
-    let mut rising = _mm_set1_epi32(-1);
-    let mut before = _mm_set_epi32(0, 0, 0, -1);
+    let mut falling = _mm_setzero_si128();
+    let mut before = _mm_setzero_si128();
     for i in 0..blocks {
         let v = _mm_loadu_si128(at.add(32 * i).cast());
         let w = _mm_loadu_si128(at.add(32 * i + 16).cast());
@@ -41,9 +41,9 @@ unsafe fn good(at: *const u8, blocks: usize, room: u64) -> bool {
         let even = _mm_castps_si128(_mm_shuffle_ps::<0b10_00_10_00>(a, b));
         let odd = _mm_castps_si128(_mm_shuffle_ps::<0b11_01_11_01>(a, b));
         let keys = _mm_add_epi32(even, odd);
-        rising = _mm_and_si128(rising, _mm_cmpgt_epi32(keys, _mm_or_si128(_mm_slli_si128::<4>(keys), before)));
+        falling = _mm_or_si128(falling, _mm_cmpgt_epi32(_mm_or_si128(_mm_slli_si128::<4>(keys), before), keys));
         before = _mm_srli_si128::<12>(keys);
     }
-    let none = _mm_cmpeq_epi16(wrong, _mm_setzero_si128());
-    _mm_movemask_epi8(_mm_and_si128(none, rising)) == 0xFFFF
+    let none = _mm_cmpeq_epi16(_mm_or_si128(wrong, falling), _mm_setzero_si128());
+    _mm_movemask_epi8(none) == 0xFFFF
 }
