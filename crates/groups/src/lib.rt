@@ -5,6 +5,7 @@ ghost use Prim.Native.Nat.{ℕ, _-_, _*_, _/_, _%_, _≤_};
 ghost use lib.Dec.{eqb};
 ghost use Rattle.groups.specs.Groups.{GroupEnd, Stands, runWeight};
 use file::arcs::word;
+use file::word::get16;
 
 // Do two arcs, each as one number, join the same two in one direction?
 fn parallel(v: usize, w: usize) -> bool
@@ -19,8 +20,8 @@ pub struct Grouped {
     pub weight: usize,
 }
 
-// The group that starts with arc j, of the arcs up to arc `to`.
-pub fn group(file: &[u8], start: usize, j: usize, to: usize) -> Grouped
+// The group that starts with arc j, of the arcs up to arc `to`, arc by arc.
+fn several(file: &[u8], start: usize, j: usize, to: usize) -> Grouped
     requires { ⌜ Stands (now file) start j to ⌝ }
     ensures { λ r. ⌜ GroupEnd (now (file .entry)) start j to (r .end) × (r .weight ≡ runWeight (now (file .entry)) start j (r .end - j)) × (r .weight ≤ 65535 * (r .end - j)) ⌝ }
 {
@@ -41,5 +42,22 @@ pub fn group(file: &[u8], start: usize, j: usize, to: usize) -> Grouped
     Grouped {
         end: e,
         weight: sum,
+    }
+}
+
+// The same. Mostly the next arc is at another place, and arc j is alone.
+pub fn group(file: &[u8], start: usize, j: usize, to: usize) -> Grouped
+    requires { ⌜ Stands (now file) start j to ⌝ }
+    ensures { λ r. ⌜ GroupEnd (now (file .entry)) start j to (r .end) × (r .weight ≡ runWeight (now (file .entry)) start j (r .end - j)) × (r .weight ≤ 65535 * (r .end - j)) ⌝ }
+{
+    let at = start + 8 * j;
+    if j + 1 < to {
+        if get16(file, at + 12) == get16(file, at + 4) {
+            return several(file, start, j, to);
+        }
+    }
+    Grouped {
+        end: j + 1,
+        weight: get16(file, at + 6),
     }
 }
