@@ -97,6 +97,23 @@ module _ (s : List ℕ) (h : Header) (sound : Sound s h) (j from : ℕ) (l : j <
           let c : i < j = omega (arith, row .within) in
           starts (omega arith) (omega (arith, y .transition, Weights.rises s h sound k i (omega arith) (omega arith), Weights.rises s h sound i j (omega arith) l))
 
+  -- no row starts with a later transition
+  most : (g p : ℕ) → g ≤ 1 → p < h .places → getD head (2 * p + g) 0 / 65536 ≤ from + 1
+  most g p a b = go (ℕ-discrete (getD head (2 * p + g) 0 % 65536) 0)
+    where
+      row : Ends s h (Weights.told s h j g p) j g p (getD head (2 * p + g) 0)
+      row = x .heads g p a b
+
+      by-start : (first : ℕ) → Split s (h .arcstart) (h .arcs) (2 * transitionAt s (h .arcstart) (arcIn (getD head (2 * p + g) 0))) first → arcIn (getD head (2 * p + g) 0) ≤ j → Dec (from < first) → first ≤ from
+      by-start first y c (no q) = omega arith
+      by-start first y c (yes q) = absurd (omega (arith, y .below from q, split .above from (omega arith) (omega (arith, y .within)), Weights.rises s h sound _ j c l))
+
+      go : Dec (getD head (2 * p + g) 0 % 65536 ≡ 0) → getD head (2 * p + g) 0 / 65536 ≤ from + 1
+      go (yes z) = omega (arith, row .ends z)
+      go (no z) =
+          let is : getD head (2 * p + g) 0 % 65536 ≡ suc (arcIn (getD head (2 * p + g) 0)) = omega arith in
+          omega (arith, by-start _ (row .first _ is) (omega (arith, row .within)) (decLt _ _))
+
   -- ---- a parallel arc is linked
 
   module _ (again : getD head (2 * placeAt s (h .arcstart) j + directionAt s (h .arcstart) j) 0 / 65536 ≡ from + 1) where
@@ -567,12 +584,15 @@ module _ (s : List ℕ) (h : Header) (sound : Sound s h) (before after head next
       let p = good-at s h sound j l .place in
       let z : 2 * placeAt s (h .arcstart) j + 0 ≡ 2 * placeAt s (h .arcstart) j = omega arith in
       let first = subst (λ (k : ℕ). Ends s h (Weights.told s h j 0 (placeAt s (h .arcstart) j)) j 0 (placeAt s (h .arcstart) j) (getD head k 0)) z (x .rows .heads 0 (placeAt s (h .arcstart) j) (omega arith) p) in
+      let most′ : (d : ℕ) → d ≤ 1 → getD head (2 * placeAt s (h .arcstart) j + d) 0 / 65536 ≤ from′ + 1 = λ d a. most s h sound j from′ l (rw f start-is) head next (x .rows) d (placeAt s (h .arcstart) j) a p in
       record {
         stands = record { some = l; few = sound .placed .arcs; fit = omega (arith, sound .placed .arcsFit, sound .placed .originsFit); short = sound .placed .short };
         begun = omega (arith, sound .placed .arcs, f, start-is .within);
         head-long = omega (arith, x .head-long);
         next-long = omega (arith, x .next-long);
         within = first .within;
+        own-most = most′;
+        begun-most = subst (λ (k : ℕ). getD head k 0 / 65536 ≤ from′ + 1) z (most′ 0 (omega arith));
         some = λ q. some (getD head (2 * placeAt s (h .arcstart) j) 0) from′ (first .ends) q;
       }
 

@@ -30,11 +30,13 @@ pub record Linked (s : List ℕ) (start arcs j from p d : ℕ) (head next head�
   pub back : (getD head (2 * p + d) 0 / 65536 ≡ from + 1 → ⊥) → getD head (2 * p) 0 / 65536 ≡ from + 1 → Returned s start arcs j from p (arcIn (getD head (2 * p) 0)) head next head′ next′ r
   pub new : (getD head (2 * p + d) 0 / 65536 ≡ from + 1 → ⊥) → (getD head (2 * p) 0 / 65536 ≡ from + 1 → ⊥) → Fronted (2 * p + d) j from head next head′ next′ × (r ≡ j + 1)
 
--- the arcs stand in the file, and there is room for arc j; the row of arcs that take from p starts with an arc up to it
+-- the arcs stand in the file, and there is room for arc j; the rows of p start with arcs up to it, of transitions up to its own
 pub record Room (s : List ℕ) (start arcs j from p : ℕ) (head next : List ℕ) : Type 0 where
   pub stands : Stands s start j arcs
   pub begun : from ≤ 4096
   pub head-long : 2 * p + 1 < length head
   pub next-long : j < length next
   pub within : getD head (2 * p) 0 % 65536 ≤ j
+  pub own-most : (d : ℕ) → d ≤ 1 → getD head (2 * p + d) 0 / 65536 ≤ from + 1
+  pub begun-most : getD head (2 * p) 0 / 65536 ≤ from + 1
   pub some : getD head (2 * p) 0 / 65536 ≡ from + 1 → 0 < getD head (2 * p) 0 % 65536

@@ -62,7 +62,7 @@ fn link_back(
     given.end
 }
 
-// Links arc j, which is at the place p, unless a parallel one is linked. Answers the arc that is next.
+// Links arc j, which is at the place p, unless a parallel one is linked. Answers the arc that is next. Entries of its transition are those from `least` on.
 fn link(
     file: &[u8],
     start: usize,
@@ -77,12 +77,13 @@ fn link(
     requires { ⌜ Room (now file) start arcs j from p (now head) (now next) × (direction ≤ 1) ⌝ }
     ensures { λ r. ⌜ Linked (now (file .entry)) start arcs j from p direction (now (head .entry)) (now (next .entry)) (now (head .exit)) (now (next .exit)) r ⌝ }
 {
-    let own = (head[2 * p + direction] / 65536) as usize;
-    if own == from + 1 {
+    let least = 65536 * (from + 1);
+    let own = head[2 * p + direction] as usize;
+    if least <= own {
         return j + 1;
     }
-    let begun = (head[2 * p] / 65536) as usize;
-    if begun == from + 1 {
+    let begun = head[2 * p] as usize;
+    if least <= begun {
         return link_back(file, start, arcs, j, from, p, head, next);
     }
     link_arc(2 * p + direction, j, from, head, next);
