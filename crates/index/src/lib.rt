@@ -8,6 +8,8 @@ ghost use Rattle.starts.specs.Table.{choose};
 ghost use Rattle.rows.specs.Rows.{Rows, entryOf};
 ghost use Rattle.index.specs.Steps.{arcIn, Fronted, Returned, Linked, Room};
 use file::Header;
+use file::word::get16;
+use groups::alone;
 use groups::group;
 
 // The start of the arcs of transition t: j where t is a new one.
@@ -35,7 +37,7 @@ fn link_arc(row: usize, j: usize, from: usize, head: &mut [u32], next: &mut [u32
 }
 
 // The group of arc j gives back to the place p, from which its transition takes: only the difference counts. Answers the arc after the group.
-fn link_back(
+fn link_groups(
     file: &[u8],
     start: usize,
     arcs: usize,
@@ -60,6 +62,40 @@ fn link_back(
     }
     link_arc(2 * p + 1, j, from, head, next);
     given.end
+}
+
+// The same; mostly both groups have one arc.
+fn link_back(
+    file: &[u8],
+    start: usize,
+    arcs: usize,
+    j: usize,
+    from: usize,
+    p: usize,
+    head: &mut [u32],
+    next: &mut [u32],
+) -> usize
+    requires { ⌜ Room (now file) start arcs j from p (now head) (now next) × (0 < getD (now head) (2 * p) 0 % 65536) ⌝ }
+    ensures { λ r. ⌜ Returned (now (file .entry)) start arcs j from p (arcIn (getD (now (head .entry)) (2 * p) 0)) (now (head .entry)) (now (next .entry)) (now (head .exit)) (now (next .exit)) r ⌝ }
+{
+    let i = (head[2 * p] % 65536 - 1) as usize;
+    if !alone(file, start, i, j) {
+        return link_groups(file, start, arcs, j, from, p, head, next);
+    }
+    if !alone(file, start, j, arcs) {
+        return link_groups(file, start, arcs, j, from, p, head, next);
+    }
+    let taken = get16(file, start + 8 * i + 6);
+    let given = get16(file, start + 8 * j + 6);
+    if given < taken {
+        return j + 1;
+    }
+    head[2 * p] = next[i];
+    if taken == given {
+        return j + 1;
+    }
+    link_arc(2 * p + 1, j, from, head, next);
+    j + 1
 }
 
 // Links arc j, which is at the place p, unless a parallel one is linked. Answers the arc that is next. Entries of its transition are those from `least` on.

@@ -1,7 +1,12 @@
 use borrow.Author.Needs.{needs}
-use mathlib.Core.Path.{refl, sym, ap, _∙_}
+use borrow.Author.Tests.{not-false}
+use Prim.Native.Nat.{_+_, _-_, _*_}
+use mathlib.Core.Path.{_≡_, refl, sym, ap, _∙_}
 use native.Mathlib.Omega.{arith}
-use lib.ListN.{length, length-set}
+use lib.ListN.{length, length-set, getD}
+use Rattle.groups.specs.Groups.{GroupEnd, runWeight}
+use Rattle.groups.proofs.Groups.{run-one}
+use Rattle.index.specs.Steps.{arcIn}
 use Rattle.index.proofs.link_back.Statement.{statement}
 use Rattle.index.proofs.link_back.Tie as tie
 
@@ -20,25 +25,90 @@ sub-i c = search needs
 cast-i : tie.Need-cast-i
 cast-i c = search needs
 
-group-requires : tie.Need-group-requires
-group-requires c κs =
+alone-requires : tie.Need-alone-requires
+alone-requires c κs =
     let x = c .before .before .before .before .pre .0 in
     record { some = omega (arith, x .within, c .before .before .before .before .pre .1); few = omega (arith, x .stands .some, x .stands .few); fit = omega (arith, x .stands .some, x .stands .fit); short = x .stands .short }
 
-group-requires-2 : tie.Need-group-requires-2
-group-requires-2 c κs = c .before .before .before .before .before .pre .0 .stands
+link-groups-requires : tie.Need-link-groups-requires
+link-groups-requires c κs = c .before .before .before .before .before .before .before .before .pre
+
+same-length : tie.Need-same-length
+same-length c = search needs
+
+same-length-2 : tie.Need-same-length-2
+same-length-2 c = search needs
 
 returns : tie.Need-returns
-returns c =
-    let taken = c .before .before .before .before .group in
-    let given = c .before .before .before .group2 in
+returns c = c .before .before .before .before .link-groups .ensures
+
+alone-requires-2 : tie.Need-alone-requires-2
+alone-requires-2 c κs = c .before .before .before .before .before .before .pre .0 .stands
+
+link-groups-requires-2 : tie.Need-link-groups-requires-2
+link-groups-requires-2 c κs = let first = c .before .before .before .before in first .before .before .before .before .before .before .pre
+
+same-length-3 : tie.Need-same-length-3
+same-length-3 c = search needs
+
+same-length-4 : tie.Need-same-length-4
+same-length-4 c = search needs
+
+returns-2 : tie.Need-returns-2
+returns-2 c = c .before .before .before .before .link-groups2 .ensures
+
+mul-get16 : tie.Need-mul-get16
+mul-get16 c = search needs
+
+add-get16 : tie.Need-add-get16
+add-get16 c = search needs
+
+add-get16-2 : tie.Need-add-get16-2
+add-get16-2 c = search needs
+
+get16-requires : tie.Need-get16-requires
+get16-requires c κs = let start = c .before .before .before .before .before .before .before .before in let x = start .pre .0 in omega (arith, x .within, start .pre .1, x .stands .some, x .stands .fit)
+
+mul-get16-2 : tie.Need-mul-get16-2
+mul-get16-2 c = search needs
+
+add-get16-3 : tie.Need-add-get16-3
+add-get16-3 c = search needs
+
+add-get16-4 : tie.Need-add-get16-4
+add-get16-4 c = search needs
+
+get16-requires-2 : tie.Need-get16-requires-2
+get16-requires-2 c κs = let both = c .before in let x = both .before .before .before .before .before .before .before .before .pre .0 in omega (arith, x .stands .some, x .stands .fit)
+
+-- both groups have one arc
+ones : (c : tie.After-get162) → let first = c .before .before .before .before in
+    let a = first .before .before .before .before .before .before .args in
+    let s = a .file .now in
+    let i = arcIn (getD (a .head .now) (2 * a .p) 0) in
+    GroupEnd s (a .start) i (a .j) (i + 1) × GroupEnd s (a .start) (a .j) (a .arcs) (a .j + 1) × (c .before .get16 .result ≡ runWeight s (a .start) i (i + 1 - i)) × (c .get162 .result ≡ runWeight s (a .start) (a .j) (a .j + 1 - a .j))
+ones c =
+    let both = c .before .before in
+    let first = both .before .before in (
+      first .before .alone .ensures (not-false _ (first .if1 .left)),
+      both .before .alone2 .ensures (not-false _ (both .if2 .left)),
+      c .before .get16 .ensures .0 ∙ sym (run-one _ _ _),
+      c .get162 .ensures .0 ∙ sym (run-one _ _ _),
+    )
+
+add-result : tie.Need-add-result
+add-result c = search needs
+
+returns-3 : tie.Need-returns-3
+returns-3 c =
+    let x = ones (c .before) in
     record {
-      own = given .ensures .0;
-      until = taken .result .end;
-      group = taken .ensures .0;
+      own = x .1;
+      until = _;
+      group = x .0;
       less = λ l. (refl, refl);
-      level = λ e. absurd (omega (arith, e, c .if1 .taken, taken .ensures .1, given .ensures .1));
-      more = λ l. absurd (omega (arith, l, c .if1 .taken, taken .ensures .1, given .ensures .1));
+      level = λ e. absurd (omega (arith, e, c .if3 .taken, x .2, x .3));
+      more = λ l. absurd (omega (arith, l, c .if3 .taken, x .2, x .3));
     }
 
 mul-head : tie.Need-mul-head
@@ -56,20 +126,22 @@ mul-head-3 c = search needs
 slice-write-head : tie.Need-slice-write-head
 slice-write-head c = search needs
 
-same-length : tie.Need-same-length
-same-length c = search needs
+add-result-2 : tie.Need-add-result-2
+add-result-2 c = search needs
 
-returns-2 : tie.Need-returns-2
-returns-2 c =
-    let taken = c .before .before .before .before .before .before .before .before .group in
-    let given = c .before .before .before .before .before .before .before .group2 in
+same-length-5 : tie.Need-same-length-5
+same-length-5 c = search needs
+
+returns-4 : tie.Need-returns-4
+returns-4 c =
+    let x = ones (c .before .before .before) in
     record {
-      own = given .ensures .0;
-      until = taken .result .end;
-      group = taken .ensures .0;
-      less = λ l. absurd (omega (arith, l, c .if2 .taken, taken .ensures .1, given .ensures .1));
+      own = x .1;
+      until = _;
+      group = x .0;
+      less = λ l. absurd (omega (arith, l, c .if4 .taken, x .2, x .3));
       level = λ e. (refl, refl);
-      more = λ l. absurd (omega (arith, l, c .if2 .taken, taken .ensures .1, given .ensures .1));
+      more = λ l. absurd (omega (arith, l, c .if4 .taken, x .2, x .3));
     }
 
 mul-link-arc : tie.Need-mul-link-arc
@@ -79,24 +151,31 @@ add-link-arc : tie.Need-add-link-arc
 add-link-arc c = search needs
 
 link-arc-requires : tie.Need-link-arc-requires
-link-arc-requires c κs = let x = c .before .before .before .before .before .before .before .before .before .before .before .before .before .before .before .pre .0 in (omega (arith, x .stands .few, x .stands .some), search needs, search needs, search needs)
+link-arc-requires c κs =
+    let asked = c .before .before .before .before .before in
+    let first = asked .before .before .before .before in
+    let x = first .before .before .before .before .before .before .pre .0 in
+    (omega (arith, x .stands .few, x .stands .some), search needs, search needs, search needs)
 
-same-length-2 : tie.Need-same-length-2
-same-length-2 c = ap length (c .before .before .before .before .link-arc .ensures .head-is) ∙ simp length-set
+add-result-3 : tie.Need-add-result-3
+add-result-3 c = search needs
 
-same-length-3 : tie.Need-same-length-3
-same-length-3 c = search needs
+same-length-6 : tie.Need-same-length-6
+same-length-6 c = ap length (c .before .before .before .before .link-arc .ensures .head-is) ∙ simp length-set
 
-returns-3 : tie.Need-returns-3
-returns-3 c =
-    let taken = c .before .before .before .before .before .before .before .before .before .before .before .before .before .before .before .group in
-    let given = c .before .before .before .before .before .before .before .before .before .before .before .before .before .before .group2 in
+same-length-7 : tie.Need-same-length-7
+same-length-7 c = search needs
+
+returns-5 : tie.Need-returns-5
+returns-5 c =
+    let unlike = c .before .before .before .before .before .before .before in
+    let x = ones (unlike .before .before .before) in
     record {
-      own = given .ensures .0;
-      until = taken .result .end;
-      group = taken .ensures .0;
-      less = λ l. absurd (omega (arith, l, c .before .before .before .before .before .before .before .before .before .before .before .if1 .left, taken .ensures .1, given .ensures .1));
-      level = λ e. absurd (c .before .before .before .before .before .before .before .if2 .left (taken .ensures .1 ∙ e ∙ sym (given .ensures .1)));
+      own = x .1;
+      until = _;
+      group = x .0;
+      less = λ l. absurd (omega (arith, l, unlike .before .before .if3 .left, x .2, x .3));
+      level = λ e. absurd (unlike .if4 .left (x .2 ∙ e ∙ sym (x .3)));
       more = λ l. c .before .before .before .before .link-arc .ensures;
     }
 
@@ -109,19 +188,38 @@ link-back-spec =
     slice-read-i
     sub-i
     cast-i
-    group-requires
-    group-requires-2
+    alone-requires
+    link-groups-requires
+    same-length
+    same-length-2
     returns
+    alone-requires-2
+    link-groups-requires-2
+    same-length-3
+    same-length-4
+    returns-2
+    mul-get16
+    add-get16
+    add-get16-2
+    get16-requires
+    mul-get16-2
+    add-get16-3
+    add-get16-4
+    get16-requires-2
+    add-result
+    returns-3
     mul-head
     slice-read-head
     mul-head-2
     mul-head-3
     slice-write-head
-    same-length
-    returns-2
+    add-result-2
+    same-length-5
+    returns-4
     mul-link-arc
     add-link-arc
     link-arc-requires
-    same-length-2
-    same-length-3
-    returns-3)
+    add-result-3
+    same-length-6
+    same-length-7
+    returns-5)
