@@ -587,6 +587,7 @@ module _ (s : List ℕ) (h : Header) (sound : Sound s h) (before after head next
       let most′ : (d : ℕ) → d ≤ 1 → getD head (2 * placeAt s (h .arcstart) j + d) 0 / 65536 ≤ from′ + 1 = λ d a. most s h sound j from′ l (rw f start-is) head next (x .rows) d (placeAt s (h .arcstart) j) a p in
       record {
         stands = record { some = l; few = sound .placed .arcs; fit = omega (arith, sound .placed .arcsFit, sound .placed .originsFit); short = sound .placed .short };
+        behind = omega (arith, sound .placed .arcsFit, sound .placed .originsFit);
         begun = omega (arith, sound .placed .arcs, f, start-is .within);
         head-long = omega (arith, x .head-long);
         next-long = omega (arith, x .next-long);

@@ -33,6 +33,7 @@ pub record Linked (s : List ℕ) (start arcs j from p d : ℕ) (head next head�
 -- the arcs stand in the file, and there is room for arc j; the rows of p start with arcs up to it, of transitions up to its own
 pub record Room (s : List ℕ) (start arcs j from p : ℕ) (head next : List ℕ) : Type 0 where
   pub stands : Stands s start j arcs
+  pub behind : start + 8 * arcs + 8 ≤ length s
   pub begun : from ≤ 4096
   pub head-long : 2 * p + 1 < length head
   pub next-long : j < length next

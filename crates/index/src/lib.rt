@@ -64,7 +64,7 @@ fn link_groups(
     given.end
 }
 
-// The same; mostly both groups have one arc.
+// The same; mostly both groups have one arc. Behind the last arc there are bytes too: what they are does not matter.
 fn link_back(
     file: &[u8],
     start: usize,
@@ -82,7 +82,7 @@ fn link_back(
     if !alone(file, start, i, j) {
         return link_groups(file, start, arcs, j, from, p, head, next);
     }
-    if !alone(file, start, j, arcs) {
+    if get16(file, start + 8 * j + 12) == get16(file, start + 8 * j + 4) {
         return link_groups(file, start, arcs, j, from, p, head, next);
     }
     let taken = get16(file, start + 8 * i + 6);

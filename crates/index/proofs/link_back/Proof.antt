@@ -4,8 +4,9 @@ use Prim.Native.Nat.{_+_, _-_, _*_}
 use mathlib.Core.Path.{_≡_, refl, sym, ap, _∙_}
 use native.Mathlib.Omega.{arith}
 use lib.ListN.{length, length-set, getD}
+use Rattle.file.specs.Word.{le16}
 use Rattle.groups.specs.Groups.{GroupEnd, runWeight}
-use Rattle.groups.proofs.Groups.{run-one}
+use Rattle.groups.proofs.Groups.{only-one, run-one}
 use Rattle.index.specs.Steps.{arcIn}
 use Rattle.index.proofs.link_back.Statement.{statement}
 use Rattle.index.proofs.link_back.Tie as tie
@@ -42,21 +43,6 @@ same-length-2 c = search needs
 returns : tie.Need-returns
 returns c = c .before .before .before .before .link-groups .ensures
 
-alone-requires-2 : tie.Need-alone-requires-2
-alone-requires-2 c κs = c .before .before .before .before .before .before .pre .0 .stands
-
-link-groups-requires-2 : tie.Need-link-groups-requires-2
-link-groups-requires-2 c κs = let first = c .before .before .before .before in first .before .before .before .before .before .before .pre
-
-same-length-3 : tie.Need-same-length-3
-same-length-3 c = search needs
-
-same-length-4 : tie.Need-same-length-4
-same-length-4 c = search needs
-
-returns-2 : tie.Need-returns-2
-returns-2 c = c .before .before .before .before .link-groups2 .ensures
-
 mul-get16 : tie.Need-mul-get16
 mul-get16 c = search needs
 
@@ -67,7 +53,7 @@ add-get16-2 : tie.Need-add-get16-2
 add-get16-2 c = search needs
 
 get16-requires : tie.Need-get16-requires
-get16-requires c κs = let start = c .before .before .before .before .before .before .before .before in let x = start .pre .0 in omega (arith, x .within, start .pre .1, x .stands .some, x .stands .fit)
+get16-requires c κs = let x = c .before .before .before .before .before .before .pre .0 in omega (arith, x .stands .some, x .behind)
 
 mul-get16-2 : tie.Need-mul-get16-2
 mul-get16-2 c = search needs
@@ -79,21 +65,63 @@ add-get16-4 : tie.Need-add-get16-4
 add-get16-4 c = search needs
 
 get16-requires-2 : tie.Need-get16-requires-2
-get16-requires-2 c κs = let both = c .before in let x = both .before .before .before .before .before .before .before .before .pre .0 in omega (arith, x .stands .some, x .stands .fit)
+get16-requires-2 c κs = let first = c .before in let x = first .before .before .before .before .before .before .pre .0 in omega (arith, x .stands .some, x .stands .fit)
+
+link-groups-requires-2 : tie.Need-link-groups-requires-2
+link-groups-requires-2 c κs = let first = c .before .before .before .before .before in first .before .before .before .before .before .before .pre
+
+same-length-3 : tie.Need-same-length-3
+same-length-3 c = search needs
+
+same-length-4 : tie.Need-same-length-4
+same-length-4 c = search needs
+
+returns-2 : tie.Need-returns-2
+returns-2 c = c .before .before .before .before .link-groups2 .ensures
+
+mul-get16-3 : tie.Need-mul-get16-3
+mul-get16-3 c = search needs
+
+add-get16-5 : tie.Need-add-get16-5
+add-get16-5 c = search needs
+
+add-get16-6 : tie.Need-add-get16-6
+add-get16-6 c = search needs
+
+get16-requires-3 : tie.Need-get16-requires-3
+get16-requires-3 c κs = let first = c .before .before .before in let start = first .before .before .before .before .before .before in let x = start .pre .0 in omega (arith, x .within, start .pre .1, x .stands .some, x .stands .fit)
+
+mul-get16-4 : tie.Need-mul-get16-4
+mul-get16-4 c = search needs
+
+add-get16-7 : tie.Need-add-get16-7
+add-get16-7 c = search needs
+
+add-get16-8 : tie.Need-add-get16-8
+add-get16-8 c = search needs
+
+get16-requires-4 : tie.Need-get16-requires-4
+get16-requires-4 c κs = let first = c .before .before .before .before in let x = first .before .before .before .before .before .before .pre .0 in omega (arith, x .stands .some, x .stands .fit)
 
 -- both groups have one arc
-ones : (c : tie.After-get162) → let first = c .before .before .before .before in
+ones : (c : tie.After-get164) → let first = c .before .before .before .before .before in
     let a = first .before .before .before .before .before .before .args in
     let s = a .file .now in
     let i = arcIn (getD (a .head .now) (2 * a .p) 0) in
-    GroupEnd s (a .start) i (a .j) (i + 1) × GroupEnd s (a .start) (a .j) (a .arcs) (a .j + 1) × (c .before .get16 .result ≡ runWeight s (a .start) i (i + 1 - i)) × (c .get162 .result ≡ runWeight s (a .start) (a .j) (a .j + 1 - a .j))
+    GroupEnd s (a .start) i (a .j) (i + 1) × GroupEnd s (a .start) (a .j) (a .arcs) (a .j + 1) × (c .before .get163 .result ≡ runWeight s (a .start) i (i + 1 - i)) × (c .get164 .result ≡ runWeight s (a .start) (a .j) (a .j + 1 - a .j))
 ones c =
     let both = c .before .before in
-    let first = both .before .before in (
+    let first = both .before .before .before in
+    let x = first .before .before .before .before .before .before .pre .0 in (
       first .before .alone .ensures (not-false _ (first .if1 .left)),
-      both .before .alone2 .ensures (not-false _ (both .if2 .left)),
-      c .before .get16 .ensures .0 ∙ sym (run-one _ _ _),
-      c .get162 .ensures .0 ∙ sym (run-one _ _ _),
+      record {
+        after = omega arith;
+        within = omega (arith, x .stands .some);
+        same = only-one _ _ _;
+        other = λ l y. both .if2 .left (both .before .before .get16 .ensures .0 ∙ ap (le16 _) (omega arith) ∙ y .place ∙ sym (both .before .get162 .ensures .0));
+      },
+      c .before .get163 .ensures .0 ∙ sym (run-one _ _ _),
+      c .get164 .ensures .0 ∙ sym (run-one _ _ _),
     )
 
 add-result : tie.Need-add-result
@@ -153,7 +181,7 @@ add-link-arc c = search needs
 link-arc-requires : tie.Need-link-arc-requires
 link-arc-requires c κs =
     let asked = c .before .before .before .before .before in
-    let first = asked .before .before .before .before in
+    let first = asked .before .before .before .before .before in
     let x = first .before .before .before .before .before .before .pre .0 in
     (omega (arith, x .stands .few, x .stands .some), search needs, search needs, search needs)
 
@@ -193,11 +221,6 @@ link-back-spec =
     same-length
     same-length-2
     returns
-    alone-requires-2
-    link-groups-requires-2
-    same-length-3
-    same-length-4
-    returns-2
     mul-get16
     add-get16
     add-get16-2
@@ -206,6 +229,18 @@ link-back-spec =
     add-get16-3
     add-get16-4
     get16-requires-2
+    link-groups-requires-2
+    same-length-3
+    same-length-4
+    returns-2
+    mul-get16-3
+    add-get16-5
+    add-get16-6
+    get16-requires-3
+    mul-get16-4
+    add-get16-7
+    add-get16-8
+    get16-requires-4
     add-result
     returns-3
     mul-head
