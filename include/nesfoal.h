@@ -80,16 +80,16 @@ uint32_t nesfoal_effect(const uint8_t *file, size_t file_length,
 
 /* Fires a list of transitions of a plan or a slice, one after the other, from the initial marking.
  *
- * Returns 0 where all fired; 100 where one is not enabled, with its index (from 0) in *index and the lowest-numbered
- * place that is short in *place; or a refusal: 1 to 8, 11, 12, and 13 where marking has fewer entries than the net has
- * places. *index and *place are 0 but where the answer is 100.
+ * Returns 0 where all fired; 100 where one is not enabled, with its index (from 0) in *index, the lowest-numbered
+ * place that is short in *place and the tokens missing there, at least 1, in *amount; or a refusal: 1 to 8, 11, 12, and
+ * 13 where marking has fewer entries than the net has places. *index, *place and *amount are 0 but where the answer is 100.
  * The first entries of marking, one for each place, become the marking after all firings, or the one before the firing
  * that sticks; later entries keep their values. Every entry of such a marking is below 2 to the power 45.
  */
 uint32_t nesfoal_replay(const uint8_t *file, size_t file_length,
                         const uint16_t *list, size_t list_count,
                         uint64_t *marking, size_t marking_count,
-                        uint32_t *index, uint32_t *place);
+                        uint32_t *index, uint32_t *place, uint32_t *amount);
 
 /* The safety cut of a plan for a criterion (places of the plan, strictly rising): the smallest slice that nesfoal_check
  * accepts for them, written as a slice file without note.

@@ -24,6 +24,7 @@ extern "C" {
         marking_len: usize,
         index: *mut u32,
         place: *mut u32,
+        amount: *mut u32,
     ) -> u32;
     pub fn nesfoal_safety(
         plan: *const u8,

@@ -46,11 +46,13 @@ fn arcs(c: &ArcsCase) -> Answer {
 
 fn replay(c: &ReplayCase) -> Answer {
     let (file, list, mut lent) = (&c.file, &c.list, c.marking.clone());
-    let (mut index, mut place) = (UNSET, UNSET);
+    let (mut index, mut place, mut amount) = (UNSET, UNSET, UNSET);
     let (to, room) = (lent.pointer_mut(), lent.len);
-    let number =
-        unsafe { tuned::replay(file.pointer(), file.len, list.pointer(), list.len, to, room, &mut index, &mut place) };
-    Answer::new(number, [i64::from(index), i64::from(place), 0], Cells::Longs(lent.cells))
+    let (from, firings) = (list.pointer(), list.len);
+    let number = unsafe {
+        tuned::replay(file.pointer(), file.len, from, firings, to, room, &mut index, &mut place, &mut amount)
+    };
+    Answer::new(number, [i64::from(index), i64::from(place), i64::from(amount)], Cells::Longs(lent.cells))
 }
 
 fn cut_answer(c: &CutCase) -> Answer {

@@ -5,7 +5,7 @@ use crate::tuned;
 
 type Effect = unsafe extern "C" fn(*const u8, usize, u16, u16, *mut i32) -> u32;
 type Arcs = unsafe extern "C" fn(*const u8, usize, *const u8, usize, bool, u16, *mut u32) -> u32;
-type Replay = unsafe extern "C" fn(*const u8, usize, *const u16, usize, *mut u64, usize, *mut u32, *mut u32) -> u32;
+type Replay = unsafe extern "C" fn(*const u8, usize, *const u16, usize, *mut u64, usize, *mut u32, *mut u32, *mut u32) -> u32;
 type Cut =
     unsafe extern "C" fn(*const u8, usize, *const u16, usize, *mut u8, usize, *mut u32, *mut u32, *mut u32) -> u32;
 type Project =
@@ -190,7 +190,7 @@ impl<'a> Job<'a> {
                 read_part(&mut arguments, &input.plan);
                 read_part(&mut arguments, &input.list);
                 written_part(&mut arguments, &mut self.buffers.marking);
-                self.results(&mut arguments, 2);
+                self.results(&mut arguments, 3);
                 program.replay.unwrap() as *const ()
             }
             Call::Safety | Call::Branching => {
@@ -258,7 +258,7 @@ impl<'a> Job<'a> {
             Call::Replay => {
                 let call = program.replay.unwrap();
                 let (to, room) = (marking.as_mut_ptr(), marking.len());
-                Box::new(move || unsafe { call(plan.0, plan.1, list.0, list.1, to, room, first, second) })
+                Box::new(move || unsafe { call(plan.0, plan.1, list.0, list.1, to, room, first, second, third) })
             }
             Call::Safety | Call::Branching => {
                 let cut = if self.call == Call::Safety { program.safety } else { program.branching };

@@ -137,29 +137,30 @@ static void replays(void)
         const char *what;
         uint16_t list[5];
         size_t n, room;
-        uint32_t answer, index, place;
+        uint32_t answer, index, place, amount;
         uint64_t marking[6];
     } cases[] = {
-        {"0,1,0,1,2", {0, 1, 0, 1, 2}, 5, 6, 0, 0, 0, {0, 1, 0, 0, 1, 7}},
-        {"the empty list", {0}, 0, 6, 0, 0, 0, {2, 1, 0, 0, 0, 7}},
-        {"0,0", {0, 0}, 2, 5, 100, 1, 1, {1, 0, 1, 0, 0, 7}},
-        {"3,3,0", {3, 3, 0}, 3, 5, 100, 2, 0, {0, 1, 0, 0, 0, 7}},
-        {"an unknown transition", {0, 4}, 2, 5, 12, 0, 0, {7, 7, 7, 7, 7, 7}},
-        {"too few entries", {0}, 1, 4, 13, 0, 0, {7, 7, 7, 7, 7, 7}},
+        {"0,1,0,1,2", {0, 1, 0, 1, 2}, 5, 6, 0, 0, 0, 0, {0, 1, 0, 0, 1, 7}},
+        {"the empty list", {0}, 0, 6, 0, 0, 0, 0, {2, 1, 0, 0, 0, 7}},
+        {"0,0", {0, 0}, 2, 5, 100, 1, 1, 1, {1, 0, 1, 0, 0, 7}},
+        {"3,3,0", {3, 3, 0}, 3, 5, 100, 2, 0, 1, {0, 1, 0, 0, 0, 7}},
+        {"an unknown transition", {0, 4}, 2, 5, 12, 0, 0, 0, {7, 7, 7, 7, 7, 7}},
+        {"too few entries", {0}, 1, 4, 13, 0, 0, 0, {7, 7, 7, 7, 7, 7}},
     };
     for (size_t i = 0; i < sizeof cases / sizeof cases[0]; i++) {
         uint64_t marking[6] = {7, 7, 7, 7, 7, 7};
-        uint32_t index = 99, place = 99;
-        expect(cases[i].what, nesfoal_replay(plan, 108, cases[i].list, cases[i].n, marking, cases[i].room, &index, &place), cases[i].answer);
+        uint32_t index = 99, place = 99, amount = 99;
+        expect(cases[i].what, nesfoal_replay(plan, 108, cases[i].list, cases[i].n, marking, cases[i].room, &index, &place, &amount), cases[i].answer);
         expect(cases[i].what, index, cases[i].index);
         expect(cases[i].what, place, cases[i].place);
+        expect(cases[i].what, amount, cases[i].amount);
         expect(cases[i].what, memcmp(marking, cases[i].marking, sizeof marking), 0);
     }
     static uint16_t longest[65536];
     uint64_t marking[5];
-    uint32_t index, place;
-    expect("65,536 firings", nesfoal_replay(plan, 108, longest, 65536, marking, 5, &index, &place), 11);
-    expect("no file", nesfoal_replay(NULL, 0, NULL, 0, NULL, 0, &index, &place), 1);
+    uint32_t index, place, amount;
+    expect("65,536 firings", nesfoal_replay(plan, 108, longest, 65536, marking, 5, &index, &place, &amount), 11);
+    expect("no file", nesfoal_replay(NULL, 0, NULL, 0, NULL, 0, &index, &place, &amount), 1);
 }
 
 static void cuts(void)
@@ -253,15 +254,16 @@ static void parallels(void)
     const uint16_t list[] = {0, 1, 0, 1, 2}, three[] = {3};
     uint8_t twice[116], room[110], other[110];
     uint64_t marking[5];
-    uint32_t index, place, length, places, transitions, number;
+    uint32_t index, place, amount, length, places, transitions, number;
     parallel_kerb(twice);
     effect_is("two arcs, one effect", twice, 116, 3, 2, 0, -2);
     run_is("a run with its repeats", twice, 116, cut, 78, false, 2, 24, 68);
-    expect("parallel, 0,1,0,1,2", nesfoal_replay(twice, 116, list, 5, marking, 5, &index, &place), 0);
+    expect("parallel, 0,1,0,1,2", nesfoal_replay(twice, 116, list, 5, marking, 5, &index, &place, &amount), 0);
     expect("parallel, left", marking[3], 0);
-    expect("parallel, 0,1,2", nesfoal_replay(twice, 116, list + 2, 3, marking, 5, &index, &place), 100);
+    expect("parallel, 0,1,2", nesfoal_replay(twice, 116, list + 2, 3, marking, 5, &index, &place, &amount), 100);
     expect("parallel, 0,1,2, index", index, 2);
     expect("parallel, 0,1,2, place", place, 3);
+    expect("parallel, 0,1,2, amount", amount, 1);
     expect("parallel, safety", nesfoal_safety(twice, 116, three, 1, room, 110, &length, &places, &transitions), 0);
     expect("parallel, safety, bytes", length, 110);
     expect("parallel, accepted", nesfoal_verdict(twice, 116, room, 110, three, 1, &number), 0);
@@ -278,13 +280,13 @@ static void parallels(void)
     static uint16_t longest[65535];
     widen(268431360, 0);
     effect_is("the lowest effect", widest, sizeof widest, 0, 0, 0, -268431360);
-    expect("exactly enough", nesfoal_replay(widest, sizeof widest, longest, 1, marking, 1, &index, &place), 0);
+    expect("exactly enough", nesfoal_replay(widest, sizeof widest, longest, 1, marking, 1, &index, &place, &amount), 0);
     expect("exactly enough, marking", (long long)marking[0], 0);
     widen(268431359, 0);
-    expect("one too few", nesfoal_replay(widest, sizeof widest, longest, 1, marking, 1, &index, &place), 100);
+    expect("one too few", nesfoal_replay(widest, sizeof widest, longest, 1, marking, 1, &index, &place, &amount), 100);
     widen(4294967295, 1);
     effect_is("the highest effect", widest, sizeof widest, 0, 0, 0, 268431360);
-    expect("65,535 firings", nesfoal_replay(widest, sizeof widest, longest, 65535, marking, 1, &index, &place), 0);
+    expect("65,535 firings", nesfoal_replay(widest, sizeof widest, longest, 65535, marking, 1, &index, &place, &amount), 0);
     expect("65,535 firings, marking", (long long)marking[0], 17591649177600 + 4294967295);
 }
 

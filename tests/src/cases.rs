@@ -197,12 +197,12 @@ pub struct ReplayCase {
 impl Case for ReplayCase {
     fn second(&self) -> Answer {
         let mut lent = self.marking.clone();
-        let (number, index, place) = match replay::replay(self.file.part(), self.list.part(), lent.part_mut()) {
-            Ok(Replayed::Fired) => (0, 0, 0),
-            Ok(Replayed::Stuck { index, place }) => (100, index as i64, i64::from(place)),
-            Err(refusal) => (refusal, 0, 0),
+        let (number, index, place, amount) = match replay::replay(self.file.part(), self.list.part(), lent.part_mut()) {
+            Ok(Replayed::Fired) => (0, 0, 0, 0),
+            Ok(Replayed::Stuck { index, place, amount }) => (100, index as i64, i64::from(place), amount as i64),
+            Err(refusal) => (refusal, 0, 0, 0),
         };
-        Answer::new(number, [index, place, 0], Cells::Longs(lent.cells))
+        Answer::new(number, [index, place, amount], Cells::Longs(lent.cells))
     }
 
     fn show(&self) -> String {

@@ -5,6 +5,7 @@ use crate::cases::*;
 use crate::cut::Cut;
 use crate::gen::{to_bytes, Draft, DraftArc};
 use crate::published;
+use crate::read::read;
 
 /// A case and the answer that paper 01 gives; `cells` only where the example states them.
 pub struct Fixed<C> {
@@ -381,31 +382,31 @@ pub fn replays() -> Vec<Fixed<ReplayCase>> {
     let case = |file: &[u8], list: &[u16], len| ReplayCase { file: lent(file), list: lent(list), marking: buffer(len) };
     let mut list = Vec::new();
     let mut add =
-        |name: String, file: &[u8], numbers: &[u16], len: usize, number, stuck: (i64, i64), marking: &[u64]| {
-            let mut one = fixed(name, case(file, numbers, len), number, [stuck.0, stuck.1, 0]);
+        |name: String, file: &[u8], numbers: &[u16], len: usize, number, stuck: (i64, i64, i64), marking: &[u64]| {
+            let mut one = fixed(name, case(file, numbers, len), number, [stuck.0, stuck.1, stuck.2]);
             one.cells = Some(Cells::Longs(after(len, marking)));
             list.push(one);
         };
     let small = small_plan().bytes();
     for len in [5, 6, 9] {
         let name = |list: &str| format!("kerb, {list}, {len} entries lent");
-        add(name("0,1,0,1,2"), &small, &[0, 1, 0, 1, 2], len, 0, (0, 0), &[0, 1, 0, 0, 1]);
-        add(name("the empty list"), &small, &[], len, 0, (0, 0), &[2, 1, 0, 0, 0]);
-        add(name("0,0"), &small, &[0, 0], len, 100, (1, 1), &[1, 0, 1, 0, 0]);
-        add(name("3,3,0"), &small, &[3, 3, 0], len, 100, (2, 0), &[0, 1, 0, 0, 0]);
-        add(name("1 at once"), &small, &[1], len, 100, (0, 2), &[2, 1, 0, 0, 0]);
+        add(name("0,1,0,1,2"), &small, &[0, 1, 0, 1, 2], len, 0, (0, 0, 0), &[0, 1, 0, 0, 1]);
+        add(name("the empty list"), &small, &[], len, 0, (0, 0, 0), &[2, 1, 0, 0, 0]);
+        add(name("0,0"), &small, &[0, 0], len, 100, (1, 1, 1), &[1, 0, 1, 0, 0]);
+        add(name("3,3,0"), &small, &[3, 3, 0], len, 100, (2, 0, 1), &[0, 1, 0, 0, 0]);
+        add(name("1 at once"), &small, &[1], len, 100, (0, 2, 1), &[2, 1, 0, 0, 0]);
     }
-    add("3,0,1 leaves waiting 0".into(), &small, &[3, 0, 1], 5, 0, (0, 0), &[0, 1, 0, 1, 0]);
-    add("its projection leaves waiting 1".into(), &small_safety().bytes(), &[0, 1], 3, 0, (0, 0), &[1, 1, 0]);
-    add("in a slice, the T of the slice".into(), &small_safety().bytes(), &[2], 3, 12, (0, 0), &[]);
-    add("unknown number".into(), &small, &[0, 4], 5, 12, (0, 0), &[]);
-    add("unknown after a stuck one".into(), &small, &[1, 65_535], 5, 12, (0, 0), &[]);
-    add("4 entries lent".into(), &small, &[0], 4, 13, (0, 0), &[]);
-    add("none lent".into(), &small, &[0], 0, 13, (0, 0), &[]);
-    add("list before buffer".into(), &small, &[4], 4, 12, (0, 0), &[]);
-    add("65,536 firings".into(), &small, &[0; 65_536], 5, 11, (0, 0), &[]);
-    add("length before numbers".into(), &small, &[4; 65_536], 5, 11, (0, 0), &[]);
-    add("65,535 firings stick".into(), &small, &[0; 65_535], 5, 100, (1, 1), &[1, 0, 1, 0, 0]);
+    add("3,0,1 leaves waiting 0".into(), &small, &[3, 0, 1], 5, 0, (0, 0, 0), &[0, 1, 0, 1, 0]);
+    add("its projection leaves waiting 1".into(), &small_safety().bytes(), &[0, 1], 3, 0, (0, 0, 0), &[1, 1, 0]);
+    add("in a slice, the T of the slice".into(), &small_safety().bytes(), &[2], 3, 12, (0, 0, 0), &[]);
+    add("unknown number".into(), &small, &[0, 4], 5, 12, (0, 0, 0), &[]);
+    add("unknown after a stuck one".into(), &small, &[1, 65_535], 5, 12, (0, 0, 0), &[]);
+    add("4 entries lent".into(), &small, &[0], 4, 13, (0, 0, 0), &[]);
+    add("none lent".into(), &small, &[0], 0, 13, (0, 0, 0), &[]);
+    add("list before buffer".into(), &small, &[4], 4, 12, (0, 0, 0), &[]);
+    add("65,536 firings".into(), &small, &[0; 65_536], 5, 11, (0, 0, 0), &[]);
+    add("length before numbers".into(), &small, &[4; 65_536], 5, 11, (0, 0, 0), &[]);
+    add("65,535 firings stick".into(), &small, &[0; 65_535], 5, 100, (1, 1, 1), &[1, 0, 1, 0, 0]);
     let full = changed(&small_plan(), |d| d.marking[0] = 40);
     let turns = [0, 1].repeat(40);
     for more in [&[][..], &[0], &[1, 0], &[3, 2], &[2, 2, 0]] {
@@ -413,44 +414,58 @@ pub fn replays() -> Vec<Fixed<ReplayCase>> {
         let fired = more.iter().take_while(|&&t| t == 2).count();
         let left = 40 - 2 * fired as u64;
         let (number, stuck) = match more.get(fired) {
-            None => (0, (0, 0)),
-            Some(&t) => (100, (80 + fired as i64, if t == 1 { 2 } else { 0 })),
+            None => (0, (0, 0, 0)),
+            Some(&t) => (100, (80 + fired as i64, if t == 1 { 2 } else { 0 }, 1)),
         };
         let list = [&turns[..], more].concat();
         add(format!("80 firings, then {more:?}"), &full, &list, 5, number, stuck, &[0, 1, 0, left, fired as u64]);
     }
     let well = Draft::plan(vec![u32::MAX], 1, vec![DraftArc::new(0, 1, 0, 65_535)]).bytes();
     let most = 4_294_967_295 + 65_535 * 65_535;
-    add("the most tokens there can be".into(), &well, &[0; 65_535], 1, 0, (0, 0), &[most]);
+    add("the most tokens there can be".into(), &well, &[0; 65_535], 1, 0, (0, 0, 0), &[most]);
     // 65,535 firings that add 4,096 × 65,535 each.
     for tokens in [0, u32::MAX] {
         let spring = several(&[], &[65_535; 4_096], tokens).bytes();
         let most = 17_591_649_177_600 + u64::from(tokens);
-        add(format!("the most with parallel arcs, from {tokens}"), &spring, &[0; 65_535], 1, 0, (0, 0), &[most]);
+        add(format!("the most with parallel arcs, from {tokens}"), &spring, &[0; 65_535], 1, 0, (0, 0, 0), &[most]);
     }
     let drain = |tokens| several(&[65_535; 4_096], &[], tokens).bytes();
-    add("4,096 inputs, enough".into(), &drain(268_431_360), &[0], 1, 0, (0, 0), &[0]);
-    add("4,096 inputs, one too few".into(), &drain(268_431_359), &[0], 1, 100, (0, 0), &[268_431_359]);
-    add("4,096 inputs, 16 times".into(), &drain(u32::MAX), &[0; 70], 1, 100, (16, 0), &[65_535]);
+    add("4,096 inputs, enough".into(), &drain(268_431_360), &[0], 1, 0, (0, 0, 0), &[0]);
+    add("4,096 inputs, one too few".into(), &drain(268_431_359), &[0], 1, 100, (0, 0, 1), &[268_431_359]);
+    add("4,096 inputs, 16 times".into(), &drain(u32::MAX), &[0; 70], 1, 100, (16, 0, 268_365_825), &[65_535]);
     let parallel = parallel_plan().bytes();
-    add("parallel kerb, 0,1,0,1,2".into(), &parallel, &[0, 1, 0, 1, 2], 5, 0, (0, 0), &[0, 1, 0, 0, 1]);
-    add("parallel kerb, 0,1,2".into(), &parallel, &[0, 1, 2], 5, 100, (2, 3), &[1, 1, 0, 1, 0]);
-    add("each alone would do".into(), &several(&[2, 3], &[], 4).bytes(), &[0], 1, 100, (0, 0), &[4]);
-    add("together they do".into(), &several(&[2, 3], &[1, 1], 5).bytes(), &[0], 1, 0, (0, 0), &[2]);
-    add("exactly enough".into(), &loop_net(65_535, 1, 65_535), &[0], 1, 0, (0, 0), &[1]);
-    add("one too few".into(), &loop_net(65_535, 1, 65_534), &[0], 1, 100, (0, 0), &[65_534]);
-    add("a reader needs its tokens".into(), &loop_net(2, 2, 1), &[0], 1, 100, (0, 0), &[1]);
-    add("no places".into(), &Draft::plan(vec![], 2, vec![]).bytes(), &[0, 1, 1], 0, 0, (0, 0), &[]);
-    add("no transitions".into(), &one_place_plan(), &[], 1, 0, (0, 0), &[3]);
-    add("no transitions, a list".into(), &one_place_plan(), &[0], 1, 12, (0, 0), &[]);
+    add("parallel kerb, 0,1,0,1,2".into(), &parallel, &[0, 1, 0, 1, 2], 5, 0, (0, 0, 0), &[0, 1, 0, 0, 1]);
+    add("parallel kerb, 0,1,2".into(), &parallel, &[0, 1, 2], 5, 100, (2, 3, 1), &[1, 1, 0, 1, 0]);
+    add("each alone would do".into(), &several(&[2, 3], &[], 4).bytes(), &[0], 1, 100, (0, 0, 1), &[4]);
+    add("together they do".into(), &several(&[2, 3], &[1, 1], 5).bytes(), &[0], 1, 0, (0, 0, 0), &[2]);
+    add("exactly enough".into(), &loop_net(65_535, 1, 65_535), &[0], 1, 0, (0, 0, 0), &[1]);
+    add("one too few".into(), &loop_net(65_535, 1, 65_534), &[0], 1, 100, (0, 0, 1), &[65_534]);
+    add("three too few".into(), &loop_net(5, 1, 2), &[0], 1, 100, (0, 0, 3), &[2]);
+    add("a reader needs its tokens".into(), &loop_net(2, 2, 1), &[0], 1, 100, (0, 0, 1), &[1]);
+    add("no places".into(), &Draft::plan(vec![], 2, vec![]).bytes(), &[0, 1, 1], 0, 0, (0, 0, 0), &[]);
+    add("no transitions".into(), &one_place_plan(), &[], 1, 0, (0, 0, 0), &[3]);
+    add("no transitions, a list".into(), &one_place_plan(), &[0], 1, 12, (0, 0, 0), &[]);
     let two = Draft::plan(vec![0; 3], 1, vec![DraftArc::new(0, 0, 1, 1), DraftArc::new(0, 0, 2, 1)]).bytes();
-    add("the lowest place short".into(), &two, &[0], 3, 100, (0, 1), &[0, 0, 0]);
+    add("the lowest place short".into(), &two, &[0], 3, 100, (0, 1, 1), &[0, 0, 0]);
+    let parallel = |marking: &[u32]| {
+        let input = |(place, weight)| DraftArc::new(0, 0, place, weight);
+        Draft::plan(marking.to_vec(), 1, [(0, 2), (0, 1), (1, 1), (1, 2), (1, 3), (2, 9)].map(input).to_vec()).bytes()
+    };
+    add("parallel arcs, enough".into(), &parallel(&[3, 6, 9]), &[0], 3, 0, (0, 0, 0), &[0, 0, 0]);
+    add("the second arc of three sticks".into(), &parallel(&[3, 2, 0]), &[0], 3, 100, (0, 1, 4), &[3, 2, 0]);
+    add("the first arc of two sticks".into(), &parallel(&[1, 0, 0]), &[0], 3, 100, (0, 0, 2), &[1, 0, 0]);
+    add("the last arc of three sticks".into(), &parallel(&[3, 5, 9]), &[0], 3, 100, (0, 1, 1), &[3, 5, 9]);
     for (name, bad, number) in bad_of_either() {
-        add(name, &bad, &[0], 5, number, (0, 0), &[]);
+        add(name, &bad, &[0], 5, number, (0, 0, 0), &[]);
     }
     for net in published::nets() {
         for l in &net.lists {
-            let (number, stuck) = l.stuck.map_or((0, (0, 0)), |stuck| (100, stuck));
+            let (number, stuck) = l.stuck.map_or((0, (0, 0, 0)), |(index, place)| {
+                let plan = read(&net.plan, None).unwrap();
+                let (ins, _) = plan.in_and_out(usize::from(l.list[index as usize]));
+                let need: i64 = ins.iter().filter(|a| i64::from(a.place) == place).map(|a| i64::from(a.weight)).sum();
+                (100, (index, place, need - l.marking[place as usize] as i64))
+            });
             add(
                 format!("{}, {:?}", net.name, l.list),
                 &net.plan,

@@ -7,10 +7,11 @@ use crate::read::read;
 #[derive(Clone, Copy, PartialEq, Eq, Debug)]
 pub enum Replayed {
     Fired,
-    /// The first firing that is not enabled, and the lowest place that is short.
+    /// The first firing that is not enabled, the lowest place that is short, and the tokens missing there.
     Stuck {
         index: usize,
         place: u16,
+        amount: u64,
     },
 }
 
@@ -30,8 +31,8 @@ pub fn replay(file: &[u8], numbers: &[u16], marking: &mut [u64]) -> Result<Repla
 pub fn fire_list(net: &Net, numbers: &[u16]) -> (Replayed, Vec<u64>) {
     let mut marking = initial(net);
     for (index, &t) in numbers.iter().enumerate() {
-        if let Err(place) = fire(net, usize::from(t), &mut marking) {
-            return (Replayed::Stuck { index, place }, marking);
+        if let Err((place, amount)) = fire(net, usize::from(t), &mut marking) {
+            return (Replayed::Stuck { index, place, amount }, marking);
         }
     }
     (Replayed::Fired, marking)
@@ -41,18 +42,20 @@ pub fn initial(net: &Net) -> Vec<u64> {
     net.marking.iter().map(|&m| u64::from(m)).collect()
 }
 
-/// The lowest place that is short of tokens for the transition.
-pub fn short_place(net: &Net, transition: usize, marking: &[u64]) -> Option<u16> {
+/// The lowest place that is short of tokens for the transition, and how many are missing there.
+pub fn short_place(net: &Net, transition: usize, marking: &[u64]) -> Option<(u16, u64)> {
     let (ins, _) = net.in_and_out(transition);
-    ins.chunk_by(|a, b| a.place == b.place)
-        .find(|run| run.iter().map(|a| u64::from(a.weight)).sum::<u64>() > marking[usize::from(run[0].place)])
-        .map(|run| run[0].place)
+    ins.chunk_by(|a, b| a.place == b.place).find_map(|run| {
+        let need = run.iter().map(|a| u64::from(a.weight)).sum::<u64>();
+        let held = marking[usize::from(run[0].place)];
+        (held < need).then(|| (run[0].place, need - held))
+    })
 }
 
-/// Fires one transition, or names the lowest place that is short and changes nothing.
-pub fn fire(net: &Net, transition: usize, marking: &mut [u64]) -> Result<(), u16> {
-    if let Some(place) = short_place(net, transition, marking) {
-        return Err(place);
+/// Fires one transition, or names the lowest place that is short with the tokens missing there, and changes nothing.
+pub fn fire(net: &Net, transition: usize, marking: &mut [u64]) -> Result<(), (u16, u64)> {
+    if let Some(short) = short_place(net, transition, marking) {
+        return Err(short);
     }
     let (ins, outs) = net.in_and_out(transition);
     for a in ins {

@@ -46,9 +46,11 @@ pub unsafe extern "C" fn replay(
     marking_len: usize,
     index: *mut u32,
     place: *mut u32,
+    amount: *mut u32,
 ) -> u32 {
     let (file, list) = (lent(file, file_len), lent(list, list_len));
-    super::replay::replay(file, list, lent_out(marking, marking_len), &mut *index, &mut *place)
+    let stuck = [&mut *index, &mut *place, &mut *amount];
+    super::replay::replay(file, list, lent_out(marking, marking_len), stuck)
 }
 
 pub unsafe extern "C" fn safety(

@@ -5,10 +5,11 @@ use super::list;
 use super::read::*;
 use super::starts;
 
+/// The index, the place that is short and the tokens missing there go to `stuck`.
 #[inline(always)]
-pub fn replay(file: &[u8], numbers: &[u16], marking: &mut [u64], index: &mut u32, short: &mut u32) -> u32 {
-    *index = 0;
-    *short = 0;
+pub fn replay(file: &[u8], numbers: &[u16], marking: &mut [u64], stuck: [&mut u32; 3]) -> u32 {
+    let [index, short, amount] = stuck;
+    (*index, *short, *amount) = (0, 0, 0);
     let mut table = raw::<u16, { TRANSITIONS + 1 }>();
     let mut moves = raw::<i32, ARCS>();
     let table = table.as_mut_ptr().cast::<u16>();
@@ -53,7 +54,7 @@ pub fn replay(file: &[u8], numbers: &[u16], marking: &mut [u64], index: &mut u32
                     *tokens.add((m & 1023) as usize) -= i64::from(m >> 10);
                 }
                 *index = i as u32;
-                *short = lowest_short(moves.add(from), to - from, tokens);
+                (*short, *amount) = lowest_short(moves.add(from), to - from, tokens);
                 return 100;
             }
         }
@@ -72,19 +73,21 @@ unsafe fn moves_of(at: *const u8, count: usize, room: u64, table: *mut u16, move
     })
 }
 
-/// The place of the first of the moves that, with those before it at the same place, takes more than there is; there is
-/// one.
+/// The lowest place from which the moves take more than there is, parallel ones together, and the tokens missing there;
+/// there is one. Moves that take come first, and are below 0.
 #[cold]
-unsafe fn lowest_short(moves: *const i32, count: usize, tokens: *const i64) -> u32 {
-    let (mut last, mut sum) = (usize::MAX, 0);
-    for j in 0..count {
-        let m = *moves.add(j);
-        let p = (m & 1023) as usize;
-        sum = if p == last { sum } else { 0 } + i64::from(m >> 10);
-        last = p;
-        if *tokens.add(p) + sum < 0 {
-            return p as u32;
+unsafe fn lowest_short(moves: *const i32, count: usize, tokens: *const i64) -> (u32, u32) {
+    let mut j = 0;
+    while j < count && *moves.add(j) < 0 {
+        let p = *moves.add(j) & 1023;
+        let mut left = *tokens.add(p as usize);
+        while j < count && *moves.add(j) < 0 && *moves.add(j) & 1023 == p {
+            left += i64::from(*moves.add(j) >> 10);
+            j += 1;
+        }
+        if left < 0 {
+            return (p as u32, -left as u32);
         }
     }
-    0
+    (0, 0)
 }

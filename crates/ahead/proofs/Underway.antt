@@ -1,18 +1,13 @@
 -- A replay, firing by firing. Assumes nothing.
-use Prim.Native.Nat.{ℕ, suc, _+_, _*_, _<_, _≤_}
+use Prim.Native.Nat.{ℕ, suc, _+_, _-_, _*_, _<_, _≤_}
 use mathlib.Core.Path.{_≡_, refl, ap, sym, _∙_, fun-ext}
-use mathlib.Core.Bool.{Bool, true}
 use mathlib.Core.List.{List, _∷_}
 use native.Mathlib.Numerals.{add-one}
 use native.Mathlib.Omega.{arith}
-use native.Mathlib.Decide.{decLt}
-use borrow.Author.Tests.{lt-ltb, le-ltb, ltb-true}
-use lib.Dec.{ltb}
 use lib.ListN.{length, getD, drop, drop-of-length-le}
 use lib.Seq.{drop-cons}
-use Rattle.net.specs.Numbers.{first}
-use Rattle.net.specs.Net.{Net, Marking, fired, stuck, input, output, fire, shortPlace, replayFrom}
-use Rattle.net.proofs.Numbers.{is-true, first-passes}
+use Rattle.net.specs.Net.{Net, Marking, Enabled, fired, stuck, input, output, fire, shortPlace, replayFrom}
+use Rattle.net.proofs.Replay.{test-passes, test-short}
 use Rattle.file.specs.Word.{Bytes}
 use Rattle.file.specs.Layout.{netFrom}
 use Rattle.file.specs.Facts.{Sound}
@@ -20,31 +15,14 @@ use Rattle.file.specs.declared.Header.{Header}
 use Rattle.gain.proofs.Arcs.{weight-le}
 use Rattle.ahead.specs.Steps.{held, Ready, Holds, Listed, Underway}
 
-module _ (N : Net) (t : ℕ) (M : Marking) where
-  -- where no place below P is short
-  pub short-none : ((p : ℕ) → input N p t ≤ M p) → N .places ≤ shortPlace N t M
-  unfolding shortPlace
-  short-none low = go (decLt (first (λ p. ltb (M p) (input N p t)) 0 (N .places)) (N .places))
-    where
-      f : ℕ → Bool
-      f = λ p. ltb (M p) (input N p t)
-
-      go : Dec (first f 0 (N .places) < N .places) → N .places ≤ first f 0 (N .places)
-      go (yes l) =
-          let q = first f 0 (N .places) in
-          absurd (omega (arith, low q, ltb-true (M q) (input N q t) (is-true (f q) (first-passes f 0 (N .places) (omega arith)))))
-      go (no l) = omega (arith, l)
-
 module _ (N : Net) (i : ℕ) (M : Marking) (t : ℕ) (ts : List ℕ) where
-  step-stuck : (p : ℕ) → p < N .places → shortPlace N t M ≡ p → replayFrom N i M (t ∷ ts) ≡ record { answer = stuck i p; marking = M }
+  step-stuck : (p : ℕ) → p < N .places → shortPlace N t M ≡ p → replayFrom N i M (t ∷ ts) ≡ record { answer = stuck i p (input N p t - M p); marking = M }
   unfolding replayFrom
-  step-stuck p l e =
-      let f : ltb (shortPlace N t M) (N .places) ≡ true = lt-ltb (shortPlace N t M) (N .places) (omega arith) in
-      rw (f, replayFrom) (ap (λ (q : ℕ). record { answer = stuck i q; marking = M }) e)
+  step-stuck p l e = rw (test-short N t M p l e, replayFrom)
 
-  step-on : N .places ≤ shortPlace N t M → replayFrom N i M (t ∷ ts) ≡ replayFrom N (suc i) (fire N t M) ts
+  step-on : Enabled N t M → replayFrom N i M (t ∷ ts) ≡ replayFrom N (suc i) (fire N t M) ts
   unfolding replayFrom
-  step-on l = rw (le-ltb (shortPlace N t M) (N .places) l, replayFrom)
+  step-on en = rw (test-passes N t M en, replayFrom)
 
 module _ (N : Net) (ts : List ℕ) (k : ℕ) (M : Marking) where
   pub replay-end : length ts ≤ k → replayFrom N k M (drop k ts) ≡ record { answer = fired; marking = M }
@@ -52,10 +30,10 @@ module _ (N : Net) (ts : List ℕ) (k : ℕ) (M : Marking) where
   replay-end l = rw (drop-of-length-le ts l)
 
   module _ (l : k < length ts) where
-    pub replay-stuck : (p : ℕ) → p < N .places → shortPlace N (getD ts k 0) M ≡ p → replayFrom N k M (drop k ts) ≡ record { answer = stuck k p; marking = M }
+    pub replay-stuck : (p : ℕ) → p < N .places → shortPlace N (getD ts k 0) M ≡ p → replayFrom N k M (drop k ts) ≡ record { answer = stuck k p (input N p (getD ts k 0) - M p); marking = M }
     replay-stuck p u e = rw (drop-cons ts k 0 l) (step-stuck N k M (getD ts k 0) (drop (suc k) ts) p u e)
 
-    replay-on : N .places ≤ shortPlace N (getD ts k 0) M → replayFrom N k M (drop k ts) ≡ replayFrom N (k + 1) (fire N (getD ts k 0) M) (drop (k + 1) ts)
+    replay-on : Enabled N (getD ts k 0) M → replayFrom N k M (drop k ts) ≡ replayFrom N (k + 1) (fire N (getD ts k 0) M) (drop (k + 1) ts)
     replay-on u = rw (drop-cons ts k 0 l, add-one k) (step-on N k M (getD ts k 0) (drop (suc k) ts) u)
 
 module _ {s : List ℕ} {h : Header} {ts m₀ : List ℕ} where
@@ -84,6 +62,6 @@ module _ {s : List ℕ} {h : Header} {ts m₀ : List ℕ} where
         low = λ p. omega (arith, u .low p, f .at p, few b p, w .placed .arcs);
         same =
             ap (λ (M : Marking). replayFrom (netFrom s h) (k + 1) M (drop (k + 1) ts)) (fun-ext (f .at))
-            ∙ sym (replay-on (netFrom s h) ts k (held m) l (short-none (netFrom s h) (getD ts k 0) (held m) enabled))
+            ∙ sym (replay-on (netFrom s h) ts k (held m) l (unfold Enabled in λ p u. enabled p))
             ∙ u .same;
       }

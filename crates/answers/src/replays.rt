@@ -34,11 +34,11 @@ pub fn fired(count: usize, marking: &[u64], places: usize) {
     say::text(b"\n");
 }
 
-pub fn stuck(list: &[u16], index: u32, place: u32) {
+pub fn stuck(list: &[u16], index: u32, place: u32, amount: u32) {
     let i = index as usize;
     let t = blame::numbers::entry(list, i);
     say::form(
-        b"stuck at index %: transition %, place % is short\n",
-        &[i, t, place as usize],
+        b"stuck at index %: transition %, place % is short of %\n",
+        &[i, t, place as usize, amount as usize],
     );
 }

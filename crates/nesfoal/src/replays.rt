@@ -26,7 +26,7 @@ fn code(o: Outcome) -> u32
 {
     match o {
         Outcome::Fired => 0,
-        Outcome::Stuck(_, _) => 100,
+        Outcome::Stuck(_, _, _) => 100,
         Outcome::Refused(n) => n,
     }
 }
@@ -37,7 +37,7 @@ fn index_of(o: Outcome) -> u32
 {
     match o {
         Outcome::Fired => 0,
-        Outcome::Stuck(i, _) => i,
+        Outcome::Stuck(i, _, _) => i,
         Outcome::Refused(_) => 0,
     }
 }
@@ -48,13 +48,24 @@ fn place_of(o: Outcome) -> u32
 {
     match o {
         Outcome::Fired => 0,
-        Outcome::Stuck(_, p) => p,
+        Outcome::Stuck(_, p, _) => p,
         Outcome::Refused(_) => 0,
     }
 }
 
-// The same for C: 0 where all fired, 100 where the list is stuck, or the number of a refusal; index and place go to the
-// last two parameters, zeros where the list is not stuck.
+// The tokens missing on that place, 0 where the list is not stuck.
+fn amount_of(o: Outcome) -> u32
+    ensures { λ r. ⌜ r ≡ outcomeNumbers o .amount ⌝ }
+{
+    match o {
+        Outcome::Fired => 0,
+        Outcome::Stuck(_, _, n) => n,
+        Outcome::Refused(_) => 0,
+    }
+}
+
+// The same for C: 0 where all fired, 100 where the list is stuck, or the number of a refusal; index, place and the tokens
+// missing there go to the last three parameters, zeros where the list is not stuck.
 #[no_mangle]
 pub extern "C" fn nesfoal_replay(
     file: &[u8],
@@ -62,14 +73,17 @@ pub extern "C" fn nesfoal_replay(
     marking: &mut [u64],
     index: &mut u32,
     place: &mut u32,
+    amount: &mut u32,
 ) -> u32
     ensures answer { λ r. ⌜ r ≡ replayCode (replayAnswer (now (file .entry)) (now (list .entry)) (length (now (marking .entry)))) ⌝ }
     ensures marking { λ _. ⌜ now (marking .exit) ≡ replayMarking (now (file .entry)) (now (list .entry)) (now (marking .entry)) ⌝ }
     ensures index { λ _. ⌜ now (index .exit) ≡ replayAnswer (now (file .entry)) (now (list .entry)) (length (now (marking .entry))) .index ⌝ }
     ensures place { λ _. ⌜ now (place .exit) ≡ replayAnswer (now (file .entry)) (now (list .entry)) (length (now (marking .entry))) .place ⌝ }
+    ensures amount { λ _. ⌜ now (amount .exit) ≡ replayAnswer (now (file .entry)) (now (list .entry)) (length (now (marking .entry))) .amount ⌝ }
 {
     let o = replay(file, list, marking);
     *index = index_of(o);
     *place = place_of(o);
+    *amount = amount_of(o);
     code(o)
 }

@@ -12,8 +12,9 @@ use lib.Signed.{_≤ℤ_, leZ-yes}
 use lib.ListN.{length}
 use borrow.Author.Tests.{ltb-false}
 use Rattle.net.specs.Numbers.{any}
-use Rattle.net.specs.Net.{Net, Marking, counted, joins, weightOn, input, output, effect, fire, shortPlace, replayFrom, replay}
+use Rattle.net.specs.Net.{Net, Marking, counted, joins, weightOn, input, output, effect, fire, testFiring, replayFrom, replay}
 use Rattle.net.proofs.Numbers.{by-cases}
+use Rattle.net.proofs.Replay.{by-test}
 use Rattle.net.proofs.Markings.{below-at, below-off}
 use Rattle.file.specs.Word.{Bytes, le32}
 use Rattle.file.specs.Layout.{headerOf, arcAt, arcsFrom, netOf}
@@ -60,9 +61,9 @@ replay-low : (N : Net) → ((p t : ℕ) → output N p t ≤ 268431360) → (i :
 unfolding replayFrom fire
 replay-low N small i M [] p = omega arith
 replay-low N small i M (t ∷ ts) p =
-    by-cases (ltb (shortPlace N t M) (N .places))
-    (λ e. rw (e, replayFrom) (omega arith))
+    by-test (testFiring N t M)
     (λ e. rw (e, replayFrom) (omega (arith, small p t, replay-low N small (suc i) (fire N t M) ts p)))
+    (λ q n e. rw (e, replayFrom) (omega arith))
 
 -- "a marking 0 to 4,294,967,295"
 marking-low : (file : List ℕ) → Bytes file → (p : ℕ) → netOf file .marking p < 4294967296

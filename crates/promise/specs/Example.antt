@@ -46,7 +46,7 @@ pub record Holds (file ps ts : List ℕ) (arcs bytes : ℕ) : Type 0 where
 
 -- a list that fires, and the six entries lent after it, the last of them being 7 before
 pub record Ends (plan list entries : List ℕ) : Type 0 where
-  pub answer : replayAnswer plan list 6 ≡ record { refusal = 0; stuck = false; index = 0; place = 0 }
+  pub answer : replayAnswer plan list 6 ≡ record { refusal = 0; stuck = false; index = 0; place = 0; amount = 0 }
   pub marking : replayMarking plan list (9 ∷ 9 ∷ 9 ∷ 9 ∷ 9 ∷ 7 ∷ []) ≡ entries
 
 -- the starred examples
@@ -54,8 +54,8 @@ pub record Starred : Type 0 where
   pub file : (length smallPlan ≡ 108) × (fileRefusal due.Plan smallPlan ≡ 0)
   pub fires : Ends smallPlan (0 ∷ 1 ∷ 0 ∷ 1 ∷ 2 ∷ []) (0 ∷ 1 ∷ 0 ∷ 0 ∷ 1 ∷ 7 ∷ [])
   pub empty : Ends smallPlan [] (2 ∷ 1 ∷ 0 ∷ 0 ∷ 0 ∷ 7 ∷ [])
-  pub second-sticks : replayAnswer smallPlan (0 ∷ 0 ∷ []) 6 ≡ record { refusal = 0; stuck = true; index = 1; place = 1 }
-  pub third-sticks : replayAnswer smallPlan (3 ∷ 3 ∷ 0 ∷ []) 6 ≡ record { refusal = 0; stuck = true; index = 2; place = 0 }
+  pub second-sticks : replayAnswer smallPlan (0 ∷ 0 ∷ []) 6 ≡ record { refusal = 0; stuck = true; index = 1; place = 1; amount = 1 }
+  pub third-sticks : replayAnswer smallPlan (3 ∷ 3 ∷ 0 ∷ []) 6 ≡ record { refusal = 0; stuck = true; index = 2; place = 0; amount = 1 }
   pub takes-two : effectAnswer smallPlan 3 2 ≡ record { refusal = 0; effect = negsuc 1 }
   pub no-effect : effectAnswer smallPlan 0 1 ≡ record { refusal = 0; effect = pos 0 }
   pub safety-for-2 : Holds (safetyFile smallPlan (2 ∷ [])) (0 ∷ 1 ∷ 2 ∷ []) (0 ∷ 1 ∷ []) 5 78
@@ -74,7 +74,7 @@ pub record Noted : Type 0 where
   pub many-places : fileRefusal due.Plan (set (set smallPlan 96 1) 97 4) ≡ 4
   pub no-place : effectAnswer smallPlan 5 9 ≡ record { refusal = 10; effect = pos 0 }
   pub no-transition : effectAnswer smallPlan 4 4 ≡ record { refusal = 12; effect = pos 0 }
-  pub little-room : replayAnswer smallPlan [] 4 ≡ record { refusal = 13; stuck = false; index = 0; place = 0 }
+  pub little-room : replayAnswer smallPlan [] 4 ≡ record { refusal = 13; stuck = false; index = 0; place = 0; amount = 0 }
   pub cut-counts : safetyAnswer smallPlan (2 ∷ []) 78 ≡ record { refusal = 0; length = 78; places = 3; transitions = 2 }
   pub cut-no-room : safetyAnswer smallPlan (2 ∷ []) 77 ≡ record { refusal = 13; length = 0; places = 0; transitions = 0 }
   pub no-criterion : checked smallPlan (safetyFile smallPlan (2 ∷ [])) [] ≡ record { code = 9; number = 0 }
@@ -99,7 +99,7 @@ pub record Parallels : Type 0 where
   pub file : (length parallelPlan ≡ 116) × (fileRefusal due.Plan parallelPlan ≡ 0)
   pub takes-two : effectAnswer parallelPlan 3 2 ≡ record { refusal = 0; effect = negsuc 1 }
   pub fires : Ends parallelPlan (0 ∷ 1 ∷ 0 ∷ 1 ∷ 2 ∷ []) (0 ∷ 1 ∷ 0 ∷ 0 ∷ 1 ∷ 7 ∷ [])
-  pub sticks : replayAnswer parallelPlan (0 ∷ 1 ∷ 2 ∷ []) 6 ≡ record { refusal = 0; stuck = true; index = 2; place = 3 }
+  pub sticks : replayAnswer parallelPlan (0 ∷ 1 ∷ 2 ∷ []) 6 ≡ record { refusal = 0; stuck = true; index = 2; place = 3; amount = 1 }
   pub run : arcRun parallelPlan onePlaceCut false 2 ≡ 2 ∷ 0 ∷ 0 ∷ 0 ∷ 3 ∷ 0 ∷ 1 ∷ 0 ∷ 2 ∷ 0 ∷ 0 ∷ 0 ∷ 3 ∷ 0 ∷ 1 ∷ 0 ∷ 2 ∷ 0 ∷ 1 ∷ 0 ∷ 4 ∷ 0 ∷ 1 ∷ 0 ∷ []
   pub safety-for-3 : Holds (safetyFile parallelPlan (3 ∷ [])) (0 ∷ 1 ∷ 2 ∷ 3 ∷ []) (0 ∷ 1 ∷ 2 ∷ []) 8 110
   pub joined : checked parallelPlan (safetyFile smallPlan (3 ∷ [])) (3 ∷ []) ≡ record { code = 104; number = 2 }

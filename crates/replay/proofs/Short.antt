@@ -17,9 +17,11 @@ use Rattle.file.specs.declared.Header.{Header}
 use Rattle.file.proofs.Rows.{key-le, weight-none}
 use Rattle.starts.specs.Table.{slotAt, choose, Split}
 use Rattle.ahead.specs.Steps.{held}
-use Rattle.replay.specs.Steps.{arcOn}
+use Rattle.replay.specs.Steps.{arcOn, needAt, Lacking}
 use Rattle.gain.proofs.Arcs.{good-at}
 use Rattle.gain.proofs.Shares.{share-is, share-unless, sum-next, sum-same, sum-more}
+use Rattle.groups.specs.Groups.{GroupEnd, runWeight}
+use Rattle.groups.proofs.Groups.{run-adds, none-after}
 
 module _ (N : Net) (t : ℕ) (M : Marking) where
   pub short-is : (q : ℕ) → q < N .places → M q < input N q t → ((p : ℕ) → p < q → input N p t ≤ M p) → shortPlace N t M ≡ q
@@ -50,6 +52,21 @@ pub record Covered (s : List ℕ) (h : Header) (t from middle : ℕ) (m : List �
   pub at-last : from < j → last ≡ arcOn s h (j - 1) .place
   pub so-far : need ≡ weightOn 0 last t (arcsFrom s (h .arcstart) j)
   pub low : need ≤ 65535 * (j - from)
+
+-- all that the transition of arc j takes from its place: what the arcs up to j take, and the parallel ones after it
+pub whole : {s : List ℕ} {h : Header} {j need count : ℕ} → Lacking s h j need count → (e : ℕ) → GroupEnd s (h .arcstart) j (h .arcs) e
+    → (need + runWeight s (h .arcstart) j (e - j) ≡ needAt s h j + arcOn s h j .weight) × (need ≤ needAt s h j)
+unfolding input
+whole {s} {h} {j} {need} {count} c e g =
+    let p = arcOn s h j .place in
+    let t = arcOn s h j .transition in
+    let up = sum-next 0 p t s (h .arcstart) j in
+    let own = share-is 0 p t (arcOn s h j) refl (c .input) refl in
+    let alike = run-adds 0 p t s (h .arcstart) j e (omega (arith, g .after)) (λ i a b.
+    let x = g .same i a b in record { transition = x .transition; direction = x .direction ∙ c .input; place = x .place }) in
+    let after = sum-same 0 p t s (h .arcstart) e (h .arcs) (g .within) (λ i a b. share-unless 0 p t (arcOn s h i) (λ x y z.
+    none-after s h (c .sound) j (h .arcs) e (omega arith) g i a b (record { transition = x; direction = y ∙ sym (c .input); place = z }))) in
+    (omega (arith, c .so-far, up, own, alike, after), omega (arith, c .so-far, sum-more 0 p t s (h .arcstart) (j + 1) (h .arcs) (omega (arith, c .known))))
 
 -- equal numbers of order are of the same place
 same-place : (t p q r : ℕ) → 131072 * t + 65536 * 0 + p ≤ 131072 * t + 65536 * 0 + q → 131072 * t + 65536 * 0 + q ≤ 131072 * t + 65536 * 0 + r → p ≡ r → q ≡ r
@@ -176,6 +193,22 @@ module _ {s : List ℕ} {h : Header} {t from middle : ℕ} {m : List ℕ} where
       unfolding input
       short-here n e g = short-is (netFrom s h) t (held m) (arcOn s h j .place) place-known
           (omega (arith, adds-up n e, sum-more 0 (arcOn s h j .place) t s (h .arcstart) (j + 1) (h .arcs) (omega (arith, known)))) lower
+
+      pub lacking : (n : ℕ) → n ≡ choose (eqb (arcOn s h j .place) last) (need + arcOn s h j .weight) (arcOn s h j .weight) → arcOn s h j .weight < 65536 → getD m (arcOn s h j .place) 0 < n
+          → Lacking s h j n (getD m (arcOn s h j .place) 0)
+      lacking n e w g =
+          let z = input-of j (c .begun) l in
+          record {
+            sound = c .sound;
+            known = known;
+            input = z .0;
+            so-far = adds-up n e ∙ ap (λ (x : ℕ). weightOn 0 (arcOn s h j .place) x (arcsFrom s (h .arcstart) (j + 1))) (sym (z .1));
+            low = omega (arith, low-next n e w, known, c .sound .placed .arcs);
+            over = g;
+          }
+
+      pub need-is : needAt s h j ≡ input (netFrom s h) (arcOn s h j .place) t
+      need-is = ap (input (netFrom s h) (arcOn s h j .place)) (input-of j (c .begun) l .1)
 
     pub enabled : middle ≤ j → (p : ℕ) → input (netFrom s h) p t ≤ getD m p 0
     unfolding input slotAt

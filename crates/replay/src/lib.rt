@@ -1,6 +1,6 @@
 // Replay of a list of transitions on the net of a file that was read.
 ghost use mathlib.Core.Path.{_≡_};
-ghost use Prim.Native.Nat.{ℕ, _+_, _*_, _^_, _<_, _≤_};
+ghost use Prim.Native.Nat.{ℕ, _+_, _-_, _*_, _^_, _<_, _≤_};
 ghost use lib.ListN.{length, getD};
 ghost use lib.Dec.{eqb};
 ghost use Rattle.net.specs.Net.{fire as fireOf, replay as replayOf, replayFrom, tokens};
@@ -12,15 +12,16 @@ ghost use Rattle.promise.specs.Firing.{replayTold, replayOr};
 ghost use Rattle.replay.specs.Told.{outcomeNumbers, heldBack};
 ghost use Rattle.ahead.specs.Steps.{held, Ready, Holds, Listed};
 ghost use Rattle.starts.specs.Table.{choose};
-ghost use Rattle.replay.specs.Steps.{Firable, Passed};
+ghost use Rattle.replay.specs.Steps.{needAt, Lacking, Firable, Passed};
 use ahead::entry;
 use file::Header;
 use file::arcs::arc;
+use groups::group;
 
-// How a replay ends: all fired; stuck, at an index of the list and a place; or refused.
+// How a replay ends: all fired; stuck, at an index of the list, a place and the tokens missing there; or refused.
 pub enum Outcome {
     Fired,
-    Stuck(u32, u32),
+    Stuck(u32, u32, u32),
     Refused(u32),
 }
 
@@ -33,6 +34,17 @@ fn add_up(p: usize, weight: usize, last: usize, need: u64) -> u64
         return need + (weight as u64);
     }
     weight as u64
+}
+
+// How many tokens are missing on the place of input arc j, which holds `count`: the arcs up to j take `need`, and the parallel ones after it take more.
+fn missing(file: &[u8], h: Header, j: usize, need: u64, count: u64) -> u32
+    requires { ⌜ Lacking (now file) h j need count ⌝ }
+    ensures { λ r. ⌜ r ≡ needAt (now (file .entry)) h j - count ⌝ }
+{
+    let a = arc(file, h.arcstart + 8 * j);
+    let all = group(file, h.arcstart, j, h.arcs);
+    let whole = need + (all.weight as u64) - (a.weight as u64);
+    (whole - count) as u32
 }
 
 // Takes the weights of the arcs from `from` to `to` out of the marking.
@@ -101,10 +113,12 @@ fn run(file: &[u8], h: Header, table: &[u16], list: &[u16], marking: &mut [u64])
             let p = a.place;
             need = add_up(p, a.weight, last, need);
             last = p;
-            if marking[p] < need {
+            let count = marking[p];
+            if count < need {
                 let index = k as u32;
                 let place = p as u32;
-                break 'firings Outcome::Stuck(index, place);
+                let amount = missing(file, h, j, need, count);
+                break 'firings Outcome::Stuck(index, place, amount);
             }
             j += 1;
         }

@@ -8,7 +8,7 @@ pub fn answer(file: &[u8], list: &[u16]) {
     let o = nesfoal::replays::replay(file, list, &mut marking);
     match o {
         Outcome::Fired => replays::fired(list.len(), &marking, blame::numbers::places(file)),
-        Outcome::Stuck(i, p) => replays::stuck(list, i, p),
+        Outcome::Stuck(i, p, n) => replays::stuck(list, i, p, n),
         Outcome::Refused(n) => refusal::one(n, b"file", file, list),
     }
 }

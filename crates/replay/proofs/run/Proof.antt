@@ -7,14 +7,14 @@ use native.Mathlib.Omega.{arith}
 use lib.Dec.{eqb}
 use lib.ListN.{length, getD}
 use Rattle.starts.specs.Table.{choose}
-use Rattle.replay.specs.Steps.{arcOn}
+use Rattle.replay.specs.Steps.{arcOn, needAt, Lacking}
 use mathlib.Core.List.{List}
 use Rattle.net.specs.Net.{Replay}
 use Rattle.net.specs.declared.Arc.{Arc}
 use Rattle.file.specs.declared.Header.{Header}
 use Rattle.promise.specs.Firing.{ReplayAnswer, replayTold}
 use Rattle.replay.proofs.Firing.{arcs-fit, split-by}
-use Rattle.replay.proofs.Short.{Covered, covered-none, covered-next, enabled, place-known}
+use Rattle.replay.proofs.Short.{Covered, covered-none, covered-next, lacking, enabled, place-known}
 use Rattle.replay.proofs.Short as short
 use Rattle.ahead.specs.Steps.{Underway}
 use Rattle.ahead.proofs.Underway.{known, ready-still, fired-on}
@@ -94,17 +94,27 @@ add-up-requires c κs =
     let x = c .before .before .before .loop .inv in
     (c .arc .ensures .1 .weight, omega (arith, x .low, x .within, x .sound .placed .arcs))
 
-mul-if2 : tie.Need-mul-if2 Inv-loop μ-loop Inv-firings μ-firings
-mul-if2 c = omega (arith, c .before .arc .ensures .1 .place)
+mul-count : tie.Need-mul-count Inv-loop μ-loop Inv-firings μ-firings
+mul-count c = omega (arith, c .before .arc .ensures .1 .place)
 
-slice-read-if2 : tie.Need-slice-read-if2 Inv-loop μ-loop Inv-firings μ-firings
-slice-read-if2 c = omega (arith, place-known (c .before .before .before .before .before .loop .inv) (c .before .before .before .before .loop-test .taken), ap (λ (x : Arc). x .place) (c .before .before .arc .ensures .0), here (c .before .before .before .before .before .before .before .before .before .before) .long, c .before .before .before .before .before .before .before .before .before .before .before .before .before .before .before .before .before .before .before .pre .0 .places)
+slice-read-count : tie.Need-slice-read-count Inv-loop μ-loop Inv-firings μ-firings
+slice-read-count c = omega (arith, place-known (c .before .before .before .before .before .loop .inv) (c .before .before .before .before .loop-test .taken), ap (λ (x : Arc). x .place) (c .before .before .arc .ensures .0), here (c .before .before .before .before .before .before .before .before .before .before) .long, c .before .before .before .before .before .before .before .before .before .before .before .before .before .before .before .before .before .before .before .pre .0 .places)
 
 cast-index : tie.Need-cast-index Inv-loop μ-loop Inv-firings μ-firings
 cast-index c = omega (arith, (c .before .before .before .before .before .before .before .before .before .before .if1 .left), here (c .before .before .before .before .before .before .before .before .before .before .before) .listed .short)
 
 cast-place : tie.Need-cast-place Inv-loop μ-loop Inv-firings μ-firings
 cast-place c = omega (arith, c .before .before .before .arc .ensures .1 .place)
+
+missing-requires : tie.Need-missing-requires Inv-loop μ-loop Inv-firings μ-firings
+missing-requires c κs =
+    let m = c .before .before .before .before .before .before .before .before .before .before .before .firings .marking in
+    let j = c .before .before .before .before .before .before .loop .j in
+    let a = c .before .before .before .arc .ensures .0 in
+    let n = c .before .before .add-up .result in
+    subst (λ (b : Arc). Lacking (c .before .before .before .before .before .before .before .before .before .before .before .before .before .before .before .before .before .before .before .before .args .file .now) (c .before .before .before .before .before .before .before .before .before .before .before .before .before .before .before .before .before .before .before .before .args .h) j n (getD m (b .place) 0)) (sym a)
+    (lacking (c .before .before .before .before .before .before .loop .inv) (c .before .before .before .before .before .loop-test .taken) n (sum-by (c .before .before .before .before .before .before .before .before .before .before .before .before .before .before .before .before .before .before .before .before .args .file .now) (c .before .before .before .before .before .before .before .before .before .before .before .before .before .before .before .before .before .before .before .before .args .h) j (c .before .before .before .before .before .before .loop .last) (c .before .before .before .before .before .before .loop .need) n _ a (c .before .before .add-up .ensures)) (subst (λ (b : Arc). b .weight < 65536) a (c .before .before .before .arc .ensures .1 .weight))
+    (subst (λ (b : Arc). getD m (b .place) 0 < n) a (c .if2 .taken)))
 
 add-j : tie.Need-add-j Inv-loop μ-loop Inv-firings μ-firings
 add-j c = omega (arith, short.known (c .before .before .before .before .before .before .loop .inv) (c .before .before .before .before .before .loop-test .taken), c .before .before .before .before .before .before .loop .inv .sound .placed .arcs)
@@ -145,16 +155,22 @@ returns c =
     (ap (λ (R : Replay). replayTold (R .answer)) (sym e), tokens-left (here (c .before)) e)
 
 same-length-2 : tie.Need-same-length-2 Inv-loop μ-loop Inv-firings μ-firings
-same-length-2 c = here (c .before .before .before .before .before .before .before .before .before .before .before) .long
+same-length-2 c = here (c .before .before .before .before .before .before .before .before .before .before .before .before) .long
+
+stuck-told : (k : ℕ) {p q m n : ℕ} → p ≡ q → m ≡ n
+    → _≡_ {A = ReplayAnswer} (record { refusal = 0; stuck = true; index = k; place = p; amount = m }) (record { refusal = 0; stuck = true; index = k; place = q; amount = n })
+stuck-told k e f = λ i. record { refusal = 0; stuck = true; index = k; place = e i; amount = f i }
 
 returns-2 : tie.Need-returns-2 Inv-loop μ-loop Inv-firings μ-firings
 returns-2 c =
-    let k = c .before .before .before .before .before .before .before .before .before .before .before .firings .k in
-    let a = c .before .before .before .arc .ensures .0 in
-    let n = c .before .before .add-up .result in
-    let e = stuck-at (here (c .before .before .before .before .before .before .before .before .before .before .before)) (c .before .before .before .before .before .before .before .before .before .before .if1 .left) (c .before .before .before .before .before .before .loop .inv) (c .before .before .before .before .before .loop-test .taken) n (sum-by (c .before .before .before .before .before .before .before .before .before .before .before .before .before .before .before .before .before .before .before .before .args .file .now) (c .before .before .before .before .before .before .before .before .before .before .before .before .before .before .before .before .before .before .before .before .args .h) (c .before .before .before .before .before .before .loop .j) (c .before .before .before .before .before .before .loop .last) (c .before .before .before .before .before .before .loop .need) n _ a (c .before .before .add-up .ensures)) (subst (λ (b : Arc). getD (c .before .before .before .before .before .before .before .before .before .before .before .firings .marking) (b .place) 0 < n) a (c .if2 .taken)) in
-    let told : Arc → ReplayAnswer = λ a. record { refusal = 0; stuck = true; index = k; place = a .place } in
-    (ap told a ∙ ap (λ (R : Replay). replayTold (R .answer)) (sym e), tokens-left (here (c .before .before .before .before .before .before .before .before .before .before .before)) e)
+    let m = c .before .before .before .before .before .before .before .before .before .before .before .before .firings .marking in
+    let k = c .before .before .before .before .before .before .before .before .before .before .before .before .firings .k in
+    let j = c .before .before .before .before .before .before .before .loop .j in
+    let a = c .before .before .before .before .arc .ensures .0 in
+    let n = c .before .before .before .add-up .result in
+    let amount = c .missing .ensures ∙ ap (λ (b : Arc). needAt (c .before .before .before .before .before .before .before .before .before .before .before .before .before .before .before .before .before .before .before .before .before .args .file .now) (c .before .before .before .before .before .before .before .before .before .before .before .before .before .before .before .before .before .before .before .before .before .args .h) j - getD m (b .place) 0) a in
+    let e = stuck-at (here (c .before .before .before .before .before .before .before .before .before .before .before .before)) (c .before .before .before .before .before .before .before .before .before .before .before .if1 .left) (c .before .before .before .before .before .before .before .loop .inv) (c .before .before .before .before .before .before .loop-test .taken) n (sum-by (c .before .before .before .before .before .before .before .before .before .before .before .before .before .before .before .before .before .before .before .before .before .args .file .now) (c .before .before .before .before .before .before .before .before .before .before .before .before .before .before .before .before .before .before .before .before .before .args .h) j (c .before .before .before .before .before .before .before .loop .last) (c .before .before .before .before .before .before .before .loop .need) n _ a (c .before .before .before .add-up .ensures)) (subst (λ (b : Arc). getD m (b .place) 0 < n) a (c .before .if2 .taken)) in
+    (stuck-told k (ap (λ (b : Arc). b .place) a) amount ∙ ap (λ (R : Replay). replayTold (R .answer)) (sym e), tokens-left (here (c .before .before .before .before .before .before .before .before .before .before .before .before)) e)
 
 pub run-spec : {M : Type 1} → statement M
 run-spec =
@@ -179,10 +195,11 @@ run-spec =
     add-arc
     arc-requires
     add-up-requires
-    mul-if2
-    slice-read-if2
+    mul-count
+    slice-read-count
     cast-index
     cast-place
+    missing-requires
     add-j
     loop-less
     loop-again

@@ -35,7 +35,7 @@ pub fn arcs(case: &ArcsCase) -> Answer {
 #[cfg(feature = "replay")]
 pub fn replay(case: &ReplayCase) -> Answer {
     let (file, list, mut marking) = (case.file.clone(), case.list.clone(), case.marking.clone());
-    let (mut index, mut place) = (UNSET, UNSET);
+    let (mut index, mut place, mut amount) = (UNSET, UNSET, UNSET);
     let number = unsafe {
         nesfoal_replay(
             file.pointer(),
@@ -46,10 +46,11 @@ pub fn replay(case: &ReplayCase) -> Answer {
             marking.len,
             &mut index,
             &mut place,
+            &mut amount,
         )
     };
     let inputs_kept = file == case.file && list == case.list;
-    Answer { number, outs: [i64::from(index), i64::from(place), 0], cells: Cells::Longs(marking.cells), inputs_kept }
+    Answer { number, outs: [i64::from(index), i64::from(place), i64::from(amount)], cells: Cells::Longs(marking.cells), inputs_kept }
 }
 
 #[cfg(feature = "safety")]

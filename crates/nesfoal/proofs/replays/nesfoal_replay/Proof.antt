@@ -14,6 +14,9 @@ index-of-requires c κs = search needs
 place-of-requires : tie.Need-place-of-requires
 place-of-requires c κs = search needs
 
+amount-of-requires : tie.Need-amount-of-requires
+amount-of-requires c κs = search needs
+
 code-requires : tie.Need-code-requires
 code-requires c κs = search needs
 
@@ -22,13 +25,16 @@ same-length c = search needs
 
 returns : tie.Need-returns
 returns c =
-    let e = c .before .before .before .before .before .replay .ensures in (
+    let e = c .before .before .before .before .before .before .replay .ensures in (
       c .code .ensures ∙ ap replayCode (e .0),
       (
         e .1,
         (
-          c .before .before .index-of .ensures ∙ ap (λ (a : ReplayAnswer). a .index) (e .0),
-          c .before .place-of .ensures ∙ ap (λ (a : ReplayAnswer). a .place) (e .0),
+          c .before .before .before .index-of .ensures ∙ ap (λ (a : ReplayAnswer). a .index) (e .0),
+          (
+            c .before .before .place-of .ensures ∙ ap (λ (a : ReplayAnswer). a .place) (e .0),
+            c .before .amount-of .ensures ∙ ap (λ (a : ReplayAnswer). a .amount) (e .0),
+          ),
         ),
       ),
     )
@@ -40,6 +46,7 @@ nesfoal-replay-spec =
     replay-requires
     index-of-requires
     place-of-requires
+    amount-of-requires
     code-requires
     same-length
     returns)
