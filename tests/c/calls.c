@@ -161,6 +161,14 @@ static void replays(void)
     uint32_t index, place, amount;
     expect("65,536 firings", nesfoal_replay(plan, 108, longest, 65536, marking, 5, &index, &place, &amount), 11);
     expect("no file", nesfoal_replay(NULL, 0, NULL, 0, NULL, 0, &index, &place, &amount), 1);
+    uint8_t parallel[108];
+    memcpy(parallel, plan, 108);
+    parallel[32] = 0; /* the second arc is parallel to the first, */
+    parallel[34] = 5; /* and takes 5: of 2 tokens, 4 are missing */
+    expect("parallel arcs", nesfoal_replay(parallel, 108, longest, 1, marking, 5, &index, &place, &amount), 100);
+    expect("parallel arcs, index", index, 0);
+    expect("parallel arcs, place", place, 0);
+    expect("parallel arcs, amount", amount, 4);
 }
 
 static void cuts(void)

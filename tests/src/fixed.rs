@@ -455,6 +455,13 @@ pub fn replays() -> Vec<Fixed<ReplayCase>> {
     add("the second arc of three sticks".into(), &parallel(&[3, 2, 0]), &[0], 3, 100, (0, 1, 4), &[3, 2, 0]);
     add("the first arc of two sticks".into(), &parallel(&[1, 0, 0]), &[0], 3, 100, (0, 0, 2), &[1, 0, 0]);
     add("the last arc of three sticks".into(), &parallel(&[3, 5, 9]), &[0], 3, 100, (0, 1, 1), &[3, 5, 9]);
+    add("the amount is of that place alone".into(), &parallel(&[2, 0, 0]), &[0], 3, 100, (0, 0, 1), &[2, 0, 0]);
+    let widest = |held| Draft::plan(vec![held], 1, vec![DraftArc::new(0, 0, 0, 65_535); 4096]).bytes();
+    let most = 65_535 * 4096;
+    add("the largest shortage".into(), &widest(0), &[0], 1, 100, (0, 0, i64::from(most)), &[0]);
+    add("the largest sum, one short".into(), &widest(most - 1), &[0], 1, 100, (0, 0, 1), &[u64::from(most) - 1]);
+    add("the largest sum, enough".into(), &widest(most), &[0], 1, 0, (0, 0, 0), &[0]);
+    add("the largest sum, the second time".into(), &widest(most), &[0, 0], 1, 100, (1, 0, i64::from(most)), &[0]);
     for (name, bad, number) in bad_of_either() {
         add(name, &bad, &[0], 5, number, (0, 0, 0), &[]);
     }

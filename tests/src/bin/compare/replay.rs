@@ -25,10 +25,10 @@ impl Call for Replay {
         library::replay(case)
     }
 
-    /// Another short place where a later firing sticks.
+    /// Another short place where a later firing sticks; where the first does, one token too many.
     fn spoil(answer: &mut Answer) {
-        if answer.number == 100 && answer.outs[0] > 0 {
-            answer.outs[1] += 1;
+        if answer.number == 100 {
+            answer.outs[if answer.outs[0] > 0 { 1 } else { 2 }] += 1;
         }
     }
 }
