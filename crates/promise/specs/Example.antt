@@ -72,6 +72,10 @@ pub record Noted : Type 0 where
   pub weightless : fileRefusal due.Plan (set smallPlan 26 0) ≡ 6
   pub heaviest : fileRefusal due.Plan (set (set smallPlan 26 255) 27 255) ≡ 0
   pub many-places : fileRefusal due.Plan (set (set smallPlan 96 1) 97 4) ≡ 4
+  -- in(p,t) less M(p): with a weight of 5 transition 2 wants 5 tokens of place 3, which has 1; with the parallel arcs 1 and 5 transition 0 wants 6 of place 0, which has 2
+  pub four-missing : replayAnswer (set smallPlan 74 5) (0 ∷ 1 ∷ 2 ∷ []) 6 .amount ≡ 4
+  pub four-of-a-sum : replayAnswer (set (set smallPlan 32 0) 34 5) (0 ∷ []) 6 .amount ≡ 4
+  pub none-missing : replayAnswer smallPlan (0 ∷ []) 6 .amount ≡ 0
   pub no-place : effectAnswer smallPlan 5 9 ≡ record { refusal = 10; effect = pos 0 }
   pub no-transition : effectAnswer smallPlan 4 4 ≡ record { refusal = 12; effect = pos 0 }
   pub little-room : replayAnswer smallPlan [] 4 ≡ record { refusal = 13; stuck = false; index = 0; place = 0; amount = 0 }
