@@ -50,7 +50,8 @@ pub fn replay(case: &ReplayCase) -> Answer {
         )
     };
     let inputs_kept = file == case.file && list == case.list;
-    Answer { number, outs: [i64::from(index), i64::from(place), i64::from(amount)], cells: Cells::Longs(marking.cells), inputs_kept }
+    let outs = [i64::from(index), i64::from(place), i64::from(amount)];
+    Answer { number, outs, cells: Cells::Longs(marking.cells), inputs_kept }
 }
 
 #[cfg(feature = "safety")]
