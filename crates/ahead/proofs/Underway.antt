@@ -1,24 +1,26 @@
 -- A replay, firing by firing. Assumes nothing.
-use Prim.Native.Nat.{ℕ, suc, _+_, _-_, _*_, _<_, _≤_}
+use Prim.Native.Nat.{ℕ, suc, _+_, _*_, _<_, _≤_}
 use mathlib.Core.Path.{_≡_, refl, ap, sym, _∙_, fun-ext}
 use mathlib.Core.List.{List, _∷_}
 use native.Mathlib.Numerals.{add-one}
 use native.Mathlib.Omega.{arith}
 use lib.ListN.{length, getD, drop, drop-of-length-le}
 use lib.Seq.{drop-cons}
-use Rattle.net.specs.Net.{Net, Marking, Enabled, fired, stuck, input, output, fire, shortPlace, replayFrom}
+use Rattle.net.specs.Net.{Net, Marking, Supplied, Enabled, fired, short, input, output, fire, replayFrom, ShortAt}
 use Rattle.net.proofs.Replay.{test-passes, test-short}
+use Rattle.net.proofs.Uncapped.{uncapped-enabled}
 use Rattle.file.specs.Word.{Bytes}
 use Rattle.file.specs.Layout.{netFrom}
 use Rattle.file.specs.Facts.{Sound}
 use Rattle.file.specs.declared.Header.{Header}
+use Rattle.file.proofs.Caps.{no-caps}
 use Rattle.gain.proofs.Arcs.{weight-le}
 use Rattle.ahead.specs.Steps.{held, Ready, Holds, Listed, Underway}
 
 module _ (N : Net) (i : ℕ) (M : Marking) (t : ℕ) (ts : List ℕ) where
-  step-stuck : (p : ℕ) → p < N .places → shortPlace N t M ≡ p → replayFrom N i M (t ∷ ts) ≡ record { answer = stuck i p (input N p t - M p); marking = M }
+  step-stuck : (p n : ℕ) → ShortAt N t M p n → replayFrom N i M (t ∷ ts) ≡ record { answer = short i p n; marking = M }
   unfolding replayFrom
-  step-stuck p l e = rw (test-short N t M p l e, replayFrom)
+  step-stuck p n w = rw (test-short N t M p n w, replayFrom)
 
   step-on : Enabled N t M → replayFrom N i M (t ∷ ts) ≡ replayFrom N (suc i) (fire N t M) ts
   unfolding replayFrom
@@ -30,8 +32,8 @@ module _ (N : Net) (ts : List ℕ) (k : ℕ) (M : Marking) where
   replay-end l = rw (drop-of-length-le ts l)
 
   module _ (l : k < length ts) where
-    pub replay-stuck : (p : ℕ) → p < N .places → shortPlace N (getD ts k 0) M ≡ p → replayFrom N k M (drop k ts) ≡ record { answer = stuck k p (input N p (getD ts k 0) - M p); marking = M }
-    replay-stuck p u e = rw (drop-cons ts k 0 l) (step-stuck N k M (getD ts k 0) (drop (suc k) ts) p u e)
+    pub replay-stuck : (p n : ℕ) → ShortAt N (getD ts k 0) M p n → replayFrom N k M (drop k ts) ≡ record { answer = short k p n; marking = M }
+    replay-stuck p n w = rw (drop-cons ts k 0 l) (step-stuck N k M (getD ts k 0) (drop (suc k) ts) p n w)
 
     replay-on : Enabled N (getD ts k 0) M → replayFrom N k M (drop k ts) ≡ replayFrom N (k + 1) (fire N (getD ts k 0) M) (drop (k + 1) ts)
     replay-on u = rw (drop-cons ts k 0 l, add-one k) (step-on N k M (getD ts k 0) (drop (suc k) ts) u)
@@ -62,6 +64,6 @@ module _ {s : List ℕ} {h : Header} {ts m₀ : List ℕ} where
         low = λ p. omega (arith, u .low p, f .at p, few b p, w .placed .arcs);
         same =
             ap (λ (M : Marking). replayFrom (netFrom s h) (k + 1) M (drop (k + 1) ts)) (fun-ext (f .at))
-            ∙ sym (replay-on (netFrom s h) ts k (held m) l (unfold Enabled in λ p u. enabled p))
+            ∙ sym (replay-on (netFrom s h) ts k (held m) l (uncapped-enabled (netFrom s h) (no-caps s h) (getD ts k 0) (held m) (unfold Supplied in λ p u. enabled p)))
             ∙ u .same;
       }

@@ -4,7 +4,7 @@ use mathlib.Core.Path.{_≡_, _∙_}
 use mathlib.Core.List.{List}
 use native.Mathlib.Omega.{arith}
 use lib.ListN.{replicate, length-replicate, getD-replicate}
-use Rattle.net.specs.Net.{Net}
+use Rattle.net.specs.Net.{Net, Uncapped}
 use Rattle.net.specs.Slice.{Slice}
 use Rattle.net.specs.Checker.{Rule, breaks, breaker, verdictFrom}
 use Rattle.promise.specs.Calls.{told}
@@ -13,16 +13,16 @@ use Rattle.kept.proofs.Firsts.{first-none}
 use Rattle.agree.specs.Entries.{leftPlace, leftTransition}
 use Rattle.agree.specs.Pass.{Blank, Unbroken, Agreed}
 use Rattle.checker.specs.Room.{rulesFrom4, KnownIn}
-use Rattle.checker.proofs.Steps.{holds-here, none-left, range4, range5, range6, range7, range8}
+use Rattle.checker.proofs.Steps.{holds-here, caps-left, range4, range5, range6, range7, range8}
 
 -- no number breaks the rule: its lowest number is past its range
 past : (R : Rule) → Unbroken R → R .range ≡ breaker R
 unfolding breaker
 past R u = first-none (breaks R) (R .range) (u .at)
 
-pub agreed-told : (N : Net) (S : Slice) (Q : List ℕ) → Agreed N S Q → record { code = 0; number = 0 } ≡ told (verdictFrom 4 (rulesFrom4 N S Q))
-agreed-told N S Q a =
-    none-left 9
+pub agreed-told : (N : Net) (S : Slice) (Q : List ℕ) → Uncapped N → Agreed N S Q → record { code = 0; number = 0 } ≡ told (verdictFrom 4 (rulesFrom4 N S Q))
+agreed-told N S Q none a =
+    caps-left N S none
     ∙ holds-here 8 _ _ _ _ (range8 N S) (past _ (a .eighth)) (omega (arith, range8 N S))
     ∙ holds-here 7 _ _ _ _ (range7 N S) (past _ (a .seventh)) (omega (arith, range7 N S))
     ∙ holds-here 6 _ _ _ _ (range6 N S Q) (past _ (a .sixth)) (omega (arith, range6 N S Q))

@@ -1,13 +1,15 @@
 -- "Rules in order": the verdict, one rule at a time. Assumes nothing.
 use Prim.Native.Nat.{ℕ, suc, _+_, _≤_, _<_}
-use mathlib.Core.Path.{_≡_, refl, ap}
+use mathlib.Core.Path.{_≡_, refl, ap, sym}
 use mathlib.Core.Bool.{true, false}
 use mathlib.Core.List.{List, [], _∷_}
 use lib.Dec.{ltb}
 use borrow.Author.Tests.{lt-ltb, le-ltb}
-use Rattle.net.specs.Net.{Net}
+use Rattle.net.specs.Net.{Net, Uncapped}
 use Rattle.net.specs.Slice.{Slice}
-use Rattle.net.specs.Checker.{Rule, breaker, verdictFrom, verdict, rules, rule1, rule2, rule3, rule4, rule5, rule6, rule7, rule8}
+use Rattle.net.specs.Checker.{Rule, breaker, verdictFrom, verdict, rules, rule1, rule2, rule3, rule4, rule5, rule6, rule7, rule8, rule9, rule10}
+use Rattle.net.proofs.Verdict.{AllHold, verdict-holds}
+use Rattle.net.proofs.Uncapped.{uncapped-rule9, uncapped-rule10}
 use Rattle.promise.specs.Calls.{told}
 use Rattle.checker.specs.Room.{rulesFrom4}
 
@@ -26,10 +28,10 @@ module _ (k : ℕ) (R : Rule) (l : List Rule) (n r : ℕ) (range : R .range ≡ 
       let e : ltb (breaker R) (R .range) ≡ false = le-ltb (breaker R) (R .range) (rw (← found, range) h) in
       rw (e, verdictFrom)
 
--- no rule is left: accepted
-pub none-left : (k : ℕ) → record { code = 0; number = 0 } ≡ told (verdictFrom k [])
-unfolding verdictFrom
-none-left k = refl
+-- rules 9 and 10 are left, which hold of a net without caps: accepted
+pub caps-left : (N : Net) (S : Slice) → Uncapped N → record { code = 0; number = 0 } ≡ told (verdictFrom 9 (rule9 N S ∷ rule10 N S ∷ []))
+unfolding AllHold
+caps-left N S none = ap told (sym (verdict-holds 9 (rule9 N S ∷ rule10 N S ∷ []) .1 (uncapped-rule9 N none S, (uncapped-rule10 N none S, tt))))
 
 -- the ranges
 module _ (N : Net) (S : Slice) where

@@ -5,7 +5,7 @@ use mathlib.Core.Path.{_≡_}
 use lib.ListN.{length}
 use Rattle.net.specs.Net.{Net}
 use Rattle.net.specs.Slice.{Slice}
-use Rattle.net.specs.Checker.{Rule, rule4, rule5, rule6, rule7, rule8}
+use Rattle.net.specs.Checker.{Rule, rule4, rule5, rule6, rule7, rule8, rule9, rule10}
 use Rattle.file.specs.Layout.{sliceFrom}
 use Rattle.file.specs.Facts.{Sound}
 use Rattle.file.specs.Criterion.{criterionRefusal}
@@ -13,11 +13,11 @@ use Rattle.file.specs.declared.Header.{Header}
 use Rattle.own.specs.Own.{Own}
 use Rattle.kept.specs.Known.{Known}
 
--- rules 6 to 8
+-- rules 6 to 10
 abbrev pub rulesFrom6 : Net → Slice → List ℕ → List Rule
-rulesFrom6 N S Q = rule6 N S Q ∷ rule7 N S ∷ rule8 N S ∷ []
+rulesFrom6 N S Q = rule6 N S Q ∷ rule7 N S ∷ rule8 N S ∷ rule9 N S ∷ rule10 N S ∷ []
 
--- rules 4 to 8
+-- rules 4 to 10
 abbrev pub rulesFrom4 : Net → Slice → List ℕ → List Rule
 rulesFrom4 N S Q = rule4 N S ∷ rule5 N S Q ∷ rulesFrom6 N S Q
 

@@ -6,3 +6,4 @@ pub mod Rising
 pub mod RoundTrip
 pub mod Rows
 pub mod Words
+pub mod Caps

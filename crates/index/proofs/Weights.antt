@@ -26,7 +26,7 @@ sumOf s h m d p t = weightOn d p t (arcsFrom s (h .arcstart) m)
 
 -- t moves p in the direction d, as the first m arcs tell
 abbrev pub told : List ℕ → Header → ℕ → ℕ → ℕ → ℕ → Bool
-told s h m d p t = moves (record { places = h .places; transitions = h .transitions; marking = netFrom s h .marking; arcs = arcsFrom s (h .arcstart) m }) d p t
+told s h m d p t = moves (record { places = h .places; transitions = h .transitions; marking = netFrom s h .marking; cap = netFrom s h .cap; arcs = arcsFrom s (h .arcstart) m }) d p t
 
 pub told-lowers : (s : List ℕ) (h : Header) (m p t : ℕ) → told s h m 0 p t ≡ ltb (sumOf s h m 1 p t) (sumOf s h m 0 p t)
 unfolding moves input output

@@ -8,10 +8,11 @@ use lib.Dec.{eqb, ltb}
 use lib.ListN.{length, getD}
 use borrow.Author.Tests.{eq-eqb, ne-eqb}
 use Rattle.net.specs.Numbers.{among, position, first}
-use Rattle.net.specs.Net.{Net}
+use Rattle.net.specs.Net.{Net, Uncapped}
 use Rattle.net.specs.Slice.{Slice, placeOf, transitionOf}
 use Rattle.net.specs.Checker.{breaks, breaker, rule1, rule2, rule3, rule5}
 use Rattle.net.proofs.Numbers.{position-at}
+use Rattle.net.proofs.Uncapped.{uncapped-rule3}
 use Rattle.file.specs.Facts.{RisingFrom}
 use Rattle.kept.specs.Known.{Known, firstUnknown}
 use Rattle.kept.proofs.Firsts.{all-known, scan-found, scan-none, rising}
@@ -36,7 +37,7 @@ transitions-known N S e h = all-known (N .transitions) (S .transitionOrigins) (S
 pub record Alike (N : Net) (S : Slice) (k : ℕ) : Type 0 where
   pub tokens : S .net .marking k ≡ N .marking (getD (S .placeOrigins) k 0)
 
-module _ (N : Net) (S : Slice) (rise : RisingFrom 0 (S .placeOrigins)) (known : Known (N .places) (S .placeOrigins)) where
+module _ (N : Net) (S : Slice) (none : Uncapped N) (none′ : Uncapped (S .net)) (rise : RisingFrom 0 (S .placeOrigins)) (known : Known (N .places) (S .placeOrigins)) where
   at-origin : (k : ℕ) → k < length (S .placeOrigins)
       → not (eqb (S .net .marking (position (getD (S .placeOrigins) k 0) (S .placeOrigins))) (N .marking (getD (S .placeOrigins) k 0)))
       ≡ not (eqb (S .net .marking k) (N .marking (getD (S .placeOrigins) k 0)))
@@ -48,17 +49,19 @@ module _ (N : Net) (S : Slice) (rise : RisingFrom 0 (S .placeOrigins)) (known : 
 
   pub marking-found : (i : ℕ) → i < length (S .placeOrigins) → ((k : ℕ) → k < i → Alike N S k)
       → (S .net .marking i ≡ N .marking (getD (S .placeOrigins) i 0) → ⊥) → getD (S .placeOrigins) i 0 ≡ breaker (rule3 N S)
-  unfolding breaker breaks rule3
+  unfolding breaker breaks
   marking-found i l same other =
       scan-found (S .placeOrigins) rise (N .places) (known .at) (λ p. not (eqb (S .net .marking (position p (S .placeOrigins))) (N .marking p))) i l
       (λ k d. alike k (omega arith) (same k d))
       (at-origin i l ∙ rw (ne-eqb _ _ other))
+      ∙ ap breaker (sym (uncapped-rule3 N none S none′))
 
   pub marking-none : ((k : ℕ) → k < length (S .placeOrigins) → Alike N S k) → N .places ≡ breaker (rule3 N S)
-  unfolding breaker breaks rule3
+  unfolding breaker breaks
   marking-none same =
       scan-none (S .placeOrigins) rise (N .places) (known .at) (λ p. not (eqb (S .net .marking (position p (S .placeOrigins))) (N .marking p)))
       (λ k d. alike k d (same k d))
+      ∙ ap breaker (sym (uncapped-rule3 N none S none′))
 
 module _ (N : Net) (S : Slice) (Q : List ℕ) (rise : RisingFrom 0 Q) (known : (i : ℕ) → i < length Q → getD Q i 0 < N .places) where
   pub missing-found : (i : ℕ) → i < length Q → ((k : ℕ) → k < i → among (getD Q k 0) (S .placeOrigins) ≡ true)

@@ -6,7 +6,8 @@ pub mod Subnet
 pub mod Shadow
 pub mod Closure
 pub mod Worklist
-pub mod Rakow
 pub mod Theorem
 pub mod Verdict
+pub mod Uncapped
+pub mod Rakow
 pub mod Replay

@@ -64,6 +64,7 @@ replay-low N small i M (t ∷ ts) p =
     by-test (testFiring N t M)
     (λ e. rw (e, replayFrom) (omega (arith, small p t, replay-low N small (suc i) (fire N t M) ts p)))
     (λ q n e. rw (e, replayFrom) (omega arith))
+    (λ q n e. rw (e, replayFrom) (omega arith))
 
 -- "a marking 0 to 4,294,967,295"
 marking-low : (file : List ℕ) → Bytes file → (p : ℕ) → netOf file .marking p < 4294967296

@@ -7,11 +7,16 @@ use mathlib.Core.Path.{_≡_}
 use mathlib.Core.Bool.{true, false}
 use lib.ListN.{length, take, drop, set}
 use lib.IntN.{pos, negsuc}
+use lib.Dec.{eqb}
+use Rattle.net.specs.Net.{Net, counted, short, full, replay, tokens}
+use Rattle.net.specs.Cut.{safety, branching, keptPlaces, keptTransitions}
+use Rattle.net.specs.Slice.{keeping, cut}
+use Rattle.net.specs.Checker.{accepted, broken, verdict}
 use Rattle.net.specs.Guarantee.{planTokens, sliceTokens}
 use Rattle.file.specs.Layout.{netOf, sliceOf}
 use Rattle.file.specs.Refusal.{fileRefusal}
 use Rattle.file.specs.declared.Due.the-variants as due
-use Rattle.promise.specs.Calls.{safetyFile, branchingFile, safetyAnswer, checked, checkedBytes}
+use Rattle.promise.specs.Calls.{cutOf, safetyFile, branchingFile, safetyAnswer, checked, checkedBytes}
 use Rattle.promise.specs.Firing.{effectAnswer, replayAnswer, replayMarking, projectAnswer, projectOutput, arcRun}
 
 -- "Places 0 waiting (2 tokens), 1 bay free (1), 2 in bay, 3 left, 4 bell (0 each)", the arcs of transitions 0 to 3, the trailer
@@ -46,7 +51,7 @@ pub record Holds (file ps ts : List ℕ) (arcs bytes : ℕ) : Type 0 where
 
 -- a list that fires, and the six entries lent after it, the last of them being 7 before
 pub record Ends (plan list entries : List ℕ) : Type 0 where
-  pub answer : replayAnswer plan list 6 ≡ record { refusal = 0; stuck = false; index = 0; place = 0; amount = 0 }
+  pub answer : replayAnswer plan list 6 ≡ record { refusal = 0; stuck = false; full = false; index = 0; place = 0; amount = 0 }
   pub marking : replayMarking plan list (9 ∷ 9 ∷ 9 ∷ 9 ∷ 9 ∷ 7 ∷ []) ≡ entries
 
 -- the starred examples
@@ -54,8 +59,8 @@ pub record Starred : Type 0 where
   pub file : (length smallPlan ≡ 108) × (fileRefusal due.Plan smallPlan ≡ 0)
   pub fires : Ends smallPlan (0 ∷ 1 ∷ 0 ∷ 1 ∷ 2 ∷ []) (0 ∷ 1 ∷ 0 ∷ 0 ∷ 1 ∷ 7 ∷ [])
   pub empty : Ends smallPlan [] (2 ∷ 1 ∷ 0 ∷ 0 ∷ 0 ∷ 7 ∷ [])
-  pub second-sticks : replayAnswer smallPlan (0 ∷ 0 ∷ []) 6 ≡ record { refusal = 0; stuck = true; index = 1; place = 1; amount = 1 }
-  pub third-sticks : replayAnswer smallPlan (3 ∷ 3 ∷ 0 ∷ []) 6 ≡ record { refusal = 0; stuck = true; index = 2; place = 0; amount = 1 }
+  pub second-sticks : replayAnswer smallPlan (0 ∷ 0 ∷ []) 6 ≡ record { refusal = 0; stuck = true; full = false; index = 1; place = 1; amount = 1 }
+  pub third-sticks : replayAnswer smallPlan (3 ∷ 3 ∷ 0 ∷ []) 6 ≡ record { refusal = 0; stuck = true; full = false; index = 2; place = 0; amount = 1 }
   pub takes-two : effectAnswer smallPlan 3 2 ≡ record { refusal = 0; effect = negsuc 1 }
   pub no-effect : effectAnswer smallPlan 0 1 ≡ record { refusal = 0; effect = pos 0 }
   pub safety-for-2 : Holds (safetyFile smallPlan (2 ∷ [])) (0 ∷ 1 ∷ 2 ∷ []) (0 ∷ 1 ∷ []) 5 78
@@ -78,7 +83,7 @@ pub record Noted : Type 0 where
   pub none-missing : replayAnswer smallPlan (0 ∷ []) 6 .amount ≡ 0
   pub no-place : effectAnswer smallPlan 5 9 ≡ record { refusal = 10; effect = pos 0 }
   pub no-transition : effectAnswer smallPlan 4 4 ≡ record { refusal = 12; effect = pos 0 }
-  pub little-room : replayAnswer smallPlan [] 4 ≡ record { refusal = 13; stuck = false; index = 0; place = 0; amount = 0 }
+  pub little-room : replayAnswer smallPlan [] 4 ≡ record { refusal = 13; stuck = false; full = false; index = 0; place = 0; amount = 0 }
   pub cut-counts : safetyAnswer smallPlan (2 ∷ []) 78 ≡ record { refusal = 0; length = 78; places = 3; transitions = 2 }
   pub cut-no-room : safetyAnswer smallPlan (2 ∷ []) 77 ≡ record { refusal = 13; length = 0; places = 0; transitions = 0 }
   pub no-criterion : checked smallPlan (safetyFile smallPlan (2 ∷ [])) [] ≡ record { code = 9; number = 0 }
@@ -103,8 +108,28 @@ pub record Parallels : Type 0 where
   pub file : (length parallelPlan ≡ 116) × (fileRefusal due.Plan parallelPlan ≡ 0)
   pub takes-two : effectAnswer parallelPlan 3 2 ≡ record { refusal = 0; effect = negsuc 1 }
   pub fires : Ends parallelPlan (0 ∷ 1 ∷ 0 ∷ 1 ∷ 2 ∷ []) (0 ∷ 1 ∷ 0 ∷ 0 ∷ 1 ∷ 7 ∷ [])
-  pub sticks : replayAnswer parallelPlan (0 ∷ 1 ∷ 2 ∷ []) 6 ≡ record { refusal = 0; stuck = true; index = 2; place = 3; amount = 1 }
+  pub sticks : replayAnswer parallelPlan (0 ∷ 1 ∷ 2 ∷ []) 6 ≡ record { refusal = 0; stuck = true; full = false; index = 2; place = 3; amount = 1 }
   pub run : arcRun parallelPlan onePlaceCut false 2 ≡ 2 ∷ 0 ∷ 0 ∷ 0 ∷ 3 ∷ 0 ∷ 1 ∷ 0 ∷ 2 ∷ 0 ∷ 0 ∷ 0 ∷ 3 ∷ 0 ∷ 1 ∷ 0 ∷ 2 ∷ 0 ∷ 1 ∷ 0 ∷ 4 ∷ 0 ∷ 1 ∷ 0 ∷ []
   pub safety-for-3 : Holds (safetyFile parallelPlan (3 ∷ [])) (0 ∷ 1 ∷ 2 ∷ 3 ∷ []) (0 ∷ 1 ∷ 2 ∷ []) 8 110
   pub joined : checked parallelPlan (safetyFile smallPlan (3 ∷ [])) (3 ∷ []) ≡ record { code = 104; number = 2 }
   pub falling : fileRefusal due.Plan (set smallPlan 24 2) ≡ 7
+
+-- the small plan's net with a cap of 1 on place 3, as files of edition 2 will have it
+unfoldable pub cappedNet : Net
+cappedNet =
+    let N = netOf smallPlan in
+    record { places = N .places; transitions = N .transitions; marking = N .marking; cap = λ p. counted (eqb p 3) 1; arcs = N .arcs }
+
+-- what caps change
+pub record Capped : Type 0 where
+  pub full : replay cappedNet (0 ∷ 1 ∷ 0 ∷ 1 ∷ []) .answer ≡ full 3 3 1
+  pub before : tokens cappedNet (replay cappedNet (0 ∷ 1 ∷ 0 ∷ 1 ∷ []) .marking) ≡ 0 ∷ 0 ∷ 1 ∷ 1 ∷ 0 ∷ []
+  pub short-first : replay cappedNet (0 ∷ 1 ∷ 1 ∷ []) .answer ≡ short 2 2 1
+  pub safety-places : keptPlaces (safety cappedNet (2 ∷ [])) ≡ 0 ∷ 1 ∷ 2 ∷ 3 ∷ []
+  pub safety-transitions : keptTransitions (safety cappedNet (2 ∷ [])) ≡ 0 ∷ 1 ∷ 2 ∷ []
+  pub branching-places : keptPlaces (branching cappedNet (2 ∷ [])) ≡ 0 ∷ 1 ∷ 2 ∷ 3 ∷ []
+  pub branching-transitions : keptTransitions (branching cappedNet (2 ∷ [])) ≡ 0 ∷ 1 ∷ 2 ∷ 3 ∷ []
+  pub own-cut : verdict cappedNet (cut cappedNet (safety cappedNet (2 ∷ []))) (2 ∷ []) ≡ accepted
+  pub no-cap : verdict cappedNet (cutOf safety smallPlan (3 ∷ [])) (2 ∷ []) ≡ broken 3 3
+  pub no-output : verdict cappedNet (cutOf safety smallPlan (2 ∷ [])) (2 ∷ []) ≡ broken 9 1
+  pub no-changer : verdict cappedNet (keeping cappedNet (0 ∷ 1 ∷ 2 ∷ 3 ∷ []) (0 ∷ 1 ∷ [])) (2 ∷ []) ≡ broken 10 2

@@ -1,16 +1,14 @@
 -- The lowest place that is short, found among the input arcs of a transition in their order. Assumes nothing.
 use Prim.Native.Nat.{ℕ, _+_, _-_, _*_, _<_, _≤_}
 use mathlib.Core.Path.{_≡_, refl, ap, sym, _∙_, subst}
-use mathlib.Core.Bool.{Bool}
 use mathlib.Core.List.{List}
 use native.Mathlib.Omega.{arith}
 use native.Mathlib.Decide.{decLt, ℕ-discrete}
-use borrow.Author.Tests.{lt-ltb, ltb-true, eqb-true, eqb-false}
-use lib.Dec.{ltb, eqb}
+use borrow.Author.Tests.{eqb-true, eqb-false}
+use lib.Dec.{eqb}
 use lib.ListN.{getD}
-use Rattle.net.specs.Numbers.{first}
-use Rattle.net.specs.Net.{Net, Marking, input, weightOn, shortPlace}
-use Rattle.net.proofs.Numbers.{by-cases, holds, is-true, first-passes, first-lowest}
+use Rattle.net.specs.Net.{input, weightOn, ShortAt}
+use Rattle.net.proofs.Numbers.{by-cases}
 use Rattle.file.specs.Layout.{arcsFrom, netFrom}
 use Rattle.file.specs.Facts.{Sound}
 use Rattle.file.specs.declared.Header.{Header}
@@ -22,23 +20,6 @@ use Rattle.gain.proofs.Arcs.{good-at}
 use Rattle.gain.proofs.Shares.{share-is, share-unless, sum-next, sum-same, sum-more}
 use Rattle.groups.specs.Groups.{GroupEnd, runWeight}
 use Rattle.groups.proofs.Groups.{run-adds, none-after}
-
-module _ (N : Net) (t : ℕ) (M : Marking) where
-  pub short-is : (q : ℕ) → q < N .places → M q < input N q t → ((p : ℕ) → p < q → input N p t ≤ M p) → shortPlace N t M ≡ q
-  unfolding shortPlace
-  short-is q l short low = go (decLt (first (λ p. ltb (M p) (input N p t)) 0 (N .places)) q)
-    where
-      f : ℕ → Bool
-      f = λ p. ltb (M p) (input N p t)
-
-      most : first f 0 (N .places) ≤ q
-      most = first-lowest f 0 (N .places) q (omega arith) (omega arith) (holds (f q) (lt-ltb (M q) (input N q t) short))
-
-      go : Dec (first f 0 (N .places) < q) → first f 0 (N .places) ≡ q
-      go (yes u) =
-          let p = first f 0 (N .places) in
-          absurd (omega (arith, low p u, ltb-true (M p) (input N p t) (is-true (f p) (first-passes f 0 (N .places) (omega arith)))))
-      go (no u) = omega (arith, u, most)
 
 -- m has enough for the inputs of t before arc j, the last of which is at the place `last`, where they take `need`; the inputs are the arcs from..middle
 pub record Covered (s : List ℕ) (h : Header) (t from middle : ℕ) (m : List ℕ) (j last need : ℕ) : Type 0 where
@@ -188,12 +169,6 @@ module _ {s : List ℕ} {h : Header} {t from middle : ℕ} {m : List ℕ} where
                 (λ i a b. share-unless 0 r t (arcOn s h i) (λ e d p. omega (arith, key-le s (h .arcstart) 0 (h .arcs) j i (c .sound .order) a b, z .0, z .1))),
           )
 
-      pub short-here : (n : ℕ) → n ≡ choose (eqb (arcOn s h j .place) last) (need + arcOn s h j .weight) (arcOn s h j .weight) → getD m (arcOn s h j .place) 0 < n
-          → shortPlace (netFrom s h) t (held m) ≡ arcOn s h j .place
-      unfolding input
-      short-here n e g = short-is (netFrom s h) t (held m) (arcOn s h j .place) place-known
-          (omega (arith, adds-up n e, sum-more 0 (arcOn s h j .place) t s (h .arcstart) (j + 1) (h .arcs) (omega (arith, known)))) lower
-
       pub lacking : (n : ℕ) → n ≡ choose (eqb (arcOn s h j .place) last) (need + arcOn s h j .weight) (arcOn s h j .weight) → arcOn s h j .weight < 65536 → getD m (arcOn s h j .place) 0 < n
           → Lacking s h j n (getD m (arcOn s h j .place) 0)
       lacking n e w g =
@@ -207,8 +182,16 @@ module _ {s : List ℕ} {h : Header} {t from middle : ℕ} {m : List ℕ} where
             over = g;
           }
 
-      pub need-is : needAt s h j ≡ input (netFrom s h) (arcOn s h j .place) t
+      need-is : needAt s h j ≡ input (netFrom s h) (arcOn s h j .place) t
       need-is = ap (input (netFrom s h) (arcOn s h j .place)) (input-of j (c .begun) l .1)
+
+      pub short-here : (n : ℕ) → n ≡ choose (eqb (arcOn s h j .place) last) (need + arcOn s h j .weight) (arcOn s h j .weight) → getD m (arcOn s h j .place) 0 < n
+          → ShortAt (netFrom s h) t (held m) (arcOn s h j .place) (needAt s h j - getD m (arcOn s h j .place) 0)
+      unfolding input
+      short-here n e g =
+          let more = sum-more 0 (arcOn s h j .place) t s (h .arcstart) (j + 1) (h .arcs) (omega (arith, known)) in
+          let sum = adds-up n e in
+          record { place = place-known; amount = omega (arith, need-is, sum, more); some = omega (arith, need-is, sum, more); lowest = lower }
 
     pub enabled : middle ≤ j → (p : ℕ) → input (netFrom s h) p t ≤ getD m p 0
     unfolding input slotAt

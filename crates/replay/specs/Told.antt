@@ -12,9 +12,9 @@ use Rattle.replay.specs.declared.Outcome.the-variants.{Fired, Stuck, Ref
 
 -- document 01's number and values for each outcome
 abbrev pub outcomeNumbers : Outcome → ReplayAnswer
-outcomeNumbers Fired = record { refusal = 0; stuck = false; index = 0; place = 0; amount = 0 }
-outcomeNumbers (Stuck i p n) = record { refusal = 0; stuck = true; index = i; place = p; amount = n }
-outcomeNumbers (Refused n) = record { refusal = n; stuck = false; index = 0; place = 0; amount = 0 }
+outcomeNumbers Fired = record { refusal = 0; stuck = false; full = false; index = 0; place = 0; amount = 0 }
+outcomeNumbers (Stuck i p n) = record { refusal = 0; stuck = true; full = false; index = i; place = p; amount = n }
+outcomeNumbers (Refused n) = record { refusal = n; stuck = false; full = false; index = 0; place = 0; amount = 0 }
 
 -- "list, buffer": 11, 12, then 13 "shorter than P entries"
 abbrev pub heldBack : Header → List ℕ → ℕ → ℕ

@@ -1,7 +1,8 @@
 use borrow.Author.Needs.{needs}
 use native.Mathlib.Omega.{arith}
 use mathlib.Core.Path.{_∙_}
-use Rattle.checker.proofs.Steps.{broken-here, holds-here, none-left, range6, range7, range8}
+use Rattle.file.proofs.Caps.{no-caps}
+use Rattle.checker.proofs.Steps.{broken-here, holds-here, caps-left, range6, range7, range8}
 use Rattle.checker.proofs.movers_outcome.Statement.{statement}
 use Rattle.checker.proofs.movers_outcome.Tie as tie
 use Rattle.checker.proofs.movers_outcome.Reads as reads
@@ -88,7 +89,7 @@ same-length-8 c = search needs
 -- src/lib.rt:74:1
 returns-4 : tie.Need-returns-4
 returns-4 c =
-    none-left 9
+    caps-left _ _ (no-caps (c .before .before .before .before .before .before .before .before .before .before .before .before .before .before .before .before .before .before .before .before .before .before .before .before .before .before .args .plan .now) (c .before .before .before .before .before .before .before .before .before .before .before .before .before .before .before .before .before .before .before .before .before .before .before .before .before .before .args .hp))
     ∙ holds-here 8 _ _ _ _ (range8 _ _) (c .before .before .before .before .before .raiser-missing .ensures .0) (c .if3 .left)
     ∙ holds-here 7 _ _ _ _ (range7 _ _) (c .before .before .before .before .before .before .before .before .before .input-missing .ensures) (c .before .before .before .before .before .before .before .before .if2 .left)
     ∙ holds-here 6 _ _ _ _ (range6 _ _ _) (c .before .before .before .before .before .before .before .before .before .before .before .before .before .before .before .changer-missing .ensures .0) (c .before .before .before .before .before .before .before .before .before .before .if1 .left)

@@ -6,6 +6,7 @@ use denote.Ref.{now}
 use Rattle.net.specs.Checker.{verdictFrom, verdict}
 use Rattle.file.specs.Layout.{netFrom, sliceFrom}
 use Rattle.promise.specs.Calls.{told}
+use Rattle.file.proofs.Caps.{no-caps}
 use Rattle.checker.specs.Room.{rulesFrom4, KnownIn}
 use Rattle.file.proofs.Rows.{length-words}
 use Rattle.kept.proofs.Keeping.{places-known, transitions-known}
@@ -99,7 +100,7 @@ agreeing-requires : tie.Need-agreeing-requires
 agreeing-requires c κs = (c .before .before .before .before .before .before .before .before .before .before .before .before .pre, known c)
 
 returns-4 : tie.Need-returns-4
-returns-4 c = agreed-told _ _ _ (c .before .agreeing .ensures (c .if4 .taken)) ∙ first-three (c .before)
+returns-4 c = agreed-told _ _ _ (no-caps (now (c .before .before .before .before .before .before .before .before .before .before .before .before .before .before .args .plan)) (c .before .before .before .before .before .before .before .before .before .before .before .before .before .before .args .hp)) (c .before .agreeing .ensures (c .if4 .taken)) ∙ first-three (c .before)
 
 within-requires : tie.Need-within-requires
 within-requires c κs = search needs

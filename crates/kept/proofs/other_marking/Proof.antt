@@ -8,6 +8,7 @@ use borrow.Author.Count.{below-more}
 use Rattle.file.specs.Layout.{netFrom, sliceFrom}
 use Rattle.file.proofs.Rows.{length-words, words-at}
 use Rattle.kept.proofs.Reached.{place-origins}
+use Rattle.file.proofs.Caps.{no-caps}
 use Rattle.kept.proofs.Keeping.{Alike, marking-found, marking-none}
 use Rattle.kept.proofs.other_marking.Statement.{statement}
 use Rattle.kept.proofs.other_marking.Tie as tie
@@ -63,9 +64,10 @@ marking-requires-2 c κs = (c .before .before .before .before .before .before .p
 returns : tie.Need-returns Inv-loop μ-loop
 returns c =
     let pre = c .before .before .before .before .before .before .before .before .pre in
+    let a = c .before .before .before .before .before .before .before .before .args in
     let p = origin-is (c .before .before .before) in
     p
-    ∙ marking-found _ _ (pre .1 .0 .placeOrigins (pre .1 .1 .0)) (pre .1 .1 .1) (c .before .before .before .before .before .loop .i) (inside (c .before .before .before .before)) (c .before .before .before .before .before .loop .inv .1)
+    ∙ marking-found _ _ (no-caps (now (a .plan)) (a .hp)) (no-caps (now (a .slice)) (a .hs)) (pre .1 .0 .placeOrigins (pre .1 .1 .0)) (pre .1 .1 .1) (c .before .before .before .before .before .loop .i) (inside (c .before .before .before .before)) (c .before .before .before .before .before .loop .inv .1)
     (λ e. c .if1 .taken (c .before .marking2 .ensures .0 ∙ e ∙ ap (netFrom (now (c .before .before .before .before .before .before .before .before .args .plan)) (c .before .before .before .before .before .before .before .before .args .hp) .marking) (sym p) ∙ sym (c .before .before .marking .ensures .0)))
 
 -- src/lib.rt:85:9
@@ -90,7 +92,7 @@ returns-2 c =
     let pre = c .before .before .before .before .pre in
     let a = c .before .before .before .before .args in
     let long = length-words (now (a .slice)) (a .hs .originstart) (a .hs .places) in
-    marking-none _ _ (pre .1 .0 .placeOrigins (pre .1 .1 .0)) (pre .1 .1 .1) (λ k l. c .before .loop .inv .1 k (omega (arith, c .loop-test .left)))
+    marking-none _ _ (no-caps (now (a .plan)) (a .hp)) (no-caps (now (a .slice)) (a .hs)) (pre .1 .0 .placeOrigins (pre .1 .1 .0)) (pre .1 .1 .1) (λ k l. c .before .loop .inv .1 k (omega (arith, c .loop-test .left)))
 
 pub other-marking-spec : {M : Type 1} → statement M
 other-marking-spec =
