@@ -2,7 +2,7 @@
 -- Assumes nothing.
 use mathlib.Core.Path.{refl}
 use Rattle.net.specs.Numbers.{among, position, any, selected, first}
-use Rattle.net.specs.Net.{below, weightOn, input, output, effect, changes, raises, takesFrom, addsTo, capped, fire, after, shortPlace, fullPlace, testCaps, testFiring, replayFrom, replay, tokens}
+use Rattle.net.specs.Net.{below, weightOn, input, output, effect, changes, raises, takesFrom, addsTo, capped, fire, after, shortPlace, fullPlace, testInputs, testCaps, testFiring, replayFrom, replay, tokens}
 use Rattle.net.specs.Cut.{growth, safety, branching, drawnBy, grown, rounds, keptPlaces, keptTransitions}
 use Rattle.net.specs.Slice.{strike, own, project, renumber, restrict, arcsOf, sliceRun, planRun, placeOf, transitionOf, keeping, cut}
 use Rattle.net.specs.Guarantee.{planTokens, sliceTokens}
@@ -14,10 +14,10 @@ use Rattle.file.specs.Criterion.{placesRefusal, criterionRefusal, criterionOf, 
 use Rattle.file.specs.Writing.{markingsBytes, arcBytes, arcsBytes, originsBytes, sliceBody, trailerBytes, sliceBytes}
 use Rattle.promise.specs.Calls.{cutOf, safetyFile, branchingFile, cutRefusal, writeRefusal, safetyAnswer, checkRefusal, checked, checkedBytes}
 use Rattle.promise.specs.Firing.{effectRefusal, effectAnswer, listRefusal, replayRefusal, replayAnswer, replayMarking, projectRefusal, projectAnswer, projectOutput, before, runIn, arcRun}
-use Rattle.promise.specs.Example.{smallPlan, onePlace, onePlaceCut, parallelPlan, Starred, Noted, Parallels, cappedNet, Capped}
+use Rattle.promise.specs.Example.{smallPlan, onePlace, onePlaceCut, parallelPlan, Starred, Noted, Parallels, withCaps, oneCap, twoCaps, loopNet, Capped}
 
 pub starred : Starred
-unfolding among position any selected first below weightOn input output effect changes raises takesFrom addsTo capped fire shortPlace fullPlace testCaps testFiring replayFrom replay tokens growth safety branching drawnBy grown rounds keptPlaces keptTransitions strike own project renumber restrict arcsOf sliceRun planRun placeOf transitionOf keeping cut breaks breaker sameArc sameArcs lacksInput lacksOutput rule1 rule2 rule3 rule4 rule5 rule6 rule7 rule8 rule9 rule10 rules verdictFrom verdict le16 le32 bytes16 bytes32 trailerOf headerOf arcsFrom wordsFrom trailerRefusal arcsRefusal tableRefusal originsRefusal bodyRefusal fileRefusal placesRefusal criterionRefusal markingsBytes arcBytes arcsBytes originsBytes sliceBody trailerBytes sliceBytes cutOf safetyFile branchingFile checkRefusal checked smallPlan effectRefusal effectAnswer listRefusal replayRefusal replayAnswer replayMarking projectRefusal projectAnswer projectOutput
+unfolding among position any selected first below weightOn input output effect changes raises takesFrom addsTo capped fire shortPlace fullPlace testInputs testCaps testFiring replayFrom replay tokens growth safety branching drawnBy grown rounds keptPlaces keptTransitions strike own project renumber restrict arcsOf sliceRun planRun placeOf transitionOf keeping cut breaks breaker sameArc sameArcs lacksInput lacksOutput rule1 rule2 rule3 rule4 rule5 rule6 rule7 rule8 rule9 rule10 rules verdictFrom verdict le16 le32 bytes16 bytes32 trailerOf headerOf arcsFrom wordsFrom trailerRefusal arcsRefusal tableRefusal originsRefusal bodyRefusal fileRefusal placesRefusal criterionRefusal markingsBytes arcBytes arcsBytes originsBytes sliceBody trailerBytes sliceBytes cutOf safetyFile branchingFile checkRefusal checked smallPlan effectRefusal effectAnswer listRefusal replayRefusal replayAnswer replayMarking projectRefusal projectAnswer projectOutput
 starred = record {
   file = (refl, refl);
   fires = record { answer = refl; marking = refl };
@@ -34,7 +34,7 @@ starred = record {
 }
 
 pub noted : Noted
-unfolding among position any selected first below weightOn input output effect changes raises takesFrom addsTo capped fire shortPlace fullPlace testCaps testFiring replayFrom replay tokens growth safety branching drawnBy grown rounds keptPlaces keptTransitions strike own project renumber restrict arcsOf sliceRun planRun placeOf transitionOf keeping cut breaks breaker sameArc sameArcs lacksInput lacksOutput rule1 rule2 rule3 rule4 rule5 rule6 rule7 rule8 rule9 rule10 rules verdictFrom verdict le16 le32 bytes16 bytes32 trailerOf headerOf arcsFrom wordsFrom trailerRefusal arcsRefusal tableRefusal originsRefusal bodyRefusal fileRefusal placesRefusal criterionRefusal markingsBytes arcBytes arcsBytes originsBytes sliceBody trailerBytes sliceBytes cutOf safetyFile branchingFile checkRefusal checked smallPlan onePlace onePlaceCut effectRefusal effectAnswer listRefusal replayRefusal replayAnswer replayMarking projectRefusal projectAnswer projectOutput after planTokens sliceTokens cutRefusal writeRefusal safetyAnswer criterionOf criterionBytesRefusal checkedBytes before runIn arcRun
+unfolding among position any selected first below weightOn input output effect changes raises takesFrom addsTo capped fire shortPlace fullPlace testInputs testCaps testFiring replayFrom replay tokens growth safety branching drawnBy grown rounds keptPlaces keptTransitions strike own project renumber restrict arcsOf sliceRun planRun placeOf transitionOf keeping cut breaks breaker sameArc sameArcs lacksInput lacksOutput rule1 rule2 rule3 rule4 rule5 rule6 rule7 rule8 rule9 rule10 rules verdictFrom verdict le16 le32 bytes16 bytes32 trailerOf headerOf arcsFrom wordsFrom trailerRefusal arcsRefusal tableRefusal originsRefusal bodyRefusal fileRefusal placesRefusal criterionRefusal markingsBytes arcBytes arcsBytes originsBytes sliceBody trailerBytes sliceBytes cutOf safetyFile branchingFile checkRefusal checked smallPlan onePlace onePlaceCut effectRefusal effectAnswer listRefusal replayRefusal replayAnswer replayMarking projectRefusal projectAnswer projectOutput after planTokens sliceTokens cutRefusal writeRefusal safetyAnswer criterionOf criterionBytesRefusal checkedBytes before runIn arcRun
 noted = record {
   one-place = refl;
   too-short = refl;
@@ -64,7 +64,7 @@ noted = record {
 }
 
 pub parallels : Parallels
-unfolding among position any selected first below weightOn input output effect changes raises takesFrom addsTo capped fire shortPlace fullPlace testCaps testFiring replayFrom replay tokens growth safety branching drawnBy grown rounds keptPlaces keptTransitions strike own project renumber restrict arcsOf sliceRun planRun placeOf transitionOf keeping cut breaks breaker sameArc sameArcs lacksInput lacksOutput rule1 rule2 rule3 rule4 rule5 rule6 rule7 rule8 rule9 rule10 rules verdictFrom verdict le16 le32 bytes16 bytes32 trailerOf headerOf arcsFrom wordsFrom trailerRefusal arcsRefusal tableRefusal originsRefusal bodyRefusal fileRefusal placesRefusal criterionRefusal markingsBytes arcBytes arcsBytes originsBytes sliceBody trailerBytes sliceBytes cutOf safetyFile branchingFile checkRefusal checked smallPlan onePlace onePlaceCut effectRefusal effectAnswer listRefusal replayRefusal replayAnswer replayMarking projectRefusal projectAnswer projectOutput after planTokens sliceTokens cutRefusal writeRefusal safetyAnswer criterionOf criterionBytesRefusal checkedBytes before runIn arcRun parallelPlan
+unfolding among position any selected first below weightOn input output effect changes raises takesFrom addsTo capped fire shortPlace fullPlace testInputs testCaps testFiring replayFrom replay tokens growth safety branching drawnBy grown rounds keptPlaces keptTransitions strike own project renumber restrict arcsOf sliceRun planRun placeOf transitionOf keeping cut breaks breaker sameArc sameArcs lacksInput lacksOutput rule1 rule2 rule3 rule4 rule5 rule6 rule7 rule8 rule9 rule10 rules verdictFrom verdict le16 le32 bytes16 bytes32 trailerOf headerOf arcsFrom wordsFrom trailerRefusal arcsRefusal tableRefusal originsRefusal bodyRefusal fileRefusal placesRefusal criterionRefusal markingsBytes arcBytes arcsBytes originsBytes sliceBody trailerBytes sliceBytes cutOf safetyFile branchingFile checkRefusal checked smallPlan onePlace onePlaceCut effectRefusal effectAnswer listRefusal replayRefusal replayAnswer replayMarking projectRefusal projectAnswer projectOutput after planTokens sliceTokens cutRefusal writeRefusal safetyAnswer criterionOf criterionBytesRefusal checkedBytes before runIn arcRun parallelPlan
 parallels = record {
   file = (refl, refl);
   takes-two = refl;
@@ -77,17 +77,24 @@ parallels = record {
 }
 
 pub with-caps : Capped
-unfolding among position any selected first below weightOn input output effect changes raises takesFrom addsTo capped fire shortPlace fullPlace testCaps testFiring replayFrom replay tokens growth safety branching drawnBy grown rounds keptPlaces keptTransitions strike own project renumber restrict arcsOf sliceRun planRun placeOf transitionOf keeping cut breaks breaker sameArc sameArcs lacksInput lacksOutput rule1 rule2 rule3 rule4 rule5 rule6 rule7 rule8 rule9 rule10 rules verdictFrom verdict le16 le32 bytes16 bytes32 trailerOf headerOf arcsFrom wordsFrom trailerRefusal arcsRefusal tableRefusal originsRefusal bodyRefusal fileRefusal placesRefusal criterionRefusal markingsBytes arcBytes arcsBytes originsBytes sliceBody trailerBytes sliceBytes cutOf safetyFile branchingFile checkRefusal checked smallPlan effectRefusal effectAnswer listRefusal replayRefusal replayAnswer replayMarking projectRefusal projectAnswer projectOutput cappedNet
+unfolding among position any selected first below weightOn input output effect changes raises takesFrom addsTo capped fire shortPlace fullPlace testInputs testCaps testFiring replayFrom replay tokens growth safety branching drawnBy grown rounds keptPlaces keptTransitions strike own project renumber restrict arcsOf sliceRun planRun placeOf transitionOf keeping cut breaks breaker sameArc sameArcs lacksInput lacksOutput rule1 rule2 rule3 rule4 rule5 rule6 rule7 rule8 rule9 rule10 rules verdictFrom verdict le16 le32 bytes16 bytes32 trailerOf headerOf arcsFrom wordsFrom trailerRefusal arcsRefusal tableRefusal originsRefusal bodyRefusal fileRefusal placesRefusal criterionRefusal markingsBytes arcBytes arcsBytes originsBytes sliceBody trailerBytes sliceBytes cutOf safetyFile branchingFile checkRefusal checked smallPlan effectRefusal effectAnswer listRefusal replayRefusal replayAnswer replayMarking projectRefusal projectAnswer projectOutput withCaps oneCap twoCaps loopNet
 with-caps = record {
-  full = refl;
+  fourth-full = refl;
   before = refl;
+  lowest-full = refl;
   short-first = refl;
+  refilled = refl;
+  overfilled = refl;
   safety-places = refl;
   safety-transitions = refl;
   branching-places = refl;
   branching-transitions = refl;
   own-cut = refl;
+  own-branching-cut = refl;
   no-cap = refl;
+  other-cap = refl;
   no-output = refl;
+  output-by-out = refl;
   no-changer = refl;
+  no-changer-of-two = refl;
 }

@@ -4,14 +4,15 @@
 use Prim.Native.Nat.{ℕ}
 use mathlib.Core.List.{List, [], _∷_, _++_}
 use mathlib.Core.Path.{_≡_}
-use mathlib.Core.Bool.{true, false}
+use mathlib.Core.Bool.{true, false, _||_}
 use lib.ListN.{length, take, drop, set}
 use lib.IntN.{pos, negsuc}
 use lib.Dec.{eqb}
-use Rattle.net.specs.Net.{Net, counted, short, full, replay, tokens}
+use Rattle.net.specs.declared.Arc.{Arc}
+use Rattle.net.specs.Net.{Net, counted, short, full, fired, testFiring, replay, tokens}
 use Rattle.net.specs.Cut.{safety, branching, keptPlaces, keptTransitions}
 use Rattle.net.specs.Slice.{keeping, cut}
-use Rattle.net.specs.Checker.{accepted, broken, verdict}
+use Rattle.net.specs.Checker.{rule9, accepted, broken, breaker, verdict}
 use Rattle.net.specs.Guarantee.{planTokens, sliceTokens}
 use Rattle.file.specs.Layout.{netOf, sliceOf}
 use Rattle.file.specs.Refusal.{fileRefusal}
@@ -114,22 +115,50 @@ pub record Parallels : Type 0 where
   pub joined : checked parallelPlan (safetyFile smallPlan (3 ∷ [])) (3 ∷ []) ≡ record { code = 104; number = 2 }
   pub falling : fileRefusal due.Plan (set smallPlan 24 2) ≡ 7
 
--- the small plan's net with a cap of 1 on place 3, as files of edition 2 will have it
-unfoldable pub cappedNet : Net
-cappedNet =
+-- the small plan's net with caps, as files of edition 2 will have them
+unfoldable pub withCaps : (ℕ → ℕ) → Net
+withCaps caps =
     let N = netOf smallPlan in
-    record { places = N .places; transitions = N .transitions; marking = N .marking; cap = λ p. counted (eqb p 3) 1; arcs = N .arcs }
+    record { places = N .places; transitions = N .transitions; marking = N .marking; cap = caps; arcs = N .arcs }
 
--- what caps change
+-- a cap of 1 on place 3
+unfoldable pub oneCap : Net
+oneCap = withCaps (λ p. counted (eqb p 3) 1)
+
+-- and on place 1
+unfoldable pub twoCaps : Net
+twoCaps = withCaps (λ p. counted (eqb p 1 || eqb p 3) 1)
+
+-- one place, 2 tokens, a cap of 2: transition 0 takes 2 and gives 2 back, transition 1 takes 1 and gives 3
+unfoldable pub loopNet : Net
+loopNet =
+    let arc : ℕ → ℕ → ℕ → Arc = λ t d w. record { transition = t; direction = d; place = 0; weight = w } in
+    record { places = 1; transitions = 2; marking = λ p. 2; cap = λ p. 2; arcs = arc 0 0 2 ∷ arc 0 1 2 ∷ arc 1 0 1 ∷ arc 1 1 3 ∷ [] }
+
+-- what caps change (document 02, A9)
 pub record Capped : Type 0 where
-  pub full : replay cappedNet (0 ∷ 1 ∷ 0 ∷ 1 ∷ []) .answer ≡ full 3 3 1
-  pub before : tokens cappedNet (replay cappedNet (0 ∷ 1 ∷ 0 ∷ 1 ∷ []) .marking) ≡ 0 ∷ 0 ∷ 1 ∷ 1 ∷ 0 ∷ []
-  pub short-first : replay cappedNet (0 ∷ 1 ∷ 1 ∷ []) .answer ≡ short 2 2 1
-  pub safety-places : keptPlaces (safety cappedNet (2 ∷ [])) ≡ 0 ∷ 1 ∷ 2 ∷ 3 ∷ []
-  pub safety-transitions : keptTransitions (safety cappedNet (2 ∷ [])) ≡ 0 ∷ 1 ∷ 2 ∷ []
-  pub branching-places : keptPlaces (branching cappedNet (2 ∷ [])) ≡ 0 ∷ 1 ∷ 2 ∷ 3 ∷ []
-  pub branching-transitions : keptTransitions (branching cappedNet (2 ∷ [])) ≡ 0 ∷ 1 ∷ 2 ∷ 3 ∷ []
-  pub own-cut : verdict cappedNet (cut cappedNet (safety cappedNet (2 ∷ []))) (2 ∷ []) ≡ accepted
-  pub no-cap : verdict cappedNet (cutOf safety smallPlan (3 ∷ [])) (2 ∷ []) ≡ broken 3 3
-  pub no-output : verdict cappedNet (cutOf safety smallPlan (2 ∷ [])) (2 ∷ []) ≡ broken 9 1
-  pub no-changer : verdict cappedNet (keeping cappedNet (0 ∷ 1 ∷ 2 ∷ 3 ∷ []) (0 ∷ 1 ∷ [])) (2 ∷ []) ≡ broken 10 2
+  -- "full with the lowest such place and, instead of the shortage, the excess over its cap"; the marking is the one before
+  pub fourth-full : replay oneCap (0 ∷ 1 ∷ 0 ∷ 1 ∷ []) .answer ≡ full 3 3 1
+  pub before : tokens oneCap (replay oneCap (0 ∷ 1 ∷ 0 ∷ 1 ∷ []) .marking) ≡ 0 ∷ 0 ∷ 1 ∷ 1 ∷ 0 ∷ []
+  -- places 1 and 3 would both be full, of 2 and 4 tokens
+  pub lowest-full : testFiring twoCaps 1 (λ p. p) ≡ full 1 1
+  -- "after the input test": place 2 is short, and places 1 and 3 would be full
+  pub short-first : replay twoCaps (0 ∷ 1 ∷ 1 ∷ []) .answer ≡ short 2 2 1
+  -- "M(p) plus effect": a full place may be taken from and refilled; 2 - 1 + 3 is 2 over
+  pub refilled : replay loopNet (0 ∷ 0 ∷ []) .answer ≡ fired
+  pub overfilled : replay loopNet (0 ∷ 1 ∷ []) .answer ≡ full 1 0 2
+  -- "Both cuts also keep capped places with out above 0 from a kept transition, and every transition that changes a kept capped place"
+  pub safety-places : keptPlaces (safety oneCap (2 ∷ [])) ≡ 0 ∷ 1 ∷ 2 ∷ 3 ∷ []
+  pub safety-transitions : keptTransitions (safety oneCap (2 ∷ [])) ≡ 0 ∷ 1 ∷ 2 ∷ []
+  pub branching-places : keptPlaces (branching oneCap (2 ∷ [])) ≡ 0 ∷ 1 ∷ 2 ∷ 3 ∷ []
+  pub branching-transitions : keptTransitions (branching oneCap (2 ∷ [])) ≡ 0 ∷ 1 ∷ 2 ∷ 3 ∷ []
+  pub own-cut : verdict oneCap (cut oneCap (safety oneCap (2 ∷ []))) (2 ∷ []) ≡ accepted
+  pub own-branching-cut : verdict oneCap (cut oneCap (branching oneCap (2 ∷ []))) (2 ∷ []) ≡ accepted
+  -- 103: "Rule 3 compares caps too"
+  pub no-cap : verdict oneCap (cutOf safety smallPlan (3 ∷ [])) (2 ∷ []) ≡ broken 3 3
+  pub other-cap : verdict oneCap (keeping (withCaps (λ p. counted (eqb p 3) 2)) (0 ∷ 1 ∷ 2 ∷ 3 ∷ []) (0 ∷ 1 ∷ 2 ∷ [])) (2 ∷ []) ≡ broken 3 3
+  -- 109 and 110, "each naming the lowest transition that breaks it"; rule 9 goes by out, also where the effect is 0
+  pub no-output : verdict oneCap (cutOf safety smallPlan (2 ∷ [])) (2 ∷ []) ≡ broken 9 1
+  pub output-by-out : breaker (rule9 loopNet (keeping loopNet [] (0 ∷ 1 ∷ []))) ≡ 0
+  pub no-changer : verdict oneCap (keeping oneCap (0 ∷ 1 ∷ 2 ∷ 3 ∷ []) (0 ∷ 1 ∷ [])) (2 ∷ []) ≡ broken 10 2
+  pub no-changer-of-two : verdict (withCaps (λ p. 2)) (keeping (withCaps (λ p. 2)) (0 ∷ []) []) [] ≡ broken 10 0
