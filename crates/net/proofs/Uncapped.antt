@@ -7,11 +7,11 @@ use mathlib.Core.Path.{_≡_, refl, ap, _∙_}
 use lib.ListN.{length, getD}
 use lib.Dec.{T, eqb, ltb, not-T}
 use borrow.Author.Tests.{ltb-true, ltb-false}
-use Rattle.net.specs.Numbers.{among, position, any, selected}
+use Rattle.net.specs.Numbers.{among, position, selected}
 use Rattle.net.specs.Net.{Marking, Net, changes, takesFrom, addsTo, capped, Uncapped, WithinCaps, Supplied, Enabled, fire}
 use Rattle.net.specs.Cut.{Growth, growth}
 use Rattle.net.specs.Slice.{Slice, keeping}
-use Rattle.net.specs.Checker.{Rule, lacksOutput, rule1, rule2, rule3, rule4, rule5, rule6, rule7, rule8, rule9, rule10, rules, breaker, verdictFrom, verdict, Holds}
+use Rattle.net.specs.Checker.{Rule, lacksOutput, rule1, rule2, rule3, rule4, rule5, rule6, rule7, rule8, rule9, rule10, rules, verdictFrom, verdict, Holds}
 use Rattle.net.proofs.Numbers.{by-cases, fails, and-left, any-finds}
 use Rattle.net.proofs.Markings.{below-at, below-off}
 use Rattle.net.proofs.Verdict.{AllHold, verdict-unbroken}
