@@ -1,7 +1,7 @@
 -- The starred examples of document 01 ("A small kerb"), over bytes, as one table: the plan's file, its cuts' files, replay, effect, projection, check; and the same kerb with parallel arcs.
 -- Places 0 to 4 are that section's waiting, bay free, in bay, left and bell.
 -- Assumes nothing.
-use Prim.Native.Nat.{ℕ}
+use Prim.Native.Nat.{ℕ, suc}
 use mathlib.Core.List.{List, [], _∷_, _++_}
 use mathlib.Core.Path.{_≡_}
 use mathlib.Core.Bool.{true, false, _||_}
@@ -135,6 +135,10 @@ loopNet =
     let arc : ℕ → ℕ → ℕ → Arc = λ t d w. record { transition = t; direction = d; place = 0; weight = w } in
     record { places = 1; transitions = 2; marking = λ p. 2; cap = λ p. 2; arcs = arc 0 0 2 ∷ arc 0 1 2 ∷ arc 1 0 1 ∷ arc 1 1 3 ∷ [] }
 
+-- place 1 has 2 tokens and a cap of 1, as no file will (refusal 16); transition 0 takes the token of place 0
+unfoldable pub overNet : Net
+overNet = record { places = 2; transitions = 1; marking = λ p. suc p; cap = λ p. p; arcs = record { transition = 0; direction = 0; place = 0; weight = 1 } ∷ [] }
+
 -- what caps change (document 02, A9)
 pub record Capped : Type 0 where
   -- "full with the lowest such place and, instead of the shortage, the excess over its cap"; the marking is the one before
@@ -162,3 +166,7 @@ pub record Capped : Type 0 where
   pub output-by-out : breaker (rule9 loopNet (keeping loopNet [] (0 ∷ 1 ∷ []))) ≡ 0
   pub no-changer : verdict oneCap (keeping oneCap (0 ∷ 1 ∷ 2 ∷ 3 ∷ []) (0 ∷ 1 ∷ [])) (2 ∷ []) ≡ broken 10 2
   pub no-changer-of-two : verdict (withCaps (λ p. 2)) (keeping (withCaps (λ p. 2)) (0 ∷ []) []) [] ≡ broken 10 0
+  -- the guarantee wants a marking within the caps: without that, a list fires in an accepted slice and not in the plan
+  pub over-accepted : verdict overNet (cut overNet (safety overNet (0 ∷ []))) (0 ∷ []) ≡ accepted
+  pub over-in-slice : replay (cut overNet (safety overNet (0 ∷ [])) .net) (0 ∷ []) .answer ≡ fired
+  pub over-in-plan : replay overNet (0 ∷ []) .answer ≡ full 0 1 1
