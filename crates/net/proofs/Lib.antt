@@ -8,6 +8,7 @@ pub mod Closure
 pub mod Worklist
 pub mod Theorem
 pub mod Verdict
+pub mod Conclusions
 pub mod Uncapped
 pub mod Rakow
 pub mod Replay
