@@ -1,4 +1,5 @@
 pub mod Calls
 pub mod Firing
+pub mod Conclusions
 pub mod Promise
 pub mod Example

@@ -1,0 +1,84 @@
+-- What people conclude, from the fields of `Demand3`, `WritesSmallest`, `Judges` and `Published`.
+-- Assumes nothing.
+use Prim.Native.Nat.{ℕ, _+_, _≤_}
+use mathlib.Core.List.{List, []}
+use mathlib.Core.Path.{_≡_, refl, subst⁻¹}
+use mathlib.Core.Logic.{_↔_}
+use native.Mathlib.Omega.{arith}
+use lib.ListN.{length}
+use Rattle.net.specs.Net.{Uncapped}
+use Rattle.net.specs.Slice.{Slice, WellFormed, Accepted}
+use Rattle.net.specs.Checker.{Verdict, accepted, broken, rules, verdict}
+use Rattle.net.specs.Rakow.{Set, GenerateSlice, GenerateSafetySlice}
+use Rattle.net.specs.Conclusions.{SameVerdict, SameKept, Unbroken}
+use Rattle.net.proofs.Conclusions.{there, back, same-verdict, same-kept, unbroken-accepted, broken-first}
+use Rattle.file.specs.Word.{Bytes}
+use Rattle.file.specs.Layout.{netOf, sliceOf}
+use Rattle.promise.specs.Calls.{safetyAnswer, branchingAnswer, checkRefusal, told, Checked, checked, Accepts}
+use Rattle.promise.specs.Conclusions.{Tells, AsListed}
+use Rattle.promise.specs.Promise.{ourCut, ourBranching, Wrote, Keeps}
+use Rattle.promise.proofs.Cuts.{known}
+use Rattle.promise.proofs.Demands.{slice-well-formed, check-passes, checked-told, judges, published, demand-3, writes-smallest, not-turned-back, our-cut, branching-not-turned-back, our-branching}
+
+-- the planner's verdict
+pub planner : (plan slice Q : List ℕ) (F : List ℕ → Type 0) → Bytes plan → Accepts plan slice Q → SameVerdict (netOf plan) (sliceOf slice) Q F
+planner plan slice Q F b a = same-verdict (netOf plan) (sliceOf slice) Q (demand-3 plan slice Q [] b .guarantee a) F
+
+-- a slice that is accepted was read
+well-formed : (plan slice Q : List ℕ) → Accepts plan slice Q → WellFormed (sliceOf slice)
+well-formed plan slice Q a = there (judges plan slice Q .accepts) a .1 .subnet .well-formed
+
+pub exactly-ours : (plan slice Q buffer : List ℕ) → Bytes plan → Wrote plan Q buffer → Accepts plan slice Q
+    → sliceOf slice .net .places ≤ safetyAnswer plan Q (length buffer) .places → sliceOf slice .net .transitions ≤ safetyAnswer plan Q (length buffer) .transitions
+    → SameKept (sliceOf slice) (sliceOf (ourCut plan Q buffer))
+unfolding ourCut
+exactly-ours plan slice Q buffer b w a ps ts =
+    let d = writes-smallest plan Q buffer b refl refl in
+    same-kept (sliceOf slice) (sliceOf (ourCut plan Q buffer)) (well-formed plan slice Q a) (well-formed plan (ourCut plan Q buffer) Q (d .accepted w))
+    (d .smallest w slice a) (omega (arith, d .own-places w)) (omega (arith, d .own-transitions w))
+
+-- an answer other than 0 names a rule
+names-some : (v : Verdict) → ¬ (told v .code ≡ 0) → (k : ℕ) × (told v .code ≡ 100 + k)
+names-some accepted n = absurd (n refl)
+names-some (broken k m) n = (k, refl)
+
+module _ (plan slice Q : List ℕ) (e : checkRefusal plan slice Q ≡ 0) where
+  -- the rules as statements, and one by one
+  rules-unbroken : Accepted (netOf plan) (sliceOf slice) Q ↔ Unbroken (rules (netOf plan) (sliceOf slice) Q)
+  rules-unbroken =
+      let p = check-passes plan slice Q e in
+      unbroken-accepted (netOf plan) (sliceOf slice) Q (slice-well-formed slice (p .0)) (known (netOf plan .places) Q (p .1))
+
+  told-some : (c : Checked) → c ≡ told (verdict (netOf plan) (sliceOf slice) Q) → ¬ (c .code ≡ 0) → (k : ℕ) × (c .code ≡ 100 + k)
+  told-some c d n = subst⁻¹ (λ (x : Checked). ¬ (x .code ≡ 0) → (k : ℕ) × (x .code ≡ 100 + k)) d (names-some (verdict (netOf plan) (sliceOf slice) Q)) n
+
+  pub tells : Tells plan slice Q
+  tells = let j = judges plan slice Q in
+      record {
+        accepted = (λ a. there rules-unbroken (there (j .accepts) a .1), λ h. back (j .accepts) (e, back rules-unbroken h));
+        told = λ n. told-some (checked plan slice Q) (checked-told plan slice Q e) n;
+        first = λ k z. broken-first (rules (netOf plan) (sliceOf slice) Q) k (checked plan slice Q .number) (j .broken k z);
+      }
+
+-- Rakow's listings
+as-listed : (S : Slice) (Run : Set → Set → Type 0) → ((P′ T′ : Set) → Run P′ T′ → Keeps S P′ T′) → (P′ : Set) × (T′ : Set) × Run P′ T′ → AsListed S Run
+as-listed S Run keeps (P₀, T₀, run₀) = record {
+  places-every = λ p. (λ h P′ T′ run. there (keeps P′ T′ run .places p) h, λ every. back (keeps P₀ T₀ run₀ .places p) (every P₀ T₀ run₀));
+  places-some = λ p. (λ h. (P₀, T₀, run₀, there (keeps P₀ T₀ run₀ .places p) h), λ (P′, T′, run, h). back (keeps P′ T′ run .places p) h);
+  transitions-every = λ t. (λ h P′ T′ run. there (keeps P′ T′ run .transitions t) h, λ every. back (keeps P₀ T₀ run₀ .transitions t) (every P₀ T₀ run₀));
+  transitions-some = λ t. (λ h. (P₀, T₀, run₀, there (keeps P₀ T₀ run₀ .transitions t) h), λ (P′, T′, run, h). back (keeps P′ T′ run .transitions t) h);
+}
+
+pub safety-listed : (plan Q buffer : List ℕ) → Bytes plan → Uncapped (netOf plan) → Wrote plan Q buffer
+    → AsListed (sliceOf (ourCut plan Q buffer)) (GenerateSafetySlice (netOf plan) Q)
+safety-listed plan Q buffer b none w =
+    let p = published plan Q b (not-turned-back plan Q buffer w) none in
+    subst⁻¹ (λ (file : List ℕ). AsListed (sliceOf file) (GenerateSafetySlice (netOf plan) Q)) (our-cut plan Q buffer w)
+    (as-listed _ (GenerateSafetySlice (netOf plan) Q) (p .safety-slice) (p .safety-run))
+
+pub branching-listed : (plan Q buffer : List ℕ) → Bytes plan → Uncapped (netOf plan) → branchingAnswer plan Q (length buffer) .refusal ≡ 0
+    → AsListed (sliceOf (ourBranching plan Q buffer)) (GenerateSlice (netOf plan) Q)
+branching-listed plan Q buffer b none w =
+    let p = published plan Q b (branching-not-turned-back plan Q buffer w) none in
+    subst⁻¹ (λ (file : List ℕ). AsListed (sliceOf file) (GenerateSlice (netOf plan) Q)) (our-branching plan Q buffer w)
+    (as-listed _ (GenerateSlice (netOf plan) Q) (p .ctl-slice) (p .ctl-run))

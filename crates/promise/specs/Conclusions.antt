@@ -1,0 +1,29 @@
+-- What people conclude from the check's answer and from the published slices.
+-- Assumes nothing.
+use Prim.Native.Nat.{ℕ, _+_}
+use mathlib.Core.List.{List}
+use mathlib.Core.Path.{_≡_}
+use mathlib.Core.Logic.{_↔_}
+use lib.Dec.{T}
+use Rattle.net.specs.Slice.{Slice, HasPlace, HasTransition}
+use Rattle.net.specs.Checker.{rules}
+use Rattle.net.specs.Conclusions.{Unbroken, BrokenFirst}
+use Rattle.net.specs.Rakow.{Set}
+use Rattle.file.specs.Layout.{netOf, sliceOf}
+use Rattle.promise.specs.Calls.{checked, Accepts}
+
+-- the answer of a check that is not turned back
+pub record Tells (plan slice Q : List ℕ) : Type 0 where
+  -- accepted exactly if no rule is broken
+  pub accepted : Accepts plan slice Q ↔ Unbroken (rules (netOf plan) (sliceOf slice) Q)
+  -- else a rule is told
+  pub told : ¬ Accepts plan slice Q → (k : ℕ) × (checked plan slice Q .code ≡ 100 + k)
+  -- which is the first that is broken, at the lowest number
+  pub first : (k : ℕ) → checked plan slice Q .code ≡ 100 + k → BrokenFirst (rules (netOf plan) (sliceOf slice) Q) k (checked plan slice Q .number)
+
+-- the slice keeps a place, or a transition, exactly if every run of the listing returns it, and exactly if some run does
+pub record AsListed (S : Slice) (Run : Set → Set → Type 0) : Type 0 where
+  pub places-every : (p : ℕ) → HasPlace S p ↔ ((P′ T′ : Set) → Run P′ T′ → T (P′ p))
+  pub places-some : (p : ℕ) → HasPlace S p ↔ ((P′ : Set) × (T′ : Set) × Run P′ T′ × T (P′ p))
+  pub transitions-every : (t : ℕ) → HasTransition S t ↔ ((P′ T′ : Set) → Run P′ T′ → T (T′ t))
+  pub transitions-some : (t : ℕ) → HasTransition S t ↔ ((P′ : Set) × (T′ : Set) × Run P′ T′ × T (T′ t))
