@@ -106,11 +106,14 @@ same-rising (x ∷ l) (y ∷ m) r s w h =
 
 -- a slice that contains another and is no larger has exactly its places and transitions
 pub same-kept : (S C : Slice) → WellFormed S → WellFormed C → Contains S C
-    → S .net .places ≤ C .net .places → S .net .transitions ≤ C .net .transitions → SameKept S C
-same-kept S C s c has ps ts = record {
-  places = sym (same-rising (C .placeOrigins) (S .placeOrigins) (c .places-rise) (s .places-rise) (has .places) (omega (arith, s .place-count, c .place-count)));
-  transitions = sym (same-rising (C .transitionOrigins) (S .transitionOrigins) (c .transitions-rise) (s .transitions-rise) (has .transitions) (omega (arith, s .transition-count, c .transition-count)));
-}
+    → S .net .places + S .net .transitions ≤ C .net .places + C .net .transitions → SameKept S C
+same-kept S C s c has small =
+    let fewer-places : S .net .places ≤ C .net .places = omega (arith, has .transition-count) in
+    let fewer-transitions : S .net .transitions ≤ C .net .transitions = omega (arith, has .place-count) in
+    record {
+      places = sym (same-rising (C .placeOrigins) (S .placeOrigins) (c .places-rise) (s .places-rise) (has .places) (omega (arith, s .place-count, c .place-count)));
+      transitions = sym (same-rising (C .transitionOrigins) (S .transitionOrigins) (c .transitions-rise) (s .transitions-rise) (has .transitions) (omega (arith, s .transition-count, c .transition-count)));
+    }
 
 -- a rule that stands nowhere holds
 free : Holds unbroken

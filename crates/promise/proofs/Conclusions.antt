@@ -29,13 +29,13 @@ well-formed : (plan slice Q : List ℕ) → Accepts plan slice Q → WellFormed 
 well-formed plan slice Q a = there (judges plan slice Q .accepts) a .1 .subnet .well-formed
 
 pub exactly-ours : (plan slice Q buffer : List ℕ) → Bytes plan → Wrote plan Q buffer → Accepts plan slice Q
-    → sliceOf slice .net .places ≤ safetyAnswer plan Q (length buffer) .places → sliceOf slice .net .transitions ≤ safetyAnswer plan Q (length buffer) .transitions
+    → sliceOf slice .net .places + sliceOf slice .net .transitions ≤ safetyAnswer plan Q (length buffer) .places + safetyAnswer plan Q (length buffer) .transitions
     → SameKept (sliceOf slice) (sliceOf (ourCut plan Q buffer))
 unfolding ourCut
-exactly-ours plan slice Q buffer b w a ps ts =
+exactly-ours plan slice Q buffer b w a small =
     let d = writes-smallest plan Q buffer b refl refl in
     same-kept (sliceOf slice) (sliceOf (ourCut plan Q buffer)) (well-formed plan slice Q a) (well-formed plan (ourCut plan Q buffer) Q (d .accepted w))
-    (d .smallest w slice a) (omega (arith, d .own-places w)) (omega (arith, d .own-transitions w))
+    (d .smallest w slice a) (omega (arith, d .own-places w, d .own-transitions w))
 
 -- an answer other than 0 names a rule
 names-some : (v : Verdict) → ¬ (told v .code ≡ 0) → (k : ℕ) × (told v .code ≡ 100 + k)
