@@ -8,20 +8,14 @@ use native.Mathlib.Omega.{arith}
 use lib.ListN.{length}
 use lib.Dec.{T, eqb, eqb→eq, eqb-refl}
 use Rattle.net.specs.Numbers.{among, position, Rising}
-use Rattle.net.specs.Net.{Net}
+use Rattle.net.specs.Net.{Net, WithinCaps}
 use Rattle.net.specs.Slice.{Slice, strike, WellFormed, Accepted}
 use Rattle.net.specs.Checker.{Rule, breaks, Holds, FirstBroken, rules}
 use Rattle.net.specs.Guarantee.{AllAmong, PlanFires, planTokens, SliceFires, sliceTokens, struck, Guarantee, Contains}
 use Rattle.net.specs.Conclusions.{SameVerdict, SameKept, unbroken, ruleAt, Unbroken, BrokenFirst}
 use Rattle.net.proofs.Numbers.{by-or, is-true, or-left, or-right, position-lt, at-position, rising-lt, fewest}
+use Rattle.net.proofs.Theorem.{guarantee}
 use Rattle.net.proofs.Verdict.{AllHold, rules-hold, hold-rules}
-
--- either half of an equivalence
-pub there : {A B : Type 0} → A ↔ B → A → B
-there e = e .0
-
-pub back : {A B : Type 0} → A ↔ B → B → A
-back e = e .1
 
 -- tokens that are equal on each place of a list
 map-same : (f g : ℕ → ℕ) (Q : List ℕ) → ((q : ℕ) → T (among q Q) → f q ≡ g q) → map f Q ≡ map g Q
@@ -43,8 +37,11 @@ module _ (N : Net) (S : Slice) (Q : List ℕ) (g : Guarantee N S Q) where
   unfolding SliceFires
   all-own ts f = f .0
 
+  exactly : (ts : List ℕ) → AllAmong ts (S .transitionOrigins) → SliceFires S ts ↔ PlanFires N ts
+  exactly = g .fires-alike
+
   fires-in-plan : (ts : List ℕ) → SliceFires S ts → PlanFires N ts
-  fires-in-plan ts f = there (g .fires-alike ts (all-own ts f)) f
+  fires-in-plan ts f = exactly ts (all-own ts f) .0 f
 
   -- the tokens on Q after a list of the plan, and after what is left of it
   struck-ends : (ts : List ℕ) → PlanFires N ts → map (sliceTokens S (struck S ts)) Q ≡ map (planTokens N ts) Q
@@ -69,10 +66,14 @@ module _ (N : Net) (S : Slice) (Q : List ℕ) (g : Guarantee N S Q) where
       λ (ts, f, h). (ts, fires-in-plan ts f, subst F (own-ends ts f) h),
     );
     own-list = λ ts own. (
-      λ (f, h). let s = back (g .fires-alike ts own) f in (s, subst⁻¹ F (all-places ts s) h),
+      λ (f, h). let s = exactly ts own .1 f in (s, subst⁻¹ F (all-places ts s) h),
       λ (f, h). (fires-in-plan ts f, subst F (all-places ts f) h),
     );
   }
+
+-- so of an accepted slice
+pub accepted-verdict : (N : Net) (S : Slice) (Q : List ℕ) → Accepted N S Q → WithinCaps N (N .marking) → (F : List ℕ → Type 0) → SameVerdict N S Q F
+accepted-verdict N S Q ok within = same-verdict N S Q (guarantee N S Q ok within)
 
 -- a rising list within another that is no longer is that list
 tail-rises : (x : ℕ) (l : List ℕ) → Rising (x ∷ l) → Rising l

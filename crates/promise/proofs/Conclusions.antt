@@ -6,12 +6,13 @@ use mathlib.Core.Path.{_≡_, refl, subst⁻¹}
 use mathlib.Core.Logic.{_↔_}
 use native.Mathlib.Omega.{arith}
 use lib.ListN.{length}
+use lib.Dec.{T}
 use Rattle.net.specs.Net.{Uncapped}
-use Rattle.net.specs.Slice.{Slice, WellFormed, Accepted}
+use Rattle.net.specs.Slice.{Slice, HasPlace, HasTransition, WellFormed, Accepted}
 use Rattle.net.specs.Checker.{Verdict, accepted, broken, rules, verdict}
 use Rattle.net.specs.Rakow.{Set, GenerateSlice, GenerateSafetySlice}
 use Rattle.net.specs.Conclusions.{SameVerdict, SameKept, Unbroken}
-use Rattle.net.proofs.Conclusions.{there, back, same-verdict, same-kept, unbroken-accepted, broken-first}
+use Rattle.net.proofs.Conclusions.{same-verdict, same-kept, unbroken-accepted, broken-first}
 use Rattle.file.specs.Word.{Bytes}
 use Rattle.file.specs.Layout.{netOf, sliceOf}
 use Rattle.promise.specs.Calls.{safetyAnswer, branchingAnswer, checkRefusal, told, Checked, checked, Accepts}
@@ -24,10 +25,15 @@ use Rattle.promise.proofs.Demands.{slice-well-formed, check-passes, che
 pub planner : (plan slice Q : List ℕ) (F : List ℕ → Type 0) → Bytes plan → Accepts plan slice Q → SameVerdict (netOf plan) (sliceOf slice) Q F
 planner plan slice Q F b a = same-verdict (netOf plan) (sliceOf slice) Q (demand-3 plan slice Q [] b .guarantee a) F
 
+-- accepted exactly when the rules hold
+exactly : (plan slice Q : List ℕ) → Accepts plan slice Q ↔ (checkRefusal plan slice Q ≡ 0) × Accepted (netOf plan) (sliceOf slice) Q
+exactly plan slice Q = judges plan slice Q .accepts
+
 -- a slice that is accepted was read
 well-formed : (plan slice Q : List ℕ) → Accepts plan slice Q → WellFormed (sliceOf slice)
-well-formed plan slice Q a = there (judges plan slice Q .accepts) a .1 .subnet .well-formed
+well-formed plan slice Q a = exactly plan slice Q .0 a .1 .subnet .well-formed
 
+-- an accepted slice that is no larger than our cut
 pub exactly-ours : (plan slice Q buffer : List ℕ) → Bytes plan → Wrote plan Q buffer → Accepts plan slice Q
     → sliceOf slice .net .places + sliceOf slice .net .transitions ≤ safetyAnswer plan Q (length buffer) .places + safetyAnswer plan Q (length buffer) .transitions
     → SameKept (sliceOf slice) (sliceOf (ourCut plan Q buffer))
@@ -53,21 +59,29 @@ module _ (plan slice Q : List ℕ) (e : checkRefusal plan slice Q ≡ 0) where
   told-some c d n = subst⁻¹ (λ (x : Checked). ¬ (x .code ≡ 0) → (k : ℕ) × (x .code ≡ 100 + k)) d (names-some (verdict (netOf plan) (sliceOf slice) Q)) n
 
   pub tells : Tells plan slice Q
-  tells = let j = judges plan slice Q in
-      record {
-        accepted = (λ a. there rules-unbroken (there (j .accepts) a .1), λ h. back (j .accepts) (e, back rules-unbroken h));
-        told = λ n. told-some (checked plan slice Q) (checked-told plan slice Q e) n;
-        first = λ k z. broken-first (rules (netOf plan) (sliceOf slice) Q) k (checked plan slice Q .number) (j .broken k z);
-      }
+  tells = record {
+    accepted = (λ a. rules-unbroken .0 (exactly plan slice Q .0 a .1), λ h. exactly plan slice Q .1 (e, rules-unbroken .1 h));
+    told = λ n. told-some (checked plan slice Q) (checked-told plan slice Q e) n;
+    first = λ k z. broken-first (rules (netOf plan) (sliceOf slice) Q) k (checked plan slice Q .number) (judges plan slice Q .broken k z);
+  }
 
 -- Rakow's listings
+kept-place : (S : Slice) (P′ T′ : Set) → Keeps S P′ T′ → (p : ℕ) → HasPlace S p ↔ T (P′ p)
+kept-place S P′ T′ k = k .places
+
+kept-transition : (S : Slice) (P′ T′ : Set) → Keeps S P′ T′ → (t : ℕ) → HasTransition S t ↔ T (T′ t)
+kept-transition S P′ T′ k = k .transitions
+
 as-listed : (S : Slice) (Run : Set → Set → Type 0) → ((P′ T′ : Set) → Run P′ T′ → Keeps S P′ T′) → (P′ : Set) × (T′ : Set) × Run P′ T′ → AsListed S Run
-as-listed S Run keeps (P₀, T₀, run₀) = record {
-  places-every = λ p. (λ h P′ T′ run. there (keeps P′ T′ run .places p) h, λ every. back (keeps P₀ T₀ run₀ .places p) (every P₀ T₀ run₀));
-  places-some = λ p. (λ h. (P₀, T₀, run₀, there (keeps P₀ T₀ run₀ .places p) h), λ (P′, T′, run, h). back (keeps P′ T′ run .places p) h);
-  transitions-every = λ t. (λ h P′ T′ run. there (keeps P′ T′ run .transitions t) h, λ every. back (keeps P₀ T₀ run₀ .transitions t) (every P₀ T₀ run₀));
-  transitions-some = λ t. (λ h. (P₀, T₀, run₀, there (keeps P₀ T₀ run₀ .transitions t) h), λ (P′, T′, run, h). back (keeps P′ T′ run .transitions t) h);
-}
+as-listed S Run keeps (P₀, T₀, run₀) =
+    let place : (P′ T′ : Set) → Run P′ T′ → (p : ℕ) → HasPlace S p ↔ T (P′ p) = λ P′ T′ run. kept-place S P′ T′ (keeps P′ T′ run) in
+    let transition : (P′ T′ : Set) → Run P′ T′ → (t : ℕ) → HasTransition S t ↔ T (T′ t) = λ P′ T′ run. kept-transition S P′ T′ (keeps P′ T′ run) in
+    record {
+      places-every = λ p. (λ h P′ T′ run. place P′ T′ run p .0 h, λ every. place P₀ T₀ run₀ p .1 (every P₀ T₀ run₀));
+      places-some = λ p. (λ h. (P₀, T₀, run₀, place P₀ T₀ run₀ p .0 h), λ (P′, T′, run, h). place P′ T′ run p .1 h);
+      transitions-every = λ t. (λ h P′ T′ run. transition P′ T′ run t .0 h, λ every. transition P₀ T₀ run₀ t .1 (every P₀ T₀ run₀));
+      transitions-some = λ t. (λ h. (P₀, T₀, run₀, transition P₀ T₀ run₀ t .0 h), λ (P′, T′, run, h). transition P′ T′ run t .1 h);
+    }
 
 pub safety-listed : (plan Q buffer : List ℕ) → Bytes plan → Uncapped (netOf plan) → Wrote plan Q buffer
     → AsListed (sliceOf (ourCut plan Q buffer)) (GenerateSafetySlice (netOf plan) Q)
