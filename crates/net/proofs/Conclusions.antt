@@ -1,18 +1,18 @@
--- What follows from `Guarantee`, `Contains` and `FirstBroken`, and from nothing else about an accepted slice.
+-- What follows from `Guarantee`, `Contains`, `FirstBroken` and `StuckAt`, and from nothing else about a slice or a replay.
 -- Assumes nothing.
 use Prim.Native.Nat.{ℕ, zero, suc, _+_, _<_, _≤_}
-use mathlib.Core.List.{List, [], _∷_, map}
+use mathlib.Core.List.{List, [], _∷_, _++_, map}
 use mathlib.Core.Path.{_≡_, refl, sym, ap, subst, subst⁻¹}
 use mathlib.Core.Logic.{_↔_, inl, inr}
 use native.Mathlib.Omega.{arith}
-use lib.ListN.{length}
+use lib.ListN.{length, take, getD}
 use lib.Dec.{T, eqb, eqb→eq, eqb-refl}
 use Rattle.net.specs.Numbers.{among, position, Rising}
-use Rattle.net.specs.Net.{Net, WithinCaps}
+use Rattle.net.specs.Net.{Marking, Net, WithinCaps, Supplied, Enabled, fire, Fires, after, StuckAt, ShortAt, FullAt}
 use Rattle.net.specs.Slice.{Slice, strike, WellFormed, Accepted}
 use Rattle.net.specs.Checker.{Rule, breaks, Holds, FirstBroken, rules}
 use Rattle.net.specs.Guarantee.{AllAmong, PlanFires, planTokens, SliceFires, sliceTokens, struck, Guarantee, Contains}
-use Rattle.net.specs.Conclusions.{SameVerdict, SameKept, unbroken, ruleAt, Unbroken, BrokenFirst}
+use Rattle.net.specs.Conclusions.{SameVerdict, StuckForGood, SameKept, unbroken, ruleAt, Unbroken, BrokenFirst}
 use Rattle.net.proofs.Numbers.{by-or, is-true, or-left, or-right, position-lt, at-position, rising-lt, fewest}
 use Rattle.net.proofs.Theorem.{guarantee}
 use Rattle.net.proofs.Verdict.{AllHold, rules-hold, hold-rules}
@@ -74,6 +74,33 @@ module _ (N : Net) (S : Slice) (Q : List ℕ) (g : Guarantee N S Q) where
 -- so of an accepted slice
 pub accepted-verdict : (N : Net) (S : Slice) (Q : List ℕ) → Accepted N S Q → WithinCaps N (N .marking) → (F : List ℕ → Type 0) → SameVerdict N S Q F
 accepted-verdict N S Q ok within = same-verdict N S Q (guarantee N S Q ok within)
+
+-- a stuck replay
+short-stuck : (N : Net) (t : ℕ) (M : Marking) (p n : ℕ) → ShortAt N t M p n → ¬ Enabled N t M
+unfolding Enabled Supplied
+short-stuck N t M p n s en = omega (arith, s .amount, s .some, en .0 p (s .place))
+
+full-stuck : (N : Net) (t : ℕ) (M : Marking) (p n : ℕ) → FullAt N t M p n → ¬ Enabled N t M
+unfolding Enabled WithinCaps
+full-stuck N t M p n s en = omega (arith, s .amount, s .some, en .1 p (s .place) (s .has-cap))
+
+never-fires : (N : Net) (M : Marking) (ts : List ℕ) (k : ℕ) (m : Marking) → StuckAt N M ts k m → ¬ Enabled N (getD ts k 0) m → (rest : List ℕ) → ¬ Fires N M (take (suc k) ts ++ rest)
+unfolding Fires after
+never-fires N M [] k m s off rest f = absurd (omega (arith, s .inside))
+never-fires N M (t ∷ ts) zero m s off rest f = off (subst⁻¹ (λ (x : Marking). Enabled N t x) (s .ended) (f .1))
+never-fires N M (t ∷ ts) (suc k) m s off rest f =
+    never-fires N (fire N t M) ts k m (record { inside = omega (arith, s .inside); before = s .before .2; ended = s .ended }) off rest (f .2)
+
+module _ (N : Net) (ts : List ℕ) (k : ℕ) (m : Marking) (s : StuckAt N (N .marking) ts k m) where
+  for-good : ¬ Enabled N (getD ts k 0) m → StuckForGood N ts k
+  unfolding PlanFires
+  for-good off = record { before = s .before; never = never-fires N (N .marking) ts k m s off }
+
+  pub short-for-good : (p n : ℕ) → ShortAt N (getD ts k 0) m p n → StuckForGood N ts k
+  short-for-good p n w = for-good (short-stuck N (getD ts k 0) m p n w)
+
+  pub full-for-good : (p n : ℕ) → FullAt N (getD ts k 0) m p n → StuckForGood N ts k
+  full-for-good p n w = for-good (full-stuck N (getD ts k 0) m p n w)
 
 -- a rising list within another that is no longer is that list
 tail-rises : (x : ℕ) (l : List ℕ) → Rising (x ∷ l) → Rising l

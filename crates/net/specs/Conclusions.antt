@@ -1,11 +1,11 @@
--- What people conclude from the guarantee, from the smallest slice and from the verdict. Each promise is used here in its full strength.
+-- What people conclude from the guarantee, from the smallest slice, from the verdict and from a stuck replay. Each promise is used here in its full strength.
 -- Assumes nothing.
 use Prim.Native.Nat.{ℕ, zero, suc, _<_}
 use mathlib.Core.Bool.{true, false}
-use mathlib.Core.List.{List, map}
+use mathlib.Core.List.{List, _++_, map}
 use mathlib.Core.Path.{_≡_}
 use mathlib.Core.Logic.{_↔_}
-use lib.ListN.{getD}
+use lib.ListN.{take, getD}
 use lib.Dec.{T}
 use Rattle.net.specs.Net.{Net}
 use Rattle.net.specs.Slice.{Slice}
@@ -21,6 +21,11 @@ pub record SameVerdict (N : Net) (S : Slice) (Q : List ℕ) (F : List ℕ → Ty
   -- this list of S's own transitions fires and ends with it, F being about the tokens on all places of S
   pub own-list : (ts : List ℕ) → AllAmong ts (S .transitionOrigins)
       → (PlanFires N ts × F (map (planTokens N ts) (S .placeOrigins))) ↔ (SliceFires S ts × F (map (sliceTokens S ts) (S .placeOrigins)))
+
+-- how far a list fires: up to the index k, and no list that begins like it and goes on past k fires
+pub record StuckForGood (N : Net) (ts : List ℕ) (k : ℕ) : Type 0 where
+  pub before : PlanFires N (take k ts)
+  pub never : (rest : List ℕ) → ¬ PlanFires N (take (suc k) ts ++ rest)
 
 -- two slices have exactly the same places and transitions
 pub record SameKept (S C : Slice) : Type 0 where

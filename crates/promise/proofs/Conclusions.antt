@@ -1,24 +1,27 @@
--- What people conclude, from the fields of `Demand3`, `WritesSmallest`, `Judges` and `Published`.
+-- What people conclude, from the fields of `Demand3`, `WritesSmallest`, `Judges`, `Published` and `Replays`.
 -- Assumes nothing.
 use Prim.Native.Nat.{ℕ, _+_, _≤_}
 use mathlib.Core.List.{List, []}
-use mathlib.Core.Path.{_≡_, refl, subst⁻¹}
+use mathlib.Core.Bool.{true}
+use mathlib.Core.Path.{_≡_, refl, ap, subst⁻¹, _∙_}
 use mathlib.Core.Logic.{_↔_}
 use native.Mathlib.Omega.{arith}
 use lib.ListN.{length}
 use lib.Dec.{T}
-use Rattle.net.specs.Net.{Uncapped}
+use Rattle.net.specs.Net.{Answer, fired, short, full, replay, Uncapped}
 use Rattle.net.specs.Slice.{Slice, HasPlace, HasTransition, WellFormed, Accepted}
 use Rattle.net.specs.Checker.{Verdict, accepted, broken, rules, verdict}
 use Rattle.net.specs.Rakow.{Set, GenerateSlice, GenerateSafetySlice}
-use Rattle.net.specs.Conclusions.{SameVerdict, SameKept, Unbroken}
-use Rattle.net.proofs.Conclusions.{same-verdict, same-kept, unbroken-accepted, broken-first}
+use Rattle.net.specs.Conclusions.{SameVerdict, StuckForGood, SameKept, Unbroken}
+use Rattle.net.proofs.Conclusions.{same-verdict, short-for-good, full-for-good, same-kept, unbroken-accepted, broken-first}
 use Rattle.file.specs.Word.{Bytes}
 use Rattle.file.specs.Layout.{netOf, sliceOf}
 use Rattle.promise.specs.Calls.{safetyAnswer, branchingAnswer, checkRefusal, told, Checked, checked, Accepts}
+use Rattle.promise.specs.Firing.{replayRefusal, ReplayAnswer, replayTold, replayAnswer}
 use Rattle.promise.specs.Conclusions.{Tells, AsListed}
 use Rattle.promise.specs.Promise.{ourCut, ourBranching, Wrote, Keeps}
 use Rattle.promise.proofs.Cuts.{known}
+use Rattle.promise.proofs.Replays.{differ, answered, replays}
 use Rattle.promise.proofs.Demands.{slice-well-formed, check-passes, checked-told, judges, published, demand-3, writes-smallest, not-turned-back, our-cut, branching-not-turned-back, our-branching}
 
 -- the planner's verdict
@@ -64,6 +67,22 @@ module _ (plan slice Q : List ℕ) (e : checkRefusal plan slice Q ≡ 0) where
     told = λ n. told-some (checked plan slice Q) (checked-told plan slice Q e) n;
     first = λ k z. broken-first (rules (netOf plan) (sliceOf slice) Q) k (checked plan slice Q .number) (judges plan slice Q .broken k z);
   }
+
+-- a stuck replay
+module _ (file list : List ℕ) (room : ℕ) (e : replayRefusal file list room ≡ 0) where
+  by-answer : (a : Answer) → replay (netOf file) list .answer ≡ a → replayTold a .stuck ≡ true → StuckForGood (netOf file) list (replayTold a .index)
+  by-answer fired same z = differ z
+  by-answer (short i p n) same z =
+      let s = replays file list room e .sticks i p n (answered file list room e ∙ ap replayTold same) in
+      short-for-good (netOf file) list i (replay (netOf file) list .marking) (s .0) p n (s .1)
+  by-answer (full i p n) same z =
+      let s = replays file list room e .fills i p n (answered file list room e ∙ ap replayTold same) in
+      full-for-good (netOf file) list i (replay (netOf file) list .marking) (s .0) p n (s .1)
+
+  pub stuck-for-good : replayAnswer file list room .stuck ≡ true → StuckForGood (netOf file) list (replayAnswer file list room .index)
+  stuck-for-good =
+      subst⁻¹ (λ (c : ReplayAnswer). c .stuck ≡ true → StuckForGood (netOf file) list (c .index)) (answered file list room e)
+      (by-answer (replay (netOf file) list .answer) refl)
 
 -- Rakow's listings
 kept-place : (S : Slice) (P′ T′ : Set) → Keeps S P′ T′ → (p : ℕ) → HasPlace S p ↔ T (P′ p)
