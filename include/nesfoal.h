@@ -5,15 +5,27 @@
  * Several arcs may join the same place and transition in the same direction: what a transition takes from a place, or
  * adds to it, is the sum of their weights, in every call.
  *
- * What holds for every call
- * - A byte string is a pointer and a count. A pointer whose count is 0 may be null. Strings may stand at any address.
- * - Any bytes, of any length, and any numbers may be passed. Bad input is refused: the call returns the number of the
- *   first rule broken, in the order of the table below, puts 0 into every result pointer, and leaves every lent buffer
- *   as it was. (A read of one transition's arcs has no number: it gives an empty run.)
- * - Result pointers must point to one writable number each, and must not overlap the inputs or each other.
- * - No call allocates, keeps state, or reads or writes anything but its arguments; calls may run on many threads at once.
- * - Each function is proved to answer as stated here, on every input, and to return.
- * - Stack, measured on x86-64: below 1 KB for effect and arcs, 3 KB for project, 27 KB for the cuts, 32 KB for the check, 38 KB for replay.
+ * What a caller sees to
+ * - A byte string, a list and a lent buffer are each a pointer and a count of entries. As many entries can be read there, and
+ *   in a lent buffer written, until the call returns; they take at most PTRDIFF_MAX bytes, as every object in C does.
+ * - Where the count is 0 the pointer is not used: it may be null, or point anywhere. With any other count it is not null.
+ * - Lists of 16 bits and of 64 bits stand at the alignment of their type; byte strings may stand at any address.
+ * - Each result pointer (int32_t * or uint32_t * without a count) is not null and points to one number, at its alignment.
+ * - What a call writes overlaps nothing else that it is given: a lent buffer and a result overlap no input, no other buffer
+ *   and no other result. Inputs may overlap each other, or be the same string.
+ * - While a call runs nobody else writes what it reads, and nobody else reads or writes what it writes.
+ * - There is stack, measured on x86-64: below 1 KB for effect and arcs, 3 KB for project, 27 KB for the cuts, 32 KB for the
+ *   check, 38 KB for replay.
+ *
+ * What is proved of every such call, on every input: whatever the counts are, whatever the strings, lists and buffers hold, and
+ * whatever numbers are passed
+ * - It returns, and does nothing undefined.
+ * - It answers as stated below, and each result and each entry of a lent buffer is afterwards as stated below.
+ * - Bad input is refused: the call returns the number of the first rule broken, in the order of the table below, puts 0 into
+ *   every result pointer, and leaves every lent buffer as it was. (A read of one transition's arcs has no number: it gives an
+ *   empty run.)
+ * - It allocates nothing, keeps no state, and reads and writes nothing but its arguments; so calls may run on many threads at once.
+ * README.md says what the proofs themselves assume.
  *
  * Refusals, by place of checking; files come first (plan before slice), then criterion, list and buffer:
  *    1  file: below 16 or above 65,536 bytes

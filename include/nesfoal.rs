@@ -1,5 +1,5 @@
-//! The library's calls for Rust, as nesfoal.h has them: the header is their manual. Each is unsafe as any C call is: pointers
-//! are good for the counts that go with them.
+//! The library's calls for Rust, as nesfoal.h has them: the header is their manual. Each is unsafe as any C call is: the caller
+//! sees to what the header asks.
 
 #![allow(dead_code)]
 

@@ -58,9 +58,14 @@ int main(int argc, char **argv)
         return 2;
     }
     for (int i = 2; i < argc; i++) {
-        unsigned long place = strtoul(argv[i], NULL, 10);
+        char *end;
+        unsigned long place = strtoul(argv[i], &end, 10);
+        if (*argv[i] < '0' || *argv[i] > '9' || *end != '\0' || place > 65535) {
+            fprintf(stderr, "%s: not a number from 0 to 65535\n", argv[i]);
+            return 2;
+        }
         criterion[2 * places] = (uint8_t)(place % 256);
-        criterion[2 * places + 1] = (uint8_t)(place / 256 % 256);
+        criterion[2 * places + 1] = (uint8_t)(place / 256);
         places++;
     }
     while (fgets(name, sizeof name, stdin)) {

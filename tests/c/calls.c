@@ -298,6 +298,50 @@ static void parallels(void)
     expect("65,535 firings, marking", (long long)marking[0], 17591649177600 + 4294967295);
 }
 
+/* A pointer whose count is 0 is not used; it may be null. */
+static void nulls(void)
+{
+    static const uint8_t bare[16] = {0, 0, 0, 0, 0, 0, 1, 0, 0, 0, 0, 1, 'B', 'E', 'L', 'L'}; /* one transition, no place */
+    const uint16_t one[] = {2}, twice[] = {0, 0};
+    uint64_t marking[5] = {7, 7, 7, 7, 7};
+    uint8_t room[100];
+    uint32_t a = 9, b = 9, c = 9;
+    expect("null list", nesfoal_replay(plan, 108, NULL, 0, marking, 5, &a, &b, &c), 0);
+    expect("null list, marking", marking[0] == 2 && marking[1] == 1 && marking[4] == 0, 1);
+    expect("null marking", nesfoal_replay(bare, 16, twice, 2, NULL, 0, &a, &b, &c), 0);
+    expect("null list and marking", nesfoal_replay(bare, 16, NULL, 0, NULL, 0, &a, &b, &c), 0);
+    expect("null marking, too short", nesfoal_replay(plan, 108, twice, 2, NULL, 0, &a, &b, &c), 13);
+    a = b = c = 9;
+    expect("null buffer", nesfoal_safety(plan, 108, one, 1, NULL, 0, &a, &b, &c), 13);
+    expect("null buffer, zeros", a + b + c, 0);
+    expect("null buffer, branching", nesfoal_branching(plan, 108, one, 1, NULL, 0, &a, &b, &c), 13);
+    expect("null plan", nesfoal_safety(NULL, 0, NULL, 0, NULL, 0, &a, &b, &c), 1);
+    expect("null criterion, branching", nesfoal_branching(plan, 108, NULL, 0, room, 100, &a, &b, &c), 9);
+    expect("null output", nesfoal_project(plan, 108, cut, 78, one, 1, NULL, 0, &a), 0);
+    expect("null output, too short", nesfoal_project(plan, 108, cut, 78, twice, 2, NULL, 0, &a), 13);
+    expect("null plan, project", nesfoal_project(NULL, 0, NULL, 0, NULL, 0, NULL, 0, &a), 1);
+    expect("null slice, project", nesfoal_project(plan, 108, NULL, 0, NULL, 0, NULL, 0, &a), 1);
+    expect("null plan, check", nesfoal_check(NULL, 0, NULL, 0, NULL, 0), 1);
+    expect("null criterion, verdict", nesfoal_verdict(plan, 108, cut, 78, NULL, 0, &a), 9);
+    expect("null all, verdict", nesfoal_verdict(NULL, 0, NULL, 0, NULL, 0, &a), 1);
+    /* or point past an end */
+    expect("an empty string past the end", nesfoal_check(plan, 108, cut, 78, cut + 78, 0), 9);
+    expect("an empty list past the end", nesfoal_replay(plan, 108, one + 1, 0, marking + 5, 0, &a, &b, &c), 13);
+}
+
+/* Inputs may overlap, and strings stand at any address. */
+static void shared(void)
+{
+    uint8_t odd[1 + 108 + 78] = {0};
+    uint32_t number = 9;
+    expect("the criterion stands in the plan", nesfoal_check(plan, 108, cut, 78, plan, 2), 0);
+    expect("one string twice", nesfoal_check(cut, 78, cut, 78, plan, 2), 3);
+    memcpy(odd + 1, plan, 108);
+    memcpy(odd + 109, cut, 78);
+    expect("odd addresses", nesfoal_check(odd + 1, 108, odd + 109, 78, odd + 1, 2), 0);
+    expect("a note of one byte", nesfoal_verdict(odd, 109, odd + 109, 78, (const uint16_t[]){2}, 1, &number), 0);
+}
+
 int main(void)
 {
     effects();
@@ -307,6 +351,8 @@ int main(void)
     cuts();
     checks();
     projections();
+    nulls();
+    shared();
     printf("%u passed, %u failed\n", passed, failed);
     return failed != 0;
 }
