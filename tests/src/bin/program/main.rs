@@ -1,0 +1,122 @@
+//! Holds the program to the second implementation: every case of the answers that Rattle's own calls give (accepted, each rule
+//! broken, fired, stuck, written, each refusal) is told by a verb of its own words and numbers, and these are compared, with
+//! the files that it writes. First the fixed cases, which have to reach every case of the answer, then random ones.
+//!
+//! `program SLICER [--break]`. NESFOAL_SEED sets the seed, NESFOAL_CASES the random cases of each verb. `--break` spoils what is
+//! due a little, so that each verb has to fail.
+
+mod room;
+mod verbs;
+
+use nesfoal_tests::rng::Rng;
+use room::Room;
+use std::collections::BTreeSet;
+use std::path::{Path, PathBuf};
+use std::process::ExitCode;
+use std::sync::atomic::{AtomicU64, Ordering};
+use std::time::Instant;
+use verbs::{Asked, Verb};
+
+const CASES: u64 = 400;
+const SEED: u64 = 20_250_101;
+const THREADS: usize = 2;
+/// Differences printed of each verb; the rest is only counted.
+const PRINTED: u64 = 5;
+
+struct Settings {
+    slicer: PathBuf,
+    seed: u64,
+    cases: u64,
+    broken: bool,
+}
+
+impl Settings {
+    fn read() -> Option<Settings> {
+        let words: Vec<String> = std::env::args().skip(1).collect();
+        let (slicer, broken) = match words.as_slice() {
+            [slicer] => (slicer, false),
+            [slicer, word] if word == "--break" => (slicer, true),
+            _ => return None,
+        };
+        let number = |name: &str, otherwise: u64| match std::env::var(name) {
+            Ok(text) => text.parse().unwrap_or_else(|_| panic!("{name} is not a number: {text}")),
+            Err(_) => otherwise,
+        };
+        let slicer = std::fs::canonicalize(slicer).unwrap_or_else(|e| panic!("{slicer}: {e}"));
+        Some(Settings { slicer, seed: number("NESFOAL_SEED", SEED), cases: number("NESFOAL_CASES", CASES), broken })
+    }
+}
+
+fn main() -> ExitCode {
+    let Some(settings) = Settings::read() else {
+        eprintln!("usage: program SLICER [--break]");
+        return ExitCode::from(2);
+    };
+    let folder = std::env::temp_dir().join(format!("nesfoal-program-{}", std::process::id()));
+    std::fs::create_dir(&folder).expect("a folder of its own");
+    println!("seed {}, {} random cases a verb", settings.seed, settings.cases);
+    let (mut passed, mut failed) = (0, 0);
+    for verb in verbs::all() {
+        if compare(&verb, &settings, &folder) {
+            passed += 1;
+        } else {
+            failed += 1;
+        }
+    }
+    std::fs::remove_dir_all(&folder).expect("the folder goes");
+    println!("{passed} passed, {failed} failed");
+    if failed == 0 && passed > 0 {
+        ExitCode::SUCCESS
+    } else {
+        ExitCode::FAILURE
+    }
+}
+
+/// Compares one verb; tells whether nothing differed and every case of its answer was met.
+fn compare(verb: &Verb, settings: &Settings, folder: &Path) -> bool {
+    let name = verb.name;
+    let start = Instant::now();
+    let differences = AtomicU64::new(0);
+    let hold = |room: &Room, label: &str, mut asked: Asked, old: bool| {
+        if settings.broken {
+            (verb.spoil)(&mut asked.due);
+        }
+        if let Some(fault) = room.fault(&asked, old) {
+            if differences.fetch_add(1, Ordering::Relaxed) < PRINTED {
+                println!("DIFFERENCE in {name}, {label}\n{}{fault}", asked.show());
+            }
+        }
+    };
+
+    let mut reached: BTreeSet<String> = BTreeSet::new();
+    let fixed = (verb.fixed)();
+    let count = fixed.len() as u64 + settings.cases;
+    let room = Room::new(&settings.slicer, folder.join(format!("{name}-fixed")));
+    for (label, asked) in fixed {
+        reached.insert(asked.due.outcome.clone());
+        hold(&room, &format!("fixed case: {label}"), asked, true);
+    }
+    let missed: Vec<&str> = verb.outcomes.split(' ').filter(|o| !reached.contains(*o)).collect();
+    if !missed.is_empty() {
+        println!("{name}: no fixed case is answered by {missed:?}");
+    }
+
+    std::thread::scope(|scope| {
+        for thread in 0..THREADS {
+            let hold = &hold;
+            let room = Room::new(&settings.slicer, folder.join(format!("{name}-{thread}")));
+            scope.spawn(move || {
+                for number in (thread as u64..settings.cases).step_by(THREADS) {
+                    let mut rng = Rng::for_case(settings.seed, name, number);
+                    let old = rng.percent(50);
+                    let asked = (verb.random)(&mut rng);
+                    hold(&room, &format!("seed {} case {number}", settings.seed), asked, old);
+                }
+            });
+        }
+    });
+    let differences = differences.into_inner();
+    let seconds = start.elapsed().as_secs_f64();
+    println!("program {name}: {count} cases, {differences} differences ({seconds:.1} s)");
+    differences == 0 && missed.is_empty()
+}

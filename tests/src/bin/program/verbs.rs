@@ -1,0 +1,286 @@
+//! What each verb is asked, and what it has to say by the second implementation.
+
+use nesfoal_tests::cases::*;
+use nesfoal_tests::check::{verdict, Verdict};
+use nesfoal_tests::cut::{cut, Cut};
+use nesfoal_tests::fixed::{self, Fixed};
+use nesfoal_tests::net::{Kind, Refusal, MAX_FILE, MAX_LIST, MAX_PLACES};
+use nesfoal_tests::read::read;
+use nesfoal_tests::replay::{replay, Replayed};
+use nesfoal_tests::rng::Rng;
+use nesfoal_tests::{arcs, effect, gen, project};
+
+/// The file that a cut writes.
+pub const OUT: &str = "out";
+const LIST: &str = "list";
+
+pub struct Due {
+    /// The case of the answer: a word, the number of a refusal, 100 plus a rule's.
+    pub outcome: String,
+    /// What is said: the whole line where it ends in a line feed, else its start.
+    pub says: String,
+    /// What stands in OUT afterwards; None where it stays as it was.
+    pub written: Option<Vec<u8>>,
+}
+
+impl Due {
+    fn new(outcome: impl ToString, says: String) -> Due {
+        Due { outcome: outcome.to_string(), says, written: None }
+    }
+
+    pub fn is_said(&self, said: &str) -> bool {
+        let line = said.ends_with('\n') && said.lines().count() == 1;
+        line && if self.says.ends_with('\n') { said == self.says } else { said.starts_with(&self.says) }
+    }
+}
+
+pub struct Asked {
+    pub files: Vec<(&'static str, Vec<u8>)>,
+    pub words: Vec<String>,
+    pub due: Due,
+}
+
+impl Asked {
+    fn new(words: &[&str], files: &[(&'static str, &Lent<u8>)], due: Due) -> Asked {
+        let files = files.iter().map(|(name, lent)| (*name, lent.part().to_vec())).collect();
+        Asked { files, words: words.iter().map(|w| w.to_string()).collect(), due }
+    }
+
+    /// A list at the end: as words, or as a file where it is long.
+    fn list(mut self, list: &[u16]) -> Asked {
+        if list.len() % 8 == 5 || list.len() > 1_000 {
+            self.files.push((LIST, gen::to_bytes(list)));
+            self.words.push(format!("@{LIST}"));
+        } else {
+            self.words.extend(list.iter().map(|n| n.to_string()));
+        }
+        self
+    }
+
+    pub fn show(&self) -> String {
+        let files: Vec<String> = self.files.iter().map(|(name, bytes)| format!("  {name}: {}\n", hex(bytes))).collect();
+        format!("  slicer {}\n{}", self.words.join(" "), files.concat())
+    }
+}
+
+pub struct Verb {
+    pub name: &'static str,
+    /// The cases of the answer that the fixed cases have to reach.
+    pub outcomes: &'static str,
+    pub fixed: fn() -> Vec<(String, Asked)>,
+    pub random: fn(&mut Rng) -> Asked,
+    /// A small change of what is due, for `--break`.
+    pub spoil: fn(&mut Due),
+}
+
+pub fn all() -> Vec<Verb> {
+    vec![
+        Verb {
+            name: "effect",
+            outcomes: "by 1 2 3 4 5 6 7 8 10 12",
+            fixed: || each(fixed::effects(), of_effect),
+            random: |rng| of_effect(&gen::effect_case(rng)),
+            // A wrong sign.
+            spoil: |due| due.says = due.says.replacen("effect ", "effect -", 1),
+        },
+        Verb {
+            name: "arcs",
+            outcomes: "run none unknown 1 2 3 4 5 6 7 8",
+            fixed: || each(fixed::arc_runs(), of_arcs),
+            random: |rng| of_arcs(&gen::arcs_case(rng)),
+            // Takes and adds exchanged.
+            spoil: |due| due.says = due.says.replacen("takes", "adds", 1),
+        },
+        Verb {
+            name: "replay",
+            outcomes: "fired stuck 1 2 3 4 5 6 7 8 11 12",
+            fixed: || each(fixed::replays(), of_replay),
+            random: |rng| of_replay(&gen::replay_case(rng)),
+            // Other tokens are missing.
+            spoil: |due| {
+                if due.outcome == "stuck" {
+                    due.says = due.says.replacen("short of ", "short of 0", 1);
+                }
+            },
+        },
+        Verb {
+            name: "safety",
+            outcomes: "written 1 2 3 4 5 6 7 9 10",
+            fixed: || each(fixed::cuts(Cut::Safety), of_cut),
+            random: |rng| of_cut(&gen::cut_case(rng, Cut::Safety)),
+            spoil: another_letter,
+        },
+        Verb {
+            name: "branching",
+            outcomes: "written 1 2 3 4 5 6 7 9 10",
+            fixed: || each(fixed::cuts(Cut::Branching), of_cut),
+            random: |rng| of_cut(&gen::cut_case(rng, Cut::Branching)),
+            spoil: another_letter,
+        },
+        Verb {
+            name: "project",
+            outcomes: "count 1 2 3 4 5 6 7 8 11 12",
+            fixed: || each(fixed::projections(), of_project),
+            random: |rng| of_project(&gen::project_case(rng)),
+            // The first number is dropped.
+            spoil: |due| due.says = due.says.replacen("projected 0", "projected", 1),
+        },
+        Verb {
+            name: "check",
+            outcomes: "accepted 1 2 3 4 5 6 7 8 9 10 101 102 103 104 105 106 107 108",
+            fixed: || each(fixed::verdicts(), of_verdict),
+            random: |rng| of_verdict(&gen::verdict_case(rng)),
+            // Rule 8 is forgotten.
+            spoil: |due| {
+                if due.outcome == "108" {
+                    due.says = "accepted\n".into();
+                }
+            },
+        },
+    ]
+}
+
+/// The written file ends otherwise.
+fn another_letter(due: &mut Due) {
+    if let Some(bytes) = &mut due.written {
+        *bytes.last_mut().unwrap() ^= 1;
+    }
+}
+
+fn each<C>(cases: Vec<Fixed<C>>, asked: fn(&C) -> Asked) -> Vec<(String, Asked)> {
+    cases.into_iter().map(|one| (one.name.clone(), asked(&one.case))).collect()
+}
+
+/// `1 place`, `5 places`.
+fn counted(count: usize, thing: &str) -> String {
+    format!("{count} {thing}{}", if count == 1 { "" } else { "s" })
+}
+
+/// A refusal of a file, a criterion or a list that came with it.
+fn refused(number: Refusal, file: &str) -> Due {
+    let what = match number {
+        1..=8 => file,
+        9 | 10 => "criterion",
+        _ => "list",
+    };
+    Due::new(number, format!("refused {number}: {what}: "))
+}
+
+/// The same of two files: the plan comes first.
+fn refused_of_two(number: Refusal, plan: &[u8]) -> Due {
+    refused(number, if read(plan, Some(Kind::Plan)).is_err() { "plan" } else { "slice" })
+}
+
+fn of_effect(case: &EffectCase) -> Asked {
+    let (file, p, t) = (case.file.part(), case.place, case.transition);
+    let count = |of: fn(&nesfoal_tests::net::Net) -> usize| read(file, None).map_or(0, |net| of(&net));
+    let due = match effect::effect(file, p, t) {
+        Ok(by) => Due::new("by", format!("effect {by} of transition {t} on place {p}\n")),
+        Err(10) => Due::new(10, format!("refused 10: unknown place {p}; P is {}\n", count(|net| net.places()))),
+        Err(12) => {
+            Due::new(12, format!("refused 12: unknown transition {t}; T is {}\n", count(|net| net.transitions())))
+        }
+        Err(n) => refused(n, "file"),
+    };
+    Asked::new(&["effect", "file", &p.to_string(), &t.to_string()], &[("file", &case.file)], due)
+}
+
+fn of_arcs(case: &ArcsCase) -> Asked {
+    let (plan, slice, t) = (case.plan.part(), case.slice.part(), case.transition);
+    let which = if case.of_slice { "slice" } else { "plan" };
+    let due = match (read(plan, Some(Kind::Plan)), read(slice, Some(Kind::Slice))) {
+        (Err(n), _) => refused(n, "plan"),
+        (_, Err(n)) => refused(n, "slice"),
+        (Ok(plan_net), Ok(slice_net)) => {
+            let count = if case.of_slice { slice_net.transitions() } else { plan_net.transitions() };
+            if usize::from(t) >= count {
+                let it = counted(count, "transition");
+                Due::new("unknown", format!("error: the {which} has no transition {t}: it has {it}, numbered from 0\n"))
+            } else {
+                let run = arcs::arcs(plan, slice, case.of_slice, t).1;
+                let words: Vec<String> = run.chunks(8).map(arc).collect();
+                let end = if words.is_empty() { String::new() } else { format!(": {}", words.join(", ")) };
+                let outcome = if words.is_empty() { "none" } else { "run" };
+                Due::new(outcome, format!("arcs {} of transition {t} in the {which}{end}\n", words.len()))
+            }
+        }
+    };
+    Asked::new(&["arcs", "plan", "slice", which, &t.to_string()], &[("plan", &case.plan), ("slice", &case.slice)], due)
+}
+
+/// `takes 1 from place 0`, `adds 1 to place 2`.
+fn arc(bytes: &[u8]) -> String {
+    let two = |at: usize| u16::from_le_bytes([bytes[at], bytes[at + 1]]);
+    let (place, weight) = (two(4), two(6));
+    if bytes[2] == 0 {
+        format!("takes {weight} from place {place}")
+    } else {
+        format!("adds {weight} to place {place}")
+    }
+}
+
+fn of_replay(case: &ReplayCase) -> Asked {
+    let (file, list) = (case.file.part(), case.list.part());
+    let mut marking = vec![0; MAX_PLACES];
+    let due = match replay(file, list, &mut marking) {
+        Ok(Replayed::Fired) => {
+            let places = read(file, None).map_or(0, |net| net.places());
+            let tokens: Vec<String> = marking[..places].iter().map(|m| format!(" {m}")).collect();
+            let count = counted(list.len(), "transition");
+            Due::new("fired", format!("fired {count}, ending{}\n", tokens.concat()))
+        }
+        Ok(Replayed::Stuck { index, place, amount }) => {
+            let t = list[index];
+            let says = format!("stuck at index {index}: transition {t}, place {place} is short of {amount}\n");
+            Due::new("stuck", says)
+        }
+        Err(n) => refused(n, "file"),
+    };
+    Asked::new(&["replay", "file"], &[("file", &case.file)], due).list(list)
+}
+
+fn of_cut(case: &CutCase) -> Asked {
+    let mut buffer = vec![0; MAX_FILE];
+    let due = match cut(case.which, case.plan.part(), case.q.part(), &mut buffer) {
+        Ok(w) => {
+            let counts = [counted(w.length, "byte"), counted(w.places, "place"), counted(w.transitions, "transition")];
+            buffer.truncate(w.length);
+            let says = format!("written {OUT}: {}\n", counts.join(", "));
+            Due { written: Some(buffer), ..Due::new("written", says) }
+        }
+        Err(n) => refused(n, "plan"),
+    };
+    let verb = if case.which == Cut::Safety { "safety" } else { "branching" };
+    Asked::new(&[verb, "plan", OUT], &[("plan", &case.plan)], due).list(case.q.part())
+}
+
+fn of_project(case: &ProjectCase) -> Asked {
+    let (plan, slice, list) = (case.plan.part(), case.slice.part(), case.list.part());
+    let mut out = vec![0; MAX_LIST];
+    let due = match project::project(plan, slice, list, &mut out) {
+        Ok(count) => {
+            let numbers: Vec<String> = out[..count].iter().map(|n| format!(" {n}")).collect();
+            Due::new("count", format!("projected{}\n", numbers.concat()))
+        }
+        Err(n) => refused_of_two(n, plan),
+    };
+    Asked::new(&["project", "plan", "slice"], &[("plan", &case.plan), ("slice", &case.slice)], due).list(list)
+}
+
+fn of_verdict(case: &VerdictCase) -> Asked {
+    let (plan, slice, q) = (case.plan.part(), case.slice.part(), case.q.part());
+    let due = match verdict(plan, slice, q) {
+        Ok(Verdict::Accepted) => Due::new("accepted", "accepted\n".into()),
+        Ok(Verdict::Broken { rule, number }) => {
+            let what = match rule {
+                1 => "the slice's place",
+                2 => "the slice's transition",
+                3 | 5 => "place",
+                _ => "transition",
+            };
+            Due::new(100 + rule, format!("rule {rule} broken by {what} {number}: "))
+        }
+        Err(n) => refused_of_two(n, plan),
+    };
+    Asked::new(&["check", "plan", "slice"], &[("plan", &case.plan), ("slice", &case.slice)], due).list(q)
+}
