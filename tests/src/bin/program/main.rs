@@ -17,7 +17,7 @@ use std::sync::atomic::{AtomicU64, Ordering};
 use std::time::Instant;
 use verbs::{Asked, Verb};
 
-const CASES: u64 = 400;
+const CASES: u64 = 500;
 const SEED: u64 = 20_250_101;
 const THREADS: usize = 2;
 /// Differences printed of each verb; the rest is only counted.
