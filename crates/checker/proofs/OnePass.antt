@@ -1,6 +1,7 @@
 -- Rules 4 to 8 by one pass. Assumes nothing.
 use Prim.Native.Nat.{ℕ, _≤_}
 use mathlib.Core.Path.{_≡_, _∙_}
+use mathlib.Core.Bool.{false}
 use mathlib.Core.List.{List}
 use native.Mathlib.Omega.{arith}
 use lib.ListN.{replicate, length-replicate, getD-replicate}
@@ -20,7 +21,7 @@ past : (R : Rule) → Unbroken R → R .range ≡ breaker R
 unfolding breaker
 past R u = first-none (breaks R) (R .range) (u .at)
 
-pub agreed-told : (N : Net) (S : Slice) (Q : List ℕ) → Uncapped N → Agreed N S Q → record { code = 0; number = 0 } ≡ told (verdictFrom 4 (rulesFrom4 N S Q))
+pub agreed-told : (N : Net) (S : Slice) (Q : List ℕ) → Uncapped N → Agreed N S Q → record { refused = false; code = 0; number = 0 } ≡ told (verdictFrom 4 (rulesFrom4 N S Q))
 agreed-told N S Q none a =
     caps-left N S none
     ∙ holds-here 8 _ _ _ _ (range8 N S) (past _ (a .eighth)) (omega (arith, range8 N S))

@@ -15,11 +15,11 @@ use Rattle.checker.specs.Room.{rulesFrom4}
 
 -- the rule is broken: its number and the number that breaks it
 module _ (k : ℕ) (R : Rule) (l : List Rule) (n r : ℕ) (range : R .range ≡ r) (found : n ≡ breaker R) where
-  pub broken-here : n < r → record { code = 100 + k; number = n } ≡ told (verdictFrom k (R ∷ l))
+  pub broken-here : n < r → record { refused = false; code = 100 + k; number = n } ≡ told (verdictFrom k (R ∷ l))
   unfolding verdictFrom
   broken-here h =
       let e : ltb (breaker R) (R .range) ≡ true = lt-ltb (breaker R) (R .range) (rw (← found, range) h) in
-      rw (e, verdictFrom) (ap (λ (m : ℕ). record { code = 100 + k; number = m }) found)
+      rw (e, verdictFrom) (ap (λ (m : ℕ). record { refused = false; code = 100 + k; number = m }) found)
 
   -- the rule holds: the rules after it decide
   pub holds-here : r ≤ n → told (verdictFrom (suc k) l) ≡ told (verdictFrom k (R ∷ l))
@@ -29,7 +29,7 @@ module _ (k : ℕ) (R : Rule) (l : List Rule) (n r : ℕ) (range : R .range ≡ 
       rw (e, verdictFrom)
 
 -- rules 9 and 10 are left, which hold of a net without caps: accepted
-pub caps-left : (N : Net) (S : Slice) → Uncapped N → record { code = 0; number = 0 } ≡ told (verdictFrom 9 (rule9 N S ∷ rule10 N S ∷ []))
+pub caps-left : (N : Net) (S : Slice) → Uncapped N → record { refused = false; code = 0; number = 0 } ≡ told (verdictFrom 9 (rule9 N S ∷ rule10 N S ∷ []))
 unfolding AllHold
 caps-left N S none = ap told (sym (verdict-holds 9 (rule9 N S ∷ rule10 N S ∷ []) .1 (uncapped-rule9 N none S, (uncapped-rule10 N none S, tt))))
 

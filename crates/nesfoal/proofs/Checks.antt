@@ -1,6 +1,7 @@
 -- The check's answer, by the way out that the call took. Assumes nothing.
 use Prim.Native.Nat.{ℕ, zero, suc}
 use mathlib.Core.Path.{_≡_, refl, sym, ap, _∙_}
+use mathlib.Core.Bool.{true}
 use mathlib.Core.List.{List}
 use borrow.Author.Tests.{not-false, eqb-true}
 use Rattle.net.specs.Checker.{Verdict, verdict}
@@ -12,34 +13,34 @@ use Rattle.file.specs.declared.Due.the-variants as due
 use Rattle.file.specs.declared.Header.{Header}
 use Rattle.promise.specs.Calls.{Checked, told, refusedOr, checkRefusal, checked, checkedBytes}
 
-refused : (n : ℕ) (v : Verdict) → (n ≡ 0 → ⊥) → record { code = n; number = 0 } ≡ refusedOr n v
+refused : (n : ℕ) (v : Verdict) → (n ≡ 0 → ⊥) → record { refused = true; code = n; number = 0 } ≡ refusedOr n v
 refused zero v h = absurd (h refl)
 refused (suc n) v h = refl
 
 -- the plan, the slice or the criterion is turned back with n; or none is
 module _ (a b k n : ℕ) (v : Verdict) where
-  first-turned : (a ≡ n) × (n ≡ 0 → ⊥) → record { code = n; number = 0 } ≡ refusedOr (orElse a (orElse b k)) v
+  first-turned : (a ≡ n) × (n ≡ 0 → ⊥) → record { refused = true; code = n; number = 0 } ≡ refusedOr (orElse a (orElse b k)) v
   first-turned t = rw (t .0) (go n (t .1))
     where
-      go : (m : ℕ) → (m ≡ 0 → ⊥) → record { code = m; number = 0 } ≡ refusedOr (orElse m (orElse b k)) v
+      go : (m : ℕ) → (m ≡ 0 → ⊥) → record { refused = true; code = m; number = 0 } ≡ refusedOr (orElse m (orElse b k)) v
       go zero h = absurd (h refl)
       go (suc m) h = refl
 
-  second-turned : a ≡ 0 → (b ≡ n) × (n ≡ 0 → ⊥) → record { code = n; number = 0 } ≡ refusedOr (orElse a (orElse b k)) v
+  second-turned : a ≡ 0 → (b ≡ n) × (n ≡ 0 → ⊥) → record { refused = true; code = n; number = 0 } ≡ refusedOr (orElse a (orElse b k)) v
   second-turned e t = rw (e, t .0) (go n (t .1))
     where
-      go : (m : ℕ) → (m ≡ 0 → ⊥) → record { code = m; number = 0 } ≡ refusedOr (orElse 0 (orElse m k)) v
+      go : (m : ℕ) → (m ≡ 0 → ⊥) → record { refused = true; code = m; number = 0 } ≡ refusedOr (orElse 0 (orElse m k)) v
       go zero h = absurd (h refl)
       go (suc m) h = refl
 
-  third-turned : a ≡ 0 → b ≡ 0 → n ≡ k → (n ≡ 0 → ⊥) → record { code = n; number = 0 } ≡ refusedOr (orElse a (orElse b k)) v
+  third-turned : a ≡ 0 → b ≡ 0 → n ≡ k → (n ≡ 0 → ⊥) → record { refused = true; code = n; number = 0 } ≡ refusedOr (orElse a (orElse b k)) v
   third-turned e f t h = rw (e, f, ← t) (refused n v h)
 
   none-turned : a ≡ 0 → b ≡ 0 → k ≡ 0 → told v ≡ refusedOr (orElse a (orElse b k)) v
   none-turned e f t = rw (e, f, t)
 
 module _ (plan slice Q : List ℕ) where
-  pub plan-turned : (n : ℕ) → (fileRefusal due.Plan plan ≡ n) × (n ≡ 0 → ⊥) → record { code = n; number = 0 } ≡ checked plan slice Q
+  pub plan-turned : (n : ℕ) → (fileRefusal due.Plan plan ≡ n) × (n ≡ 0 → ⊥) → record { refused = true; code = n; number = 0 } ≡ checked plan slice Q
   unfolding checked checkRefusal
   plan-turned n t = first-turned (fileRefusal due.Plan plan) (fileRefusal due.Slice slice) (criterionRefusal (netOf plan .places) Q) n (verdict (netOf plan) (sliceOf slice) Q) t
 
@@ -50,7 +51,7 @@ module _ (plan slice Q : List ℕ) where
       (first-turned (fileRefusal due.Plan plan) (fileRefusal due.Slice slice) (criterionBytesRefusal (netOf plan .places) Q) n (verdict (netOf plan) (sliceOf slice) (criterionOf Q)) t)
 
   module _ (p : Header) (o : Opened due.Plan plan p) where
-    pub slice-turned : (n : ℕ) → (fileRefusal due.Slice slice ≡ n) × (n ≡ 0 → ⊥) → record { code = n; number = 0 } ≡ checked plan slice Q
+    pub slice-turned : (n : ℕ) → (fileRefusal due.Slice slice ≡ n) × (n ≡ 0 → ⊥) → record { refused = true; code = n; number = 0 } ≡ checked plan slice Q
     unfolding checked checkRefusal
     slice-turned n t = second-turned _ _ _ n _ (o .read) t
 
@@ -62,7 +63,7 @@ module _ (plan slice Q : List ℕ) where
       pub slice-kind : s .kind ≡ 1
       slice-kind = eqb-true (s .kind) 1 (not-false _ (q .kind))
 
-      pub criterion-turned : (n : ℕ) → n ≡ criterionRefusal (p .places) Q → (n ≡ 0 → ⊥) → record { code = n; number = 0 } ≡ checked plan slice Q
+      pub criterion-turned : (n : ℕ) → n ≡ criterionRefusal (p .places) Q → (n ≡ 0 → ⊥) → record { refused = true; code = n; number = 0 } ≡ checked plan slice Q
       unfolding checked checkRefusal
       criterion-turned n t h = third-turned _ _ _ n _ (o .read) (q .read) (t ∙ ap (λ (g : Header). criterionRefusal (g .places) Q) (o .same)) h
 

@@ -4,3 +4,4 @@ pub mod Replayed
 pub mod Projections
 pub mod Cutting
 pub mod Checks
+pub mod Apart

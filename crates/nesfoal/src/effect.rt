@@ -27,7 +27,8 @@ pub fn effect(file: &[u8], place: u16, transition: u16) -> Change
     if h.transitions <= t {
         return Change::Refused(12);
     }
-    Change::By(firing::effect(file, h, p, t))
+    let by = firing::effect(file, h, p, t);
+    Change::By(by)
 }
 
 // The number of a refusal, or 0.

@@ -1,6 +1,7 @@
 -- What is known of a slice and a list that are not refused, and the answer by the way out that the call took. Assumes nothing.
 use Prim.Native.Nat.{ℕ, zero, suc, _+_, _*_, _<_, _≤_}
 use mathlib.Core.Path.{_≡_, ap, sym, _∙_}
+use mathlib.Core.Bool.{true, false}
 use mathlib.Core.List.{List, _++_}
 use native.Mathlib.Omega.{arith}
 use borrow.Author.Tests.{lt-ltb, le-ltb}
@@ -50,9 +51,9 @@ module _ (s : List ℕ) (h : Header) (list : List ℕ) {long : ℕ} {table : Lis
   count-small f = omega (arith, chosen-few table list, g .short)
 
 -- "A refusal returns its number with zeros elsewhere"
-pub told-refused : (m : ℕ) {n : ℕ} (k : ℕ) → n ≡ m → (n ≡ 0 → ⊥) → record { refusal = n; count = 0 } ≡ projectOr m k
+pub told-refused : (m : ℕ) {n : ℕ} (k : ℕ) → n ≡ m → (n ≡ 0 → ⊥) → record { refused = true; refusal = n; count = 0 } ≡ projectOr m k
 told-refused zero k e z = absurd (z e)
-told-refused (suc m) k e z = ap (λ (i : ℕ). record { refusal = i; count = 0 }) e
+told-refused (suc m) k e z = ap (λ (i : ℕ). record { refused = true; refusal = i; count = 0 }) e
 
 -- the room, once the projection P is known by its count n
 module _ (room n : ℕ) (P : List ℕ) (e : n ≡ length P) where
@@ -62,14 +63,14 @@ module _ (room n : ℕ) (P : List ℕ) (e : n ≡ length P) where
   enough : n ≤ room → roomRefusal room P ≡ 0
   enough l = rw (le-ltb room (length P) (omega arith))
 
-  pub short-answer : room < n → record { refusal = 13; count = 0 } ≡ projectOr (roomRefusal room P) (length P)
+  pub short-answer : room < n → record { refused = true; refusal = 13; count = 0 } ≡ projectOr (roomRefusal room P) (length P)
   short-answer l = told-refused (roomRefusal room P) (length P) (sym (no-room l)) (λ z. omega arith)
 
   pub short-output : room < n → (out : List ℕ) → out ≡ written (roomRefusal room P) P out
   short-output l out = kept-refused (roomRefusal room P) P out (sym (no-room l)) (λ z. omega arith)
 
-  pub whole-answer : n ≤ room → record { refusal = 0; count = n } ≡ projectOr (roomRefusal room P) (length P)
-  whole-answer l = rw (enough l) (ap (λ (i : ℕ). record { refusal = 0; count = i }) e)
+  pub whole-answer : n ≤ room → record { refused = false; refusal = 0; count = n } ≡ projectOr (roomRefusal room P) (length P)
+  whole-answer l = rw (enough l) (ap (λ (i : ℕ). record { refused = false; refusal = 0; count = i }) e)
 
   pub whole-output : n ≤ room → (out out′ : List ℕ) → out′ ≡ P ++ drop (length P) out → out′ ≡ written (roomRefusal room P) P out
   whole-output l out out′ f = rw (enough l) f

@@ -1,7 +1,9 @@
 -- What a projection answers in document 01's numbers, and why it is refused once its files were read.
 -- Assumes nothing.
 use Prim.Native.Nat.{ℕ}
+use mathlib.Core.Bool.{true, false}
 use mathlib.Core.List.{List}
+use mathlib.Core.Path.{_≡_}
 use lib.ListN.{length}
 use lib.Dec.{ltb}
 use Rattle.file.specs.Refusal.{refuse, orElse}
@@ -11,8 +13,12 @@ use Rattle.projection.specs.declared.Projected.the-variants.{Count, Refu
 
 -- document 01's number and values for each outcome: "it returns the count"
 abbrev pub projectedNumbers : Projected → ProjectAnswer
-projectedNumbers (Count n) = record { refusal = 0; count = n }
-projectedNumbers (Refused n) = record { refusal = n; count = 0 }
+projectedNumbers (Count n) = record { refused = false; refusal = 0; count = n }
+projectedNumbers (Refused n) = record { refused = true; refusal = n; count = 0 }
+
+-- no two answers have the same numbers: an equation of numbers is one of answers
+abbrev pub ToldApart : Type 0
+ToldApart = (a b : Projected) → projectedNumbers a ≡ projectedNumbers b → a ≡ b
 
 -- 13 "shorter than .. the projected count", for an output of `room` entries
 abbrev pub roomRefusal : ℕ → List ℕ → ℕ

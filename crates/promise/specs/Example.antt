@@ -52,7 +52,7 @@ pub record Holds (file ps ts : List ℕ) (arcs bytes : ℕ) : Type 0 where
 
 -- a list that fires, and the six entries lent after it, the last of them being 7 before
 pub record Ends (plan list entries : List ℕ) : Type 0 where
-  pub answer : replayAnswer plan list 6 ≡ record { refusal = 0; stuck = false; full = false; index = 0; place = 0; amount = 0 }
+  pub answer : replayAnswer plan list 6 ≡ record { refused = false; refusal = 0; stuck = false; full = false; index = 0; place = 0; amount = 0 }
   pub marking : replayMarking plan list (9 ∷ 9 ∷ 9 ∷ 9 ∷ 9 ∷ 7 ∷ []) ≡ entries
 
 -- the starred examples
@@ -60,15 +60,15 @@ pub record Starred : Type 0 where
   pub file : (length smallPlan ≡ 108) × (fileRefusal due.Plan smallPlan ≡ 0)
   pub fires : Ends smallPlan (0 ∷ 1 ∷ 0 ∷ 1 ∷ 2 ∷ []) (0 ∷ 1 ∷ 0 ∷ 0 ∷ 1 ∷ 7 ∷ [])
   pub empty : Ends smallPlan [] (2 ∷ 1 ∷ 0 ∷ 0 ∷ 0 ∷ 7 ∷ [])
-  pub second-sticks : replayAnswer smallPlan (0 ∷ 0 ∷ []) 6 ≡ record { refusal = 0; stuck = true; full = false; index = 1; place = 1; amount = 1 }
-  pub third-sticks : replayAnswer smallPlan (3 ∷ 3 ∷ 0 ∷ []) 6 ≡ record { refusal = 0; stuck = true; full = false; index = 2; place = 0; amount = 1 }
-  pub takes-two : effectAnswer smallPlan 3 2 ≡ record { refusal = 0; effect = negsuc 1 }
-  pub no-effect : effectAnswer smallPlan 0 1 ≡ record { refusal = 0; effect = pos 0 }
+  pub second-sticks : replayAnswer smallPlan (0 ∷ 0 ∷ []) 6 ≡ record { refused = false; refusal = 0; stuck = true; full = false; index = 1; place = 1; amount = 1 }
+  pub third-sticks : replayAnswer smallPlan (3 ∷ 3 ∷ 0 ∷ []) 6 ≡ record { refused = false; refusal = 0; stuck = true; full = false; index = 2; place = 0; amount = 1 }
+  pub takes-two : effectAnswer smallPlan 3 2 ≡ record { refused = false; refusal = 0; effect = negsuc 1 }
+  pub no-effect : effectAnswer smallPlan 0 1 ≡ record { refused = false; refusal = 0; effect = pos 0 }
   pub safety-for-2 : Holds (safetyFile smallPlan (2 ∷ [])) (0 ∷ 1 ∷ 2 ∷ []) (0 ∷ 1 ∷ []) 5 78
   pub branching-for-2 : Holds (branchingFile smallPlan (2 ∷ [])) (0 ∷ 1 ∷ 2 ∷ []) (0 ∷ 1 ∷ 3 ∷ []) 6 88
   pub safety-for-3 : Holds (safetyFile smallPlan (3 ∷ [])) (0 ∷ 1 ∷ 2 ∷ 3 ∷ []) (0 ∷ 1 ∷ 2 ∷ []) 7 102
   pub projection : projectOutput smallPlan (safetyFile smallPlan (2 ∷ [])) (3 ∷ 0 ∷ 1 ∷ 2 ∷ []) (9 ∷ 9 ∷ 7 ∷ []) ≡ 0 ∷ 1 ∷ 7 ∷ []
-  pub projected : projectAnswer smallPlan (safetyFile smallPlan (2 ∷ [])) (3 ∷ 0 ∷ 1 ∷ 2 ∷ []) 3 ≡ record { refusal = 0; count = 2 }
+  pub projected : projectAnswer smallPlan (safetyFile smallPlan (2 ∷ [])) (3 ∷ 0 ∷ 1 ∷ 2 ∷ []) 3 ≡ record { refused = false; refusal = 0; count = 2 }
 
 -- what document 01 says without a star: the file in hexadecimal, the edges, "Errors to expect", and the calls' other answers
 pub record Noted : Type 0 where
@@ -82,16 +82,16 @@ pub record Noted : Type 0 where
   pub four-missing : replayAnswer (set smallPlan 74 5) (0 ∷ 1 ∷ 2 ∷ []) 6 .amount ≡ 4
   pub four-of-a-sum : replayAnswer (set (set smallPlan 32 0) 34 5) (0 ∷ []) 6 .amount ≡ 4
   pub none-missing : replayAnswer smallPlan (0 ∷ []) 6 .amount ≡ 0
-  pub no-place : effectAnswer smallPlan 5 9 ≡ record { refusal = 10; effect = pos 0 }
-  pub no-transition : effectAnswer smallPlan 4 4 ≡ record { refusal = 12; effect = pos 0 }
-  pub little-room : replayAnswer smallPlan [] 4 ≡ record { refusal = 13; stuck = false; full = false; index = 0; place = 0; amount = 0 }
-  pub cut-counts : safetyAnswer smallPlan (2 ∷ []) 78 ≡ record { refusal = 0; length = 78; places = 3; transitions = 2 }
-  pub cut-no-room : safetyAnswer smallPlan (2 ∷ []) 77 ≡ record { refusal = 13; length = 0; places = 0; transitions = 0 }
-  pub no-criterion : checked smallPlan (safetyFile smallPlan (2 ∷ [])) [] ≡ record { code = 9; number = 0 }
-  pub not-rising : checked smallPlan (safetyFile smallPlan (2 ∷ [])) (2 ∷ 2 ∷ []) ≡ record { code = 10; number = 0 }
-  pub own-cut : checked smallPlan (safetyFile smallPlan (2 ∷ [])) (2 ∷ []) ≡ record { code = 0; number = 0 }
-  pub own-branching-cut : checked smallPlan (branchingFile smallPlan (2 ∷ [])) (2 ∷ []) ≡ record { code = 0; number = 0 }
-  pub too-small : checked smallPlan (safetyFile smallPlan (2 ∷ [])) (2 ∷ 3 ∷ []) ≡ record { code = 105; number = 3 }
+  pub no-place : effectAnswer smallPlan 5 9 ≡ record { refused = true; refusal = 10; effect = pos 0 }
+  pub no-transition : effectAnswer smallPlan 4 4 ≡ record { refused = true; refusal = 12; effect = pos 0 }
+  pub little-room : replayAnswer smallPlan [] 4 ≡ record { refused = true; refusal = 13; stuck = false; full = false; index = 0; place = 0; amount = 0 }
+  pub cut-counts : safetyAnswer smallPlan (2 ∷ []) 78 ≡ record { refused = false; refusal = 0; length = 78; places = 3; transitions = 2 }
+  pub cut-no-room : safetyAnswer smallPlan (2 ∷ []) 77 ≡ record { refused = true; refusal = 13; length = 0; places = 0; transitions = 0 }
+  pub no-criterion : checked smallPlan (safetyFile smallPlan (2 ∷ [])) [] ≡ record { refused = true; code = 9; number = 0 }
+  pub not-rising : checked smallPlan (safetyFile smallPlan (2 ∷ [])) (2 ∷ 2 ∷ []) ≡ record { refused = true; code = 10; number = 0 }
+  pub own-cut : checked smallPlan (safetyFile smallPlan (2 ∷ [])) (2 ∷ []) ≡ record { refused = false; code = 0; number = 0 }
+  pub own-branching-cut : checked smallPlan (branchingFile smallPlan (2 ∷ [])) (2 ∷ []) ≡ record { refused = false; code = 0; number = 0 }
+  pub too-small : checked smallPlan (safetyFile smallPlan (2 ∷ [])) (2 ∷ 3 ∷ []) ≡ record { refused = false; code = 105; number = 3 }
   pub in-bytes : checkedBytes smallPlan (safetyFile smallPlan (2 ∷ [])) (2 ∷ 0 ∷ 3 ∷ 0 ∷ []) ≡ 105
   pub odd-bytes : checkedBytes smallPlan (safetyFile smallPlan (2 ∷ [])) (2 ∷ 0 ∷ 3 ∷ []) ≡ 9
   pub run : arcRun smallPlan (safetyFile smallPlan (2 ∷ [])) false 2 ≡ 2 ∷ 0 ∷ 0 ∷ 0 ∷ 3 ∷ 0 ∷ 2 ∷ 0 ∷ 2 ∷ 0 ∷ 1 ∷ 0 ∷ 4 ∷ 0 ∷ 1 ∷ 0 ∷ []
@@ -107,12 +107,12 @@ parallelPlan = set (set (set (take 76 smallPlan) 74 1 ++ 2 ∷ 0 ∷ 0 ∷ 0 ∷
 -- "equal neighbours are allowed", "sums over all such arcs", "Rule 4 compares arc runs with repeats, in order", "7 now means below the arc before"
 pub record Parallels : Type 0 where
   pub file : (length parallelPlan ≡ 116) × (fileRefusal due.Plan parallelPlan ≡ 0)
-  pub takes-two : effectAnswer parallelPlan 3 2 ≡ record { refusal = 0; effect = negsuc 1 }
+  pub takes-two : effectAnswer parallelPlan 3 2 ≡ record { refused = false; refusal = 0; effect = negsuc 1 }
   pub fires : Ends parallelPlan (0 ∷ 1 ∷ 0 ∷ 1 ∷ 2 ∷ []) (0 ∷ 1 ∷ 0 ∷ 0 ∷ 1 ∷ 7 ∷ [])
-  pub sticks : replayAnswer parallelPlan (0 ∷ 1 ∷ 2 ∷ []) 6 ≡ record { refusal = 0; stuck = true; full = false; index = 2; place = 3; amount = 1 }
+  pub sticks : replayAnswer parallelPlan (0 ∷ 1 ∷ 2 ∷ []) 6 ≡ record { refused = false; refusal = 0; stuck = true; full = false; index = 2; place = 3; amount = 1 }
   pub run : arcRun parallelPlan onePlaceCut false 2 ≡ 2 ∷ 0 ∷ 0 ∷ 0 ∷ 3 ∷ 0 ∷ 1 ∷ 0 ∷ 2 ∷ 0 ∷ 0 ∷ 0 ∷ 3 ∷ 0 ∷ 1 ∷ 0 ∷ 2 ∷ 0 ∷ 1 ∷ 0 ∷ 4 ∷ 0 ∷ 1 ∷ 0 ∷ []
   pub safety-for-3 : Holds (safetyFile parallelPlan (3 ∷ [])) (0 ∷ 1 ∷ 2 ∷ 3 ∷ []) (0 ∷ 1 ∷ 2 ∷ []) 8 110
-  pub joined : checked parallelPlan (safetyFile smallPlan (3 ∷ [])) (3 ∷ []) ≡ record { code = 104; number = 2 }
+  pub joined : checked parallelPlan (safetyFile smallPlan (3 ∷ [])) (3 ∷ []) ≡ record { refused = false; code = 104; number = 2 }
   pub falling : fileRefusal due.Plan (set smallPlan 24 2) ≡ 7
 
 -- the small plan's net with caps, as files of edition 2 will have them

@@ -3,3 +3,4 @@ pub mod Short
 pub mod Listing
 pub mod Underway
 pub mod Loading
+pub mod Apart

@@ -1,7 +1,7 @@
 -- What is known of a list and a marking that are not refused. Assumes nothing.
 use Prim.Native.Nat.{ℕ, zero, suc, _≤_}
 use mathlib.Core.Path.{_≡_, sym, ap, _∙_}
-use mathlib.Core.Bool.{false}
+use mathlib.Core.Bool.{true, false}
 use mathlib.Core.List.{List}
 use borrow.Author.Tests.{ltb-false}
 use lib.Dec.{ltb}
@@ -23,9 +23,9 @@ module _ (h : Header) (list : List ℕ) (room : ℕ) {n : ℕ} (e : n ≡ heldBa
   room-enough = ltb-false room (h .places) (refuse-0 (ltb room (h .places)) 12 0 (parts .1) .0)
 
 -- "A refusal returns its number with zeros elsewhere; lent buffers keep every byte"
-pub told-refused : (m : ℕ) {n : ℕ} (a : Answer) → n ≡ m → (n ≡ 0 → ⊥) → record { refusal = n; stuck = false; full = false; index = 0; place = 0; amount = 0 } ≡ replayOr m a
+pub told-refused : (m : ℕ) {n : ℕ} (a : Answer) → n ≡ m → (n ≡ 0 → ⊥) → record { refused = true; refusal = n; stuck = false; full = false; index = 0; place = 0; amount = 0 } ≡ replayOr m a
 told-refused zero a e z = absurd (z e)
-told-refused (suc m) a e z = ap (λ (k : ℕ). record { refusal = k; stuck = false; full = false; index = 0; place = 0; amount = 0 }) e
+told-refused (suc m) a e z = ap (λ (k : ℕ). record { refused = true; refusal = k; stuck = false; full = false; index = 0; place = 0; amount = 0 }) e
 
 -- and where nothing is refused
 pub told-whole : (m : ℕ) {n : ℕ} (r : ReplayAnswer) (a : Answer) → n ≡ m → n ≡ 0 → r ≡ replayTold a → r ≡ replayOr m a

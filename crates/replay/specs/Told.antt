@@ -3,6 +3,7 @@
 use Prim.Native.Nat.{ℕ}
 use mathlib.Core.Bool.{true, false}
 use mathlib.Core.List.{List}
+use mathlib.Core.Path.{_≡_}
 use lib.Dec.{ltb}
 use Rattle.file.specs.Refusal.{refuse, orElse}
 use Rattle.file.specs.declared.Header.{Header}
@@ -12,9 +13,13 @@ use Rattle.replay.specs.declared.Outcome.the-variants.{Fired, Stuck, Ref
 
 -- document 01's number and values for each outcome
 abbrev pub outcomeNumbers : Outcome → ReplayAnswer
-outcomeNumbers Fired = record { refusal = 0; stuck = false; full = false; index = 0; place = 0; amount = 0 }
-outcomeNumbers (Stuck i p n) = record { refusal = 0; stuck = true; full = false; index = i; place = p; amount = n }
-outcomeNumbers (Refused n) = record { refusal = n; stuck = false; full = false; index = 0; place = 0; amount = 0 }
+outcomeNumbers Fired = record { refused = false; refusal = 0; stuck = false; full = false; index = 0; place = 0; amount = 0 }
+outcomeNumbers (Stuck i p n) = record { refused = false; refusal = 0; stuck = true; full = false; index = i; place = p; amount = n }
+outcomeNumbers (Refused n) = record { refused = true; refusal = n; stuck = false; full = false; index = 0; place = 0; amount = 0 }
+
+-- no two outcomes have the same numbers: an equation of numbers is one of outcomes
+abbrev pub ToldApart : Type 0
+ToldApart = (a b : Outcome) → outcomeNumbers a ≡ outcomeNumbers b → a ≡ b
 
 -- "list, buffer": 11, 12, then 13 "shorter than P entries"
 abbrev pub heldBack : Header → List ℕ → ℕ → ℕ

@@ -1,6 +1,6 @@
 -- From the parts of a slice file to the file, its length and the answer. Assumes nothing.
 use Prim.Native.Nat.{ℕ, _+_, _-_, _*_, _/_, _≤_, _<_}
-use mathlib.Core.Bool.{true, _&&_}
+use mathlib.Core.Bool.{true, false, _&&_}
 use mathlib.Core.List.{List, [], _∷_, _++_, append-assoc}
 use mathlib.Core.Path.{_≡_, refl, sym, ap, subst, subst⁻¹, _∙_}
 use native.Mathlib.Omega.{arith}
@@ -193,6 +193,6 @@ module _ (S : Slice) (entry : List ℕ) where
   pub room : (exit : List ℕ) (k p t : ℕ) → length (sliceBytes S) ≤ length entry → exit ≡ sets entry 0 (sliceBytes S) → k ≡ length (sliceBytes S) → p ≡ S .net .places → t ≡ S .net .transitions
       → Answers S entry exit (Written k p t)
   room exit k p t h e ke pe te = record {
-    answer = rw (le-ltb (length entry) (length (sliceBytes S)) h) (λ i. record { refusal = 0; length = ke i; places = pe i; transitions = te i });
+    answer = rw (le-ltb (length entry) (length (sliceBytes S)) h) (λ i. record { refused = false; refusal = 0; length = ke i; places = pe i; transitions = te i });
     buffer = rw (le-ltb (length entry) (length (sliceBytes S)) h) (e ∙ sets-first (sliceBytes S) entry h);
   }

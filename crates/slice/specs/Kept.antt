@@ -2,7 +2,7 @@
 -- between them. The cut returns the file's length and how many places and transitions it kept" (document 01, "The two cuts").
 -- Assumes nothing.
 use Prim.Native.Nat.{ℕ, _<_}
-use mathlib.Core.Bool.{true}
+use mathlib.Core.Bool.{true, false}
 use mathlib.Core.List.{List}
 use mathlib.Core.Path.{_≡_}
 use lib.Dec.{ltb}
@@ -21,8 +21,12 @@ use Rattle.slice.specs.declared.Cut.the-variants.{Written, Refused}
 
 -- the number and values of each answer
 abbrev pub cutNumbers : Cut → CutAnswer
-cutNumbers (Written n p t) = record { refusal = 0; length = n; places = p; transitions = t }
-cutNumbers (Refused k) = record { refusal = k; length = 0; places = 0; transitions = 0 }
+cutNumbers (Written n p t) = record { refused = false; refusal = 0; length = n; places = p; transitions = t }
+cutNumbers (Refused k) = record { refused = true; refusal = k; length = 0; places = 0; transitions = 0 }
+
+-- no two answers have the same numbers: an equation of numbers is one of answers
+abbrev pub ToldApart : Type 0
+ToldApart = (a b : Cut) → cutNumbers a ≡ cutNumbers b → a ≡ b
 
 -- each kept place is one of the plan's, and so is each kept transition
 pub record Within (kept : KeptSets) (h : Header) : Type 0 where

@@ -44,7 +44,9 @@ fn write_parts(
     parts::write_origins(ts, end, buffer);
     parts::write_trailer(ps.len(), ts.len(), (middle - start) / 8, body, buffer);
     let bytes = (body + 16) as u32;
-    Cut::Written(bytes, ps.len() as u32, ts.len() as u32)
+    let kept_places = ps.len() as u32;
+    let kept_transitions = ts.len() as u32;
+    Cut::Written(bytes, kept_places, kept_transitions)
 }
 
 // Writes the file where the buffer has room for it. Arcs are counted only where all of the plan's would not fit.

@@ -158,8 +158,8 @@ same-length-2 : tie.Need-same-length-2 Inv-loop μ-loop Inv-firings μ-firings
 same-length-2 c = here (c .before .before .before .before .before .before .before .before .before .before .before .before) .long
 
 stuck-told : (k : ℕ) {p q m n : ℕ} → p ≡ q → m ≡ n
-    → _≡_ {A = ReplayAnswer} (record { refusal = 0; stuck = true; full = false; index = k; place = p; amount = m }) (record { refusal = 0; stuck = true; full = false; index = k; place = q; amount = n })
-stuck-told k e f = λ i. record { refusal = 0; stuck = true; full = false; index = k; place = e i; amount = f i }
+    → _≡_ {A = ReplayAnswer} (record { refused = false; refusal = 0; stuck = true; full = false; index = k; place = p; amount = m }) (record { refused = false; refusal = 0; stuck = true; full = false; index = k; place = q; amount = n })
+stuck-told k e f = λ i. record { refused = false; refusal = 0; stuck = true; full = false; index = k; place = e i; amount = f i }
 
 returns-2 : tie.Need-returns-2 Inv-loop μ-loop Inv-firings μ-firings
 returns-2 c =

@@ -12,6 +12,26 @@ use Rattle.slice.proofs.Laws.{arcs-known, arcs-are, few-arcs, file-leng
 use Rattle.slice.proofs.write_parts.Statement.{statement}
 use Rattle.slice.proofs.write_parts.Tie as tie
 
+-- from a part that was written back to the one before it
+abbrev start-of : tie.After-write-markings → tie.Start
+start-of c = c .before .before .before .before .before .before .before .before
+
+abbrev markings-of : tie.After-write-arcs → tie.After-write-markings
+markings-of c = c .before .before .before .before
+
+abbrev arcs-of : tie.After-write-origins → tie.After-write-arcs
+arcs-of c = c .before .before .before .before
+
+abbrev places-of : tie.After-write-origins2 → tie.After-write-origins
+places-of c = c .before .before .before .before
+
+abbrev transitions-of : tie.After-write-trailer → tie.After-write-origins2
+transitions-of c = c .before .before .before .before
+
+-- from the last place back to the arcs
+abbrev arcs-at : tie.After-slice-known6 → tie.After-write-arcs
+arcs-at c = arcs-of (places-of (transitions-of (c .before .before)))
+
 -- the slice's arcs
 abbrev arcs : tie.Start → ℕ
 arcs c = length (restrict (c .args .ps .now) (c .args .ts .now) (netFrom (c .args .plan .now) (c .args .h) .arcs))
@@ -31,8 +51,15 @@ found-length : (c : tie.Start) → length (arcsBytes (keptArcs (c .args .places 
 found-length c = omega (arith, length-arcs (keptArcs (c .args .places .now) (c .args .transitions .now) (arcsFrom (c .args .plan .now) (c .args .h .arcstart) (c .args .h .arcs))), ap length (found c))
 
 -- where they end
-middle-is : (c : tie.After-write-arcs) → c .write-arcs .result ≡ 4 * length (c .before .before .before .before .before .before .before .before .before .before .before .before .args .ps .now) + 8 * arcs (c .before .before .before .before .before .before .before .before .before .before .before .before)
-middle-is c = omega (arith, c .write-arcs .ensures .count, found-length (c .before .before .before .before .before .before .before .before .before .before .before .before))
+middle-is : (c : tie.After-write-arcs) → let start = start-of (markings-of c) in c .write-arcs .result ≡ 4 * length (start .args .ps .now) + 8 * arcs start
+middle-is c = omega (arith, c .write-arcs .ensures .count, found-length (start-of (markings-of c)))
+
+-- and how much is written after them
+ends : (c : tie.After-write-arcs) → let start = start-of (markings-of c) in c .write-arcs .result + 2 * length (start .args .ps .now) + 2 * length (start .args .ts .now) + 16 ≤ length (start .args .buffer .now)
+ends c = omega (arith, middle-is c, size (start-of (markings-of c)))
+
+low : (c : tie.After-write-arcs) → c .write-arcs .result ≤ 36864
+low c = let start = start-of (markings-of c) in omega (arith, middle-is c, few start, start .pre .1 .0 .few-places)
 
 mul-start : tie.Need-mul-start
 mul-start c = search needs
@@ -44,58 +71,68 @@ write-markings-requires c κs =
 
 write-arcs-requires : tie.Need-write-arcs-requires
 write-arcs-requires c κs =
-    let start = c .before .before .before .before .before .before .before .before .before .before .before in
+    let start = start-of (c .before .before .before) in
     (arcs-known _ _ (start .pre .0) _ _ _ _ (start .pre .1 .1 .0), omega (arith, size start, found-length start))
 
 mul-end : tie.Need-mul-end
 mul-end c = search needs
 
 add-end : tie.Need-add-end
-add-end c = omega (arith, middle-is (c .before .before), size (c .before .before .before .before .before .before .before .before .before .before .before .before .before .before))
+add-end c = omega (arith, ends (c .before .before))
 
 mul-body : tie.Need-mul-body
 mul-body c = search needs
 
 add-body : tie.Need-add-body
-add-body c = omega (arith, middle-is (c .before .before), size (c .before .before .before .before .before .before .before .before .before .before .before .before .before .before))
+add-body c = omega (arith, ends (c .before .before))
 
 write-origins-requires : tie.Need-write-origins-requires
-write-origins-requires c κs = omega (arith, middle-is (c .before .before .before), size (c .before .before .before .before .before .before .before .before .before .before .before .before .before .before .before))
+write-origins-requires c κs = omega (arith, ends (c .before .before .before))
 
 write-origins-requires-2 : tie.Need-write-origins-requires-2
-write-origins-requires-2 c κs = omega (arith, middle-is (c .before .before .before .before .before .before .before), size (c .before .before .before .before .before .before .before .before .before .before .before .before .before .before .before .before .before .before .before))
+write-origins-requires-2 c κs = omega (arith, ends (arcs-of (c .before .before .before)))
 
 sub-write-trailer : tie.Need-sub-write-trailer
 sub-write-trailer c = search needs
 
 write-trailer-requires : tie.Need-write-trailer-requires
-write-trailer-requires c κs = omega (arith, middle-is (c .before .before .before .before .before .before .before .before .before .before .before), size (c .before .before .before .before .before .before .before .before .before .before .before .before .before .before .before .before .before .before .before .before .before .before .before))
+write-trailer-requires c κs = omega (arith, ends (arcs-of (places-of (c .before .before .before))))
 
+-- the three numbers of the answer
 add-bytes : tie.Need-add-bytes
-add-bytes c = omega (arith, middle-is (c .before .before .before .before .before .before .before .before .before .before .before .before .before .before), few (c .before .before .before .before .before .before .before .before .before .before .before .before .before .before .before .before .before .before .before .before .before .before .before .before .before .before), c .before .before .before .before .before .before .before .before .before .before .before .before .before .before .before .before .before .before .before .before .before .before .before .before .before .before .pre .1 .0 .few-places, c .before .before .before .before .before .before .before .before .before .before .before .before .before .before .before .before .before .before .before .before .before .before .before .before .before .before .pre .1 .0 .few-transitions)
+add-bytes c =
+    let start = start-of (markings-of (arcs-at c)) in
+    omega (arith, low (arcs-at c), start .pre .1 .0 .few-places, start .pre .1 .0 .few-transitions)
 
 cast-bytes : tie.Need-cast-bytes
-cast-bytes c = omega (arith, middle-is (c .before .before .before .before .before .before .before .before .before .before .before .before .before .before), few (c .before .before .before .before .before .before .before .before .before .before .before .before .before .before .before .before .before .before .before .before .before .before .before .before .before .before), c .before .before .before .before .before .before .before .before .before .before .before .before .before .before .before .before .before .before .before .before .before .before .before .before .before .before .pre .1 .0 .few-places, c .before .before .before .before .before .before .before .before .before .before .before .before .before .before .before .before .before .before .before .before .before .before .before .before .before .before .pre .1 .0 .few-transitions)
+cast-bytes c =
+    let start = start-of (markings-of (arcs-at c)) in
+    omega (arith, low (arcs-at c), start .pre .1 .0 .few-places, start .pre .1 .0 .few-transitions)
 
-cast-t28 : tie.Need-cast-t28
-cast-t28 c = omega (arith, c .before .before .before .before .before .before .before .before .before .before .before .before .before .before .before .before .before .before .before .before .before .before .before .before .before .before .pre .1 .0 .few-places, c .before .before .before .before .before .before .before .before .before .before .before .before .before .before .before .before .before .before .before .before .before .before .before .before .before .before .pre .1 .0 .few-transitions)
+cast-kept-places : tie.Need-cast-kept-places
+cast-kept-places c = omega (arith, start-of (markings-of (arcs-at c)) .pre .1 .0 .few-places)
 
-cast-t29 : tie.Need-cast-t29
-cast-t29 c = omega (arith, c .before .before .before .before .before .before .before .before .before .before .before .before .before .before .before .before .before .before .before .before .before .before .before .before .before .before .pre .1 .0 .few-places, c .before .before .before .before .before .before .before .before .before .before .before .before .before .before .before .before .before .before .before .before .before .before .before .before .before .before .pre .1 .0 .few-transitions)
+cast-kept-transitions : tie.Need-cast-kept-transitions
+cast-kept-transitions c = omega (arith, start-of (markings-of (arcs-at c)) .pre .1 .0 .few-transitions)
 
 same-length : tie.Need-same-length
 same-length c = search needs
 
 returns : tie.Need-returns
 returns c =
-    let start = c .before .before .before .before .before .before .before .before .before .before .before .before .before .before .before .before .before .before .before .before .before .before .before .before .before .before in
+    let trailer = c .before .before in
+    let transitions = transitions-of trailer in
+    let places = places-of transitions in
+    let middle = arcs-of places in
+    let markings = markings-of middle in
+    let start = start-of markings in
     let N = netFrom (start .args .plan .now) (start .args .h) in
     let ps = start .args .ps .now in
     let ts = start .args .ts .now in
     room (keeping N ps ts) (start .args .buffer .now) _ _ _ _ (start .pre .1 .1 .1)
-    (parts-stored N ps ts _ (c .before .before .before .before .before .before .before .before .before .before .before .before .before .before .write-arcs .result) (start .args .buffer .now) _ _ _ _ _ (found start)
-    (c .before .before .before .before .before .before .before .before .before .before .before .before .before .before .before .before .before .before .write-markings .ensures) (c .before .before .before .before .before .before .before .before .before .before .before .before .before .before .write-arcs .ensures) (c .before .before .before .before .before .before .before .before .before .before .write-origins .ensures) (c .before .before .before .before .before .before .write-origins2 .ensures) (c .before .before .write-trailer .ensures))
-    (omega (arith, middle-is (c .before .before .before .before .before .before .before .before .before .before .before .before .before .before), file-length N ps ts)) (kept-places N ps ts) (kept-transitions N ps ts)
+    (parts-stored N ps ts _ (middle .write-arcs .result) (start .args .buffer .now) _ _ _ _ _ (found start)
+    (markings .write-markings .ensures) (middle .write-arcs .ensures) (places .write-origins .ensures) (transitions .write-origins2 .ensures) (trailer .write-trailer .ensures))
+    (omega (arith, middle-is middle, file-length N ps ts)) (kept-places N ps ts) (kept-transitions N ps ts)
 
 pub write-parts-spec : {M : Type 1} → statement M
 write-parts-spec =
@@ -114,7 +151,7 @@ write-parts-spec =
     write-trailer-requires
     add-bytes
     cast-bytes
-    cast-t28
-    cast-t29
+    cast-kept-places
+    cast-kept-transitions
     same-length
     returns)
