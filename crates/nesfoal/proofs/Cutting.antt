@@ -1,6 +1,6 @@
 -- The answer and the buffer of a cut, by the way out that the call took. Assumes nothing.
 use Prim.Native.Nat.{ℕ, zero, suc, _<_}
-use mathlib.Core.Path.{_≡_, refl, sym, ap, ap₂, subst, _∙_}
+use mathlib.Core.Path.{_≡_, refl, sym, ap, ap₂, subst, subst⁻¹, _∙_}
 use mathlib.Core.Logic.{_≢_}
 use mathlib.Core.Bool.{Bool, true, false}
 use mathlib.Core.List.{List}
@@ -25,6 +25,7 @@ use Rattle.cut.specs.Kept.{growthOf, Kept}
 use Rattle.slice.specs.Kept.{cutNumbers, keptSlice, roomRefusal, Answers, Within}
 use Rattle.slice.specs.declared.Cut.{Cut}
 use Rattle.slice.specs.declared.Cut.the-variants.{Refused}
+use Rattle.nesfoal.specs.Cuts.{cutRead}
 
 -- what a refused cut answers and leaves
 refused : (n len : ℕ) (S : Slice) → n ≢ 0 → cutNumbers (Refused n) ≡ cutAnswer n len S
@@ -114,3 +115,19 @@ pub safety-all : (plan Q entry : List ℕ) {exit : List ℕ} {a : CutAnswer} →
     → (a ≡ safetyAnswer plan Q (length entry)) × ((exit ≡ safetyBuffer plan Q entry) × WritesSmallest plan Q a exit)
 unfolding Bytes
 safety-all plan Q entry b (e, f) = (e, (f, writes-smallest plan Q entry b e f))
+
+-- the same as a C program reads it
+as-read : (n len : ℕ) (S : Slice) → let a = cutAnswer n len S in cutRead (a .refusal) (a .length) (a .places) (a .transitions) ≡ a
+as-read zero len S = refl
+as-read (suc n) len S = refl
+
+safety-as-read : (plan Q : List ℕ) (room : ℕ) → let a = safetyAnswer plan Q room in cutRead (a .refusal) (a .length) (a .places) (a .transitions) ≡ a
+unfolding safetyAnswer
+safety-as-read plan Q room = as-read (writeRefusal plan Q room (safetyFile plan Q)) (length (safetyFile plan Q)) (cutOf safety plan Q)
+
+pub safety-for-c : (plan Q : List ℕ) (room : ℕ) {exit : List ℕ} {a : CutAnswer} {r n p t : ℕ} → a ≡ safetyAnswer plan Q room → WritesSmallest plan Q a exit
+    → r ≡ safetyAnswer plan Q room .refusal → n ≡ safetyAnswer plan Q room .length → p ≡ safetyAnswer plan Q room .places → t ≡ safetyAnswer plan Q room .transitions
+    → WritesSmallest plan Q (cutRead r n p t) exit
+safety-for-c plan Q room {exit} e w er en ep et =
+    let same = (λ i. cutRead (er i) (en i) (ep i) (et i)) ∙ safety-as-read plan Q room ∙ sym e in
+    subst⁻¹ (λ (x : CutAnswer). WritesSmallest plan Q x exit) same w

@@ -4,6 +4,7 @@ ghost use lib.ListN.{length};
 ghost use Rattle.promise.specs.Calls.{safetyAnswer, safetyBuffer, branchingAnswer, branchingBuffer};
 ghost use Rattle.promise.specs.Promise.{WritesSmallest};
 ghost use Rattle.slice.specs.Kept.{cutNumbers};
+ghost use Rattle.nesfoal.specs.Cuts.{cutRead};
 use file::Due;
 use file::Reading;
 use slice::Cut;
@@ -95,6 +96,7 @@ pub extern "C" fn nesfoal_safety(
     ensures long { λ _. ⌜ now (long .exit) ≡ safetyAnswer (now (plan .entry)) (now (criterion .entry)) (length (now (buffer .entry))) .length ⌝ }
     ensures places { λ _. ⌜ now (places .exit) ≡ safetyAnswer (now (plan .entry)) (now (criterion .entry)) (length (now (buffer .entry))) .places ⌝ }
     ensures transitions { λ _. ⌜ now (transitions .exit) ≡ safetyAnswer (now (plan .entry)) (now (criterion .entry)) (length (now (buffer .entry))) .transitions ⌝ }
+    ensures smallest { λ r. ⌜ WritesSmallest (now (plan .entry)) (now (criterion .entry)) (cutRead r (now (long .exit)) (now (places .exit)) (now (transitions .exit))) (now (buffer .exit)) ⌝ }
 {
     let c = safety(plan, criterion, buffer);
     *long = length_of(c);
