@@ -1,0 +1,14 @@
+-- The answers of the public calls: an equation of numbers in a contract is one of answers. Assumes nothing.
+use Rattle.checker.specs.Answer.{ToldApart as Verdicts}
+use Rattle.replay.specs.Told.{ToldApart as Outcomes}
+use Rattle.projection.specs.Told.{ToldApart as Projections}
+use Rattle.slice.specs.Kept.{ToldApart as Cuts}
+use Rattle.nesfoal.specs.Effect.{ToldApart as Changes}
+
+-- no two answers of a call have the same numbers
+pub record Pinned : Type 0 where
+  pub check : Verdicts
+  pub replay : Outcomes
+  pub project : Projections
+  pub safety-and-branching : Cuts
+  pub effect : Changes
