@@ -1,7 +1,2 @@
-pub mod Effects
-pub mod ArcRuns
-pub mod Replayed
-pub mod Projections
-pub mod Cutting
-pub mod Checks
+pub mod AsRead
 pub mod Apart

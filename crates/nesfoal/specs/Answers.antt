@@ -3,7 +3,7 @@ use Rattle.checker.specs.Answer.{ToldApart as Verdicts}
 use Rattle.replay.specs.Told.{ToldApart as Outcomes}
 use Rattle.projection.specs.Told.{ToldApart as Projections}
 use Rattle.slice.specs.Kept.{ToldApart as Cuts}
-use Rattle.nesfoal.specs.Effect.{ToldApart as Changes}
+use Rattle.call_firing.specs.Effect.{ToldApart as Changes}
 
 -- no two answers of a call have the same numbers
 pub record Pinned : Type 0 where

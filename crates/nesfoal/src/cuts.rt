@@ -5,44 +5,7 @@ ghost use Rattle.promise.specs.Calls.{safetyAnswer, safetyBuffer, branchingAnsw
 ghost use Rattle.promise.specs.Promise.{WritesSmallest};
 ghost use Rattle.slice.specs.Kept.{cutNumbers};
 ghost use Rattle.nesfoal.specs.Cuts.{cutRead};
-use file::Due;
-use file::Reading;
 use slice::Cut;
-
-// The safety cut: writes the smallest slice that the check accepts for the plan and the criterion.
-pub fn safety(plan: &[u8], criterion: &[u16], buffer: &mut [u8]) -> Cut
-    ensures answer { λ r. ⌜ cutNumbers r ≡ safetyAnswer (now (plan .entry)) (now (criterion .entry)) (length (now (buffer .entry))) ⌝ }
-    ensures buffer { λ r. ⌜ now (buffer .exit) ≡ safetyBuffer (now (plan .entry)) (now (criterion .entry)) (now (buffer .entry)) ⌝ }
-    ensures smallest { λ r. ⌜ WritesSmallest (now (plan .entry)) (now (criterion .entry)) (cutNumbers r) (now (buffer .exit)) ⌝ }
-{
-    let whole = file::read(plan, Due::Plan);
-    let Reading::Whole(h) = whole else {
-        return Cut::Refused(file::number(whole));
-    };
-    let broken = criterion::refusal(criterion, h.places);
-    if broken != 0 {
-        return Cut::Refused(broken);
-    }
-    let kept = cut::kept(plan, h, criterion, false);
-    slice::write(plan, h, kept, buffer)
-}
-
-// The branching cut.
-pub fn branching(plan: &[u8], criterion: &[u16], buffer: &mut [u8]) -> Cut
-    ensures answer { λ r. ⌜ cutNumbers r ≡ branchingAnswer (now (plan .entry)) (now (criterion .entry)) (length (now (buffer .entry))) ⌝ }
-    ensures buffer { λ r. ⌜ now (buffer .exit) ≡ branchingBuffer (now (plan .entry)) (now (criterion .entry)) (now (buffer .entry)) ⌝ }
-{
-    let whole = file::read(plan, Due::Plan);
-    let Reading::Whole(h) = whole else {
-        return Cut::Refused(file::number(whole));
-    };
-    let broken = criterion::refusal(criterion, h.places);
-    if broken != 0 {
-        return Cut::Refused(broken);
-    }
-    let kept = cut::kept(plan, h, criterion, true);
-    slice::write(plan, h, kept, buffer)
-}
 
 // The values of an answer.
 fn refusal(c: Cut) -> u32
@@ -81,7 +44,7 @@ fn transitions_of(c: Cut) -> u32
     }
 }
 
-// The safety cut for C: 0 or the number of a refusal; the file's length and the kept counts go to the last three, zeros where it is refused.
+// The safety cut: 0 or the number of a refusal; the file's length and the kept counts go to the last three, zeros where it is refused.
 #[no_mangle]
 pub extern "C" fn nesfoal_safety(
     plan: &[u8],
@@ -98,14 +61,14 @@ pub extern "C" fn nesfoal_safety(
     ensures transitions { λ _. ⌜ now (transitions .exit) ≡ safetyAnswer (now (plan .entry)) (now (criterion .entry)) (length (now (buffer .entry))) .transitions ⌝ }
     ensures smallest { λ r. ⌜ WritesSmallest (now (plan .entry)) (now (criterion .entry)) (cutRead r (now (long .exit)) (now (places .exit)) (now (transitions .exit))) (now (buffer .exit)) ⌝ }
 {
-    let c = safety(plan, criterion, buffer);
+    let c = call_cuts::cuts::safety(plan, criterion, buffer);
     *long = length_of(c);
     *places = places_of(c);
     *transitions = transitions_of(c);
     refusal(c)
 }
 
-// The branching cut for C: 0 or the number of a refusal; the file's length and the kept counts go to the last three, zeros where it is refused.
+// The branching cut: 0 or the number of a refusal; the file's length and the kept counts go to the last three, zeros where it is refused.
 #[no_mangle]
 pub extern "C" fn nesfoal_branching(
     plan: &[u8],
@@ -121,7 +84,7 @@ pub extern "C" fn nesfoal_branching(
     ensures places { λ _. ⌜ now (places .exit) ≡ branchingAnswer (now (plan .entry)) (now (criterion .entry)) (length (now (buffer .entry))) .places ⌝ }
     ensures transitions { λ _. ⌜ now (transitions .exit) ≡ branchingAnswer (now (plan .entry)) (now (criterion .entry)) (length (now (buffer .entry))) .transitions ⌝ }
 {
-    let c = branching(plan, criterion, buffer);
+    let c = call_cuts::cuts::branching(plan, criterion, buffer);
     *long = length_of(c);
     *places = places_of(c);
     *transitions = transitions_of(c);

@@ -1,7 +1,8 @@
-// The public calls of the slicer, each also as a C function. No call asks anything of its caller: bad input is refused with its number.
-pub mod arcs;
+// The C interface: each public call of the crates call_* as a C function, its answer as numbers. Only a crate's own C functions are in its
+// archive, so all of them stand here.
 pub mod cuts;
-pub mod effect;
-pub mod project;
+pub mod effects;
+pub mod projections;
 pub mod replays;
-pub mod verdict;
+pub mod runs;
+pub mod verdicts;

@@ -4,21 +4,7 @@ ghost use lib.ListN.{length};
 ghost use Rattle.promise.specs.Firing.{replayAnswer, replayMarking};
 ghost use Rattle.replay.specs.Told.{outcomeNumbers};
 ghost use Rattle.nesfoal.specs.Replays.{replayCode};
-use file::Due;
-use file::Reading;
 use replay::Outcome;
-
-// Refused: the file's number; 11 or 12 for the list; 13 where the marking has fewer entries than the file has places.
-pub fn replay(file: &[u8], list: &[u16], marking: &mut [u64]) -> Outcome
-    ensures answer { λ r. ⌜ outcomeNumbers r ≡ replayAnswer (now (file .entry)) (now (list .entry)) (length (now (marking .entry))) ⌝ }
-    ensures marking { λ _. ⌜ now (marking .exit) ≡ replayMarking (now (file .entry)) (now (list .entry)) (now (marking .entry)) ⌝ }
-{
-    let whole = file::read(file, Due::Either);
-    let Reading::Whole(h) = whole else {
-        return Outcome::Refused(file::number(whole));
-    };
-    replay::replay(file, h, list, marking)
-}
 
 // 0 where all fired, 100 where the list is stuck, else the number of a refusal.
 fn code(o: Outcome) -> u32
@@ -64,7 +50,7 @@ fn amount_of(o: Outcome) -> u32
     }
 }
 
-// The same for C: 0 where all fired, 100 where the list is stuck, or the number of a refusal; index, place and the tokens
+// Replay: 0 where all fired, 100 where the list is stuck, or the number of a refusal; index, place and the tokens
 // missing there go to the last three parameters, zeros where the list is not stuck.
 #[no_mangle]
 pub extern "C" fn nesfoal_replay(
@@ -81,7 +67,7 @@ pub extern "C" fn nesfoal_replay(
     ensures place { λ _. ⌜ now (place .exit) ≡ replayAnswer (now (file .entry)) (now (list .entry)) (length (now (marking .entry))) .place ⌝ }
     ensures amount { λ _. ⌜ now (amount .exit) ≡ replayAnswer (now (file .entry)) (now (list .entry)) (length (now (marking .entry))) .amount ⌝ }
 {
-    let o = replay(file, list, marking);
+    let o = call_firing::replays::replay(file, list, marking);
     *index = index_of(o);
     *place = place_of(o);
     *amount = amount_of(o);

@@ -4,7 +4,7 @@ use terminal::args;
 use words::help;
 
 fn of<'a>(plan: &'a [u8], slice: &'a [u8], inslice: bool, transition: u16) {
-    let run = nesfoal::arcs::arcs(plan, slice, inslice, transition);
+    let run = call_firing::runs::arcs(plan, slice, inslice, transition);
     if run.len() != 0 {
         arcs::found(run, inslice, transition);
         return;

@@ -13,12 +13,12 @@ fn told(c: Cut, plan: &[u8], criterion: &[u16], buffer: &[u8]) {
 
 pub fn safety(plan: &[u8], criterion: &[u16]) {
     let mut buffer = [0u8; 65536];
-    let c = nesfoal::cuts::safety(plan, criterion, &mut buffer);
+    let c = call_cuts::cuts::safety(plan, criterion, &mut buffer);
     told(c, plan, criterion, &buffer);
 }
 
 pub fn branching(plan: &[u8], criterion: &[u16]) {
     let mut buffer = [0u8; 65536];
-    let c = nesfoal::cuts::branching(plan, criterion, &mut buffer);
+    let c = call_cuts::cuts::branching(plan, criterion, &mut buffer);
     told(c, plan, criterion, &buffer);
 }

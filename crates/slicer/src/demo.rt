@@ -59,7 +59,7 @@ fn rest(plan: &[u8], buffer: &[u8], length: u32) {
 fn cut(plan: &[u8]) {
     command(b"safety small-kerb.plan kerb.slice 2");
     let mut buffer = [0u8; 65536];
-    let c = nesfoal::cuts::safety(plan, &[2], &mut buffer);
+    let c = call_cuts::cuts::safety(plan, &[2], &mut buffer);
     let Cut::Written(n, p, t) = c else {
         return;
     };

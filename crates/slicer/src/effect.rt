@@ -1,10 +1,10 @@
 // effect FILE PLACE TRANSITION
 use answers::effect;
-use nesfoal::effect::Change;
+use call_firing::effects::Change;
 use words::help;
 
 pub fn of(file: &[u8], place: u16, transition: u16) {
-    let c = nesfoal::effect::effect(file, place, transition);
+    let c = call_firing::effects::effect(file, place, transition);
     match c {
         Change::By(n) => effect::changed(n, place, transition),
         Change::Refused(n) => effect::refused(n, file, place, transition),

@@ -1,4 +1,4 @@
-// The program: what planners, dispatchers and engineers ask of plans and slices. Every verdict is a call of crate nesfoal.
+// The program: what planners, dispatchers and engineers ask of plans and slices. Every verdict is a public call, of the crates call_*.
 mod arcs;
 mod cuts;
 mod demo;

@@ -5,7 +5,7 @@ use words::refusal;
 
 pub fn answer(file: &[u8], list: &[u16]) {
     let mut marking = [0u64; 1024];
-    let o = nesfoal::replays::replay(file, list, &mut marking);
+    let o = call_firing::replays::replay(file, list, &mut marking);
     match o {
         Outcome::Fired => replays::fired(list.len(), &marking, blame::numbers::places(file)),
         Outcome::Stuck(i, p, n) => replays::stuck(list, i, p, n),

@@ -5,7 +5,7 @@ use words::refusal;
 use words::rules;
 
 pub fn answer(plan: &[u8], slice: &[u8], criterion: &[u16]) {
-    let v = nesfoal::verdict::check(plan, slice, criterion);
+    let v = call_check::verdicts::check(plan, slice, criterion);
     let outcome = v.outcome;
     match outcome {
         Outcome::Accepted => say::text(b"accepted\n"),

@@ -9,8 +9,10 @@ use std::fs;
 use std::path::{Path, PathBuf};
 use std::process::exit;
 
-/// The crate whose public functions are the calls.
-const CALLS: &str = "nesfoal";
+/// The crates whose public functions are the calls: the families, and the C interface.
+fn of_calls(name: &str) -> bool {
+    name.starts_with("call_") || name == "nesfoal"
+}
 
 /// A definition: its file, as `crate.Module`, and its name there.
 type Definition = (String, String);
@@ -175,11 +177,14 @@ impl Tree {
     /// A line for each group, and what is wrong.
     fn report(&mut self, groups: &[(usize, Vec<&str>)]) -> (Vec<String>, Vec<String>) {
         let (mut table, mut faults, mut seen, mut total) = (Vec::new(), Vec::new(), BTreeSet::new(), 0);
-        let of_calls = |(file, source): (&String, &Source)| {
-            let call = |(name, text): (&String, &String)| (name.clone(), (file.clone(), text.clone()));
-            source.contracts.iter().map(call).collect::<Vec<_>>()
-        };
-        let mut calls: BTreeMap<_, _> = self.sources.iter().flat_map(of_calls).collect();
+        let mut calls = BTreeMap::new();
+        for (file, source) in &self.sources {
+            for (name, text) in &source.contracts {
+                if calls.insert(name.clone(), (file.clone(), text.clone())).is_some() {
+                    faults.push(format!("{name}: two public calls of this name"));
+                }
+            }
+        }
         for (limit, names) in groups {
             let mut parts = Vec::new();
             let mut sum = 0;
@@ -230,8 +235,10 @@ fn main() {
     for folder in fs::read_dir(&root).unwrap().map(|entry| entry.unwrap().path()) {
         let name = folder.file_name().unwrap().to_str().unwrap();
         files(&folder.join("specs"), "antt").iter().for_each(|path| put(name, path));
+        if of_calls(name) {
+            files(&folder.join("src"), "rt").iter().for_each(|path| put(&format!("{name}/src"), path));
+        }
     }
-    files(&root.join(CALLS).join("src"), "rt").iter().for_each(|path| put("calls", path));
     let arguments: Vec<String> = std::env::args().skip(1).collect();
     let group = |argument: &'static str| {
         let (limit, names) = argument.split_once(':').expect("LIMIT:CALL,CALL..");
@@ -307,6 +314,9 @@ pub extern \"C\" fn second(
         assert_eq!(fault(CALL, &[(4, vec!["first", "second"])]), ["first, second: 5 lines, at most 4"]);
         assert_eq!(fault(CALL, &[(9, vec!["first"])]), ["second: a public call that is in no group"]);
         assert_eq!(fault(CALL, &[(9, vec!["first", "second", "third"])]), ["third: no public call, or in two groups"]);
+        let files = ["one.lib", "two.lib"].map(|name| (name.to_string(), Source::read(CALL)));
+        let (_, twice) = Tree { sources: files.into(), lost: BTreeSet::new() }.report(&[(9, vec!["first", "second"])]);
+        assert_eq!(twice[..2], ["first: two public calls of this name", "second: two public calls of this name"]);
         assert_eq!(
             fault(&CALL.replace("{low as", "{lower as"), &[(9, vec!["first", "second"])]),
             ["calls.lib cites lower, which net.Net does not define"]

@@ -5,7 +5,7 @@ use Rattle.nesfoal.proofs.cuts.nesfoal_branching.Statement.{statement}
 use Rattle.nesfoal.proofs.cuts.nesfoal_branching.Tie as tie
 use Rattle.nesfoal.proofs.cuts.nesfoal_branching.Reads as reads
 use Rattle.nesfoal.proofs.cuts.nesfoal_branching.Lts as lts
-use Rattle.nesfoal.proofs.cuts.branching.Reads as branching-reads
+use Rattle.call_cuts.proofs.cuts.branching.Reads as branching-reads
 use Rattle.nesfoal.proofs.cuts.length_of.Reads as length-of-reads
 use Rattle.nesfoal.proofs.cuts.places_of.Reads as places-of-reads
 use Rattle.nesfoal.proofs.cuts.refusal.Reads as refusal-reads

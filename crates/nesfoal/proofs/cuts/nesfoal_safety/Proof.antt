@@ -1,7 +1,7 @@
 use borrow.Author.Needs.{needs}
 use mathlib.Core.Path.{_∙_, ap}
 use Rattle.promise.specs.Calls.{CutAnswer}
-use Rattle.nesfoal.proofs.Cutting.{safety-for-c}
+use Rattle.nesfoal.proofs.AsRead.{safety-for-c}
 use Rattle.nesfoal.proofs.cuts.nesfoal_safety.Statement.{statement}
 use Rattle.nesfoal.proofs.cuts.nesfoal_safety.Tie as tie
 use Rattle.nesfoal.proofs.cuts.nesfoal_safety.Reads as reads
@@ -9,7 +9,7 @@ use Rattle.nesfoal.proofs.cuts.nesfoal_safety.Lts as lts
 use Rattle.nesfoal.proofs.cuts.length_of.Reads as length-of-reads
 use Rattle.nesfoal.proofs.cuts.places_of.Reads as places-of-reads
 use Rattle.nesfoal.proofs.cuts.refusal.Reads as refusal-reads
-use Rattle.nesfoal.proofs.cuts.safety.Reads as safety-reads
+use Rattle.call_cuts.proofs.cuts.safety.Reads as safety-reads
 use Rattle.nesfoal.proofs.cuts.transitions_of.Reads as transitions-of-reads
 
 -- src/cuts.rt:99:9

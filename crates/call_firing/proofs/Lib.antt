@@ -1,0 +1,5 @@
+pub mod Changes
+pub mod ArcRuns
+pub mod Replayed
+pub mod Projecting
+pub mod Apart

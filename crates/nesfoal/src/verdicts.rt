@@ -1,0 +1,27 @@
+// Whether a slice is accepted for a plan and a criterion, or the first rule that it breaks.
+ghost use mathlib.Core.Path.{_≡_};
+ghost use Rattle.net.specs.Guarantee.{Guarantee};
+ghost use Rattle.file.specs.Layout.{netOf, sliceOf};
+ghost use Rattle.file.specs.Criterion.{criterionOf};
+ghost use Rattle.promise.specs.Calls.{checked, checkedBytes};
+
+// Check, the criterion as 2 bytes a place, low byte first: 0 accepted, 1 to 13 a refusal, 100 plus the rule otherwise.
+#[no_mangle]
+pub extern "C" fn nesfoal_check(plan: &[u8], slice: &[u8], q: &[u8]) -> u32
+    ensures answer { λ r. ⌜ r ≡ checkedBytes (now (plan .entry)) (now (slice .entry)) (now (q .entry)) ⌝ }
+    ensures guarantee { λ r. ⌜ (r ≡ 0 → Guarantee (netOf (now (plan .entry))) (sliceOf (now (slice .entry))) (criterionOf (now (q .entry)))) ⌝ }
+{
+    call_check::verdicts::check_bytes(plan, slice, q)
+}
+
+// Check, the criterion as numbers; the place or transition that breaks the rule goes to `to`, 0 where there is none.
+#[no_mangle]
+pub extern "C" fn nesfoal_verdict(plan: &[u8], slice: &[u8], q: &[u16], to: &mut u32) -> u32
+    ensures answer { λ r. ⌜ r ≡ checked (now (plan .entry)) (now (slice .entry)) (now (q .entry)) .code ⌝ }
+    ensures number { λ _. ⌜ now (to .exit) ≡ checked (now (plan .entry)) (now (slice .entry)) (now (q .entry)) .number ⌝ }
+    ensures guarantee { λ r. ⌜ (r ≡ 0 → Guarantee (netOf (now (plan .entry))) (sliceOf (now (slice .entry))) (now (q .entry))) ⌝ }
+{
+    let v = call_check::verdicts::check(plan, slice, q);
+    *to = checker::number(v);
+    checker::code(v)
+}
