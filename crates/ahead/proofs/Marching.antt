@@ -21,10 +21,17 @@ use Rattle.ahead.proofs.Raising.{lowered-at, lowered-long, lowered-is}
 pub marched-none : {s : List ℕ} {h : Header} {ts m : List ℕ} → Listed h ts (lowered m) → Lifted m → Marched s h ts m m 0
 marched-none listed lifted = record { lifted = lifted; underway = underway-begin listed }
 
-module _ {s : List ℕ} {h : Header} {table moves ts was is : List ℕ} {k : ℕ} (r : Ready s h table was) (mv : MovesOf s h moves) (x : Marched s h ts was is k) where
-  pub same-long : length is ≡ length was
-  same-long = omega (arith, lowered-long was, lowered-long is, x .underway .long)
+pub marched-long : {s : List ℕ} {h : Header} {ts was is : List ℕ} {k : ℕ} → Marched s h ts was is k → length is ≡ length was
+marched-long {s} {h} {ts} {was} {is} x = omega (arith, lowered-long was, lowered-long is, x .underway .long)
 
+-- firing k moves the entries by the arcs from..to: it can, it can be undone, and where no input took more than the tokens it was a firing
+pub record Step (s : List ℕ) (h : Header) (moves ts was is : List ℕ) (k from to : ℕ) : Type 0 where
+  pub shifting : Movable s h moves from to is
+  pub undoing : (is′ : List ℕ) (v : ℕ) → Shifted s h from to is is′ v → Movable s h moves from to is′
+  pub undone : (is′ is″ : List ℕ) (v : ℕ) → Shifted s h from to is is′ v → Moved 1 0 s h from to is′ is″ → Marched s h ts was is″ k
+  pub fired : (is′ : List ℕ) (v : ℕ) → Shifted s h from to is is′ v → (v ≡ 0 → ⊥) → Marched s h ts was is′ (k + 1)
+
+module _ {s : List ℕ} {h : Header} {table moves ts was is : List ℕ} {k : ℕ} (r : Ready s h table was) (mv : MovesOf s h moves) (x : Marched s h ts was is k) where
   module _ (l : k < length ts) {from to : ℕ} (e : from ≡ getD table (2 * getD ts k 0) 0) (f : to ≡ getD table (2 * getD ts k 0 + 2) 0) where
     abbrev t : ℕ
     t = getD ts k 0
@@ -66,13 +73,13 @@ module _ {s : List ℕ} {h : Header} {table moves ts was is : List ℕ} {k : ℕ
     most-now : (p : ℕ) → lowAt is p < 140737488355328
     most-now p = omega (arith, x .underway .low p, lowered-at is p, x .underway .within, x .underway .listed .short)
 
-    pub can-shift : Movable s h moves from to is
-    can-shift = movable is same-long (λ p u. omega (arith, x .lifted p u)) (λ p u. omega (arith, most-now p))
+    can-shift : Movable s h moves from to is
+    can-shift = movable is (marched-long x) (λ p u. omega (arith, x .lifted p u)) (λ p u. omega (arith, most-now p))
 
     module _ {is′ : List ℕ} {v : ℕ} (y : Shifted s h from to is is′ v) where
-      pub can-back : Movable s h moves from to is′
+      can-back : Movable s h moves from to is′
       can-back =
-          movable is′ (y .moved .long ∙ same-long)
+          movable is′ (y .moved .long ∙ (marched-long x))
           (λ p u.
           let w : p < length is = omega (arith, y .moved .long) in
           omega (arith, y .moved .at p w, x .lifted p w, sums run 0 p, small run 0 p, sum-rises 1 s start p from to (rises run)))
@@ -81,7 +88,7 @@ module _ {s : List ℕ} {h : Header} {table moves ts was is : List ℕ} {k : ℕ
           omega (arith, y .moved .at p w, most-now p, sums run 1 p, small run 1 p, sum-rises 0 s start p from to (rises run)))
 
       -- what was moved back is as it was
-      pub undone : {is″ : List ℕ} → Moved 1 0 s h from to is′ is″ → Marched s h ts was is″ k
+      undone : {is″ : List ℕ} → Moved 1 0 s h from to is′ is″ → Marched s h ts was is″ k
       undone {is″} z = record {
         lifted = λ p u. omega (arith, at p (omega (arith, long, u)), x .lifted p (omega (arith, long, u)));
         underway = subst (λ (m : List ℕ). Underway s h ts (lowered was) m k) (sym (lowered-is is″ (lowered is) (long ∙ sym (lowered-long is)) (λ p u. omega (arith, at p (omega (arith, long, u)), lowered-at is p)))) (x .underway);
@@ -101,7 +108,7 @@ module _ {s : List ℕ} {h : Header} {table moves ts was is : List ℕ} {k : ℕ
           where
             go : Dec (p < length is) → input (netFrom s h) p (getD ts k 0) ≤ getD (lowered is) p 0
             go (yes u) = omega (arith, y .enough n (x .lifted) p u, sums run 0 p, lowered-at is p)
-            go (no u) = omega (arith, none-past s h (r .sound) 0 p t (omega (arith, u, same-long, r .places)))
+            go (no u) = omega (arith, none-past s h (r .sound) 0 p t (omega (arith, u, (marched-long x), r .places)))
 
         fired-at : (p : ℕ) → getD (lowered is′) p 0 ≡ getD (lowered is) p 0 - input (netFrom s h) p (getD ts k 0) + output (netFrom s h) p (getD ts k 0)
         unfolding input output
@@ -112,12 +119,12 @@ module _ {s : List ℕ} {h : Header} {table moves ts was is : List ℕ} {k : ℕ
             go (no u) =
                 omega (
                   arith,
-                  none-past s h (r .sound) 1 p t (omega (arith, u, same-long, r .places)),
+                  none-past s h (r .sound) 1 p t (omega (arith, u, (marched-long x), r .places)),
                   List·getD-eq-default (lowered is) 0 {n = p} (omega (arith, u, lowered-long is)),
                   List·getD-eq-default (lowered is′) 0 {n = p} (omega (arith, u, lowered-long is′, y .moved .long)),
                 )
 
-        pub marched-next : Marched s h ts was is′ (k + 1)
+        marched-next : Marched s h ts was is′ (k + 1)
         unfolding fire
         marched-next = record {
           lifted = λ p u.
@@ -125,6 +132,9 @@ module _ {s : List ℕ} {h : Header} {table moves ts was is : List ℕ} {k : ℕ
               omega (arith, y .enough n (x .lifted) p w, y .moved .at p w, sum-rises 1 s start p from to (rises run));
           underway = fired-on (x .underway) l (r .sound) (r .bytes) enabled (record { long = lowered-long is′ ∙ y .moved .long ∙ sym (lowered-long is); at = fired-at });
         }
+
+    pub step : Step s h moves ts was is k from to
+    step = record { shifting = can-shift; undoing = λ is′ v y. can-back y; undone = λ is′ is″ v y z. undone y z; fired = λ is′ v y n. marched-next y n }
 
 -- ---- all of it: up, the firings, and down again
 

@@ -38,6 +38,12 @@ module _ (N : Net) (ts : List ℕ) (k : ℕ) (M : Marking) where
     replay-on : Enabled N (getD ts k 0) M → replayFrom N k M (drop k ts) ≡ replayFrom N (k + 1) (fire N (getD ts k 0) M) (drop (k + 1) ts)
     replay-on u = rw (drop-cons ts k 0 l, add-one k) (step-on N k M (getD ts k 0) (drop (suc k) ts) u)
 
+-- the transition listed at k has entries in the table
+pub record Tabulated (h : Header) (table ts : List ℕ) (k : ℕ) : Type 0 where
+  pub known : getD ts k 0 < h .transitions
+  pub few : h .transitions ≤ 1024
+  pub long : 2 * h .transitions < length table
+
 module _ {s : List ℕ} {h : Header} {ts m₀ : List ℕ} where
   pub underway-begin : Listed h ts m₀ → Underway s h ts m₀ m₀ 0
   underway-begin listed = record { listed = listed; within = omega arith; long = refl; low = λ p. omega (arith, listed .low p); same = refl }
@@ -49,6 +55,9 @@ module _ {s : List ℕ} {h : Header} {ts m₀ : List ℕ} where
     module _ (l : k < length ts) where
       pub known : getD ts k 0 < h .transitions
       known = u .listed .known k l
+
+      pub tabulated : {table m₁ : List ℕ} → Ready s h table m₁ → Tabulated h table ts k
+      tabulated r = record { known = known; few = r .sound .placed .transitions; long = r .long }
 
       few : Bytes s → (p : ℕ) → output (netFrom s h) p (getD ts k 0) ≤ 65535 * h .arcs
       unfolding output
