@@ -47,11 +47,17 @@ pub record Runs (s : List ℕ) (h : Header) (t from middle to : ℕ) : Type 0 wh
   pub second : Split s (h .arcstart) (h .arcs) (2 * t + 1) middle
   pub third : Split s (h .arcstart) (h .arcs) (2 * t + 2) to
 
+-- t fires at m: what its inputs ask, what its outputs ask once they are taken, and what has come of m then
+pub record Turn (s : List ℕ) (h : Header) (t from middle to : ℕ) (m : List ℕ) : Type 0 where
+  pub taking : Run s (h .arcstart) from middle (length m) × ((p : ℕ) → sumTo s (h .arcstart) p middle ≤ getD m p 0 + sumTo s (h .arcstart) p from)
+  pub giving : (m₁ : List ℕ) → Takes s (h .arcstart) from middle m m₁ → Run s (h .arcstart) middle to (length m₁) × ((p : ℕ) → getD m₁ p 0 + sumTo s (h .arcstart) p to < 2 ^ 64 + sumTo s (h .arcstart) p middle)
+  pub fired : (m₁ m₂ : List ℕ) → Takes s (h .arcstart) from middle m m₁ → Gives s (h .arcstart) middle to m₁ m₂ → Holds m m₂ (fire (netFrom s h) t (held m))
+
 module _ {s : List ℕ} {h : Header} {table m : List ℕ} (r : Ready s h table m) where
   pub split-by : (k : ℕ) → k ≤ 2 * h .transitions → {b : ℕ} → b ≡ getD table k 0 → Split s (h .arcstart) (h .arcs) k b
   split-by k l {b} e = subst (λ (n : ℕ). Split s (h .arcstart) (h .arcs) k n) (sym e) (r .starts k l)
 
-  pub runs-by : (t : ℕ) → t < h .transitions → {from middle to : ℕ} → from ≡ getD table (2 * t) 0 → middle ≡ getD table (2 * t + 1) 0 → to ≡ getD table (2 * t + 2) 0 → Runs s h t from middle to
+  runs-by : (t : ℕ) → t < h .transitions → {from middle to : ℕ} → from ≡ getD table (2 * t) 0 → middle ≡ getD table (2 * t + 1) 0 → to ≡ getD table (2 * t + 2) 0 → Runs s h t from middle to
   runs-by t l e f g = record { first = split-by (2 * t) (omega arith) e; second = split-by (2 * t + 1) (omega arith) f; third = split-by (2 * t + 2) (omega arith) g }
 
   module _ {t from middle to : ℕ} (f : Firable s h t m) (x : Runs s h t from middle to) where
@@ -79,15 +85,15 @@ module _ {s : List ℕ} {h : Header} {table m : List ℕ} (r : Ready s h table m
         go (yes v) = absurd (omega (arith, y .below b v, z .above b (omega arith) (omega (arith, y .within))))
         go (no v) = omega (arith, v)
 
-    pub take-run : Run s (h .arcstart) from middle (length m)
+    take-run : Run s (h .arcstart) from middle (length m)
     take-run = subst (λ (n : ℕ). Run s (h .arcstart) from middle n) (sym (r .places))
         (run-of (r .sound) from middle (rising from middle (2 * t) (2 * t + 1) (x .first) (x .second) (omega arith)) (x .second .within))
 
-    pub take-enough : (p : ℕ) → sumTo s (h .arcstart) p middle ≤ getD m p 0 + sumTo s (h .arcstart) p from
+    take-enough : (p : ℕ) → sumTo s (h .arcstart) p middle ≤ getD m p 0 + sumTo s (h .arcstart) p from
     take-enough p = omega (arith, inputs p, f .enabled p)
 
     module _ {m₁ : List ℕ} (y : Takes s (h .arcstart) from middle m m₁) where
-      pub give-run : Run s (h .arcstart) middle to (length m₁)
+      give-run : Run s (h .arcstart) middle to (length m₁)
       give-run = subst (λ (n : ℕ). Run s (h .arcstart) middle to n) (sym (y .long ∙ r .places))
           (run-of (r .sound) middle to (rising middle to (2 * t + 1) (2 * t + 2) (x .second) (x .third) (omega arith)) (x .third .within))
 
@@ -95,7 +101,7 @@ module _ {s : List ℕ} {h : Header} {table m : List ℕ} (r : Ready s h table m
       unfolding output
       few p = weight-le 1 p t s (r .bytes) (h .arcstart) (h .arcs)
 
-      pub give-fits : (p : ℕ) → getD m₁ p 0 + sumTo s (h .arcstart) p to < 2 ^ 64 + sumTo s (h .arcstart) p middle
+      give-fits : (p : ℕ) → getD m₁ p 0 + sumTo s (h .arcstart) p to < 2 ^ 64 + sumTo s (h .arcstart) p middle
       give-fits p = omega (arith, y .at p, inputs p, outputs p, f .low p, few p, r .sound .placed .arcs)
 
       module _ {m₂ : List ℕ} (z : Gives s (h .arcstart) middle to m₁ m₂) where
@@ -111,6 +117,12 @@ module _ {s : List ℕ} {h : Header} {table m : List ℕ} (r : Ready s h table m
               List·getD-eq-default m₂ 0 {n = p} (omega (arith, l, z .long, y .long, r .places)),
             )
 
-        pub fired-once : Holds m m₂ (fire (netFrom s h) t (held m))
+        fired-once : Holds m m₂ (fire (netFrom s h) t (held m))
         unfolding fire
         fired-once = record { long = z .long ∙ y .long; at = λ p. at-each p (decLt p (h .places)) }
+
+  -- the arcs of t by the table
+  pub turn : {t from middle to : ℕ} → Firable s h t m → from ≡ getD table (2 * t) 0 → middle ≡ getD table (2 * t + 1) 0 → to ≡ getD table (2 * t + 2) 0 → Turn s h t from middle to m
+  turn {t} f a b e =
+      let x = runs-by t (f .known) a b e in
+      record { taking = (take-run f x, take-enough f x); giving = λ m₁ y. (give-run f x y, give-fits f x y); fired = λ m₁ m₂ y z. fired-once f x y z }

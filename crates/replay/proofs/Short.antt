@@ -9,6 +9,7 @@ use lib.Dec.{eqb}
 use lib.ListN.{getD}
 use Rattle.net.specs.Net.{input, weightOn, ShortAt}
 use Rattle.net.proofs.Numbers.{by-cases}
+use Rattle.net.specs.declared.Arc.{Arc}
 use Rattle.file.specs.Layout.{arcsFrom, netFrom}
 use Rattle.file.specs.Facts.{Sound}
 use Rattle.file.specs.declared.Header.{Header}
@@ -33,6 +34,13 @@ pub record Covered (s : List ℕ) (h : Header) (t from middle : ℕ) (m : List �
   pub at-last : from < j → last ≡ arcOn s h (j - 1) .place
   pub so-far : need ≡ weightOn 0 last t (arcsFrom s (h .arcstart) j)
   pub low : need ≤ 65535 * (j - from)
+
+-- arc j, the next input of t, is at the place p, from which the arcs up to it take n: what is known where p has that many, and where it has not
+pub record Weighed (s : List ℕ) (h : Header) (t from middle : ℕ) (m : List ℕ) (j p n : ℕ) : Type 0 where
+  pub place : p < h .places
+  pub covers : n ≤ getD m p 0 → Covered s h t from middle m (j + 1) p n
+  pub lacks : getD m p 0 < n → Lacking s h j n (getD m p 0)
+  pub short : getD m p 0 < n → ShortAt (netFrom s h) t (held m) p (needAt s h j - getD m p 0)
 
 -- all that the transition of arc j takes from its place: what the arcs up to j take, and the parallel ones after it
 pub whole : {s : List ℕ} {h : Header} {j need count : ℕ} → Lacking s h j need count → (e : ℕ) → GroupEnd s (h .arcstart) j (h .arcs) e
@@ -94,7 +102,7 @@ module _ {s : List ℕ} {h : Header} {t from middle : ℕ} {m : List ℕ} where
           let d = good-at s h (c .sound) i k .direction in
           (omega (arith, c .first .above i a k, c .second .below i b), omega (arith, c .first .above i a k, c .second .below i b))
 
-      pub place-known : arcOn s h j .place < h .places
+      place-known : arcOn s h j .place < h .places
       place-known = good-at s h (c .sound) j known .place
 
       -- what the arcs before take from the place of arc j, unless it is the last place too
@@ -115,48 +123,6 @@ module _ {s : List ℕ} {h : Header} {t from middle : ℕ} {m : List ℕ} where
               sym (c .at-last (omega arith) ∙ same-place t (arcOn s h i .place) (arcOn s h (j - 1) .place) (arcOn s h j .place)
               (omega (arith, u, x .0, x .1, y .0, y .1)) (omega (arith, v, y .0, y .1, z .0, z .1)) g)
 
-      -- arc j added
-      pub adds-up : (n : ℕ) → n ≡ choose (eqb (arcOn s h j .place) last) (need + arcOn s h j .weight) (arcOn s h j .weight) → n ≡ weightOn 0 (arcOn s h j .place) t (arcsFrom s (h .arcstart) (j + 1))
-      adds-up n e =
-          let z = input-of j (c .begun) l in
-          let w = share-is 0 (arcOn s h j .place) t (arcOn s h j) (z .1) (z .0) refl in
-          by-cases (eqb (arcOn s h j .place) last)
-          (λ q. omega (
-            arith,
-            rw q at e,
-            w,
-            sum-next 0 (arcOn s h j .place) t s (h .arcstart) j,
-            c .so-far,
-            ap (λ (k : ℕ). weightOn 0 k t (arcsFrom s (h .arcstart) j)) (eqb-true (arcOn s h j .place) last q),
-          ))
-          (λ q. omega (arith, rw q at e, w, sum-next 0 (arcOn s h j .place) t s (h .arcstart) j, none-there (eqb-false (arcOn s h j .place) last q)))
-
-      pub low-next : (n : ℕ) → n ≡ choose (eqb (arcOn s h j .place) last) (need + arcOn s h j .weight) (arcOn s h j .weight) → arcOn s h j .weight < 65536 → n ≤ 65535 * (j + 1 - from)
-      low-next n e w =
-          by-cases (eqb (arcOn s h j .place) last)
-          (λ q. omega (arith, rw q at e, w, c .low, c .begun))
-          (λ q. omega (arith, rw q at e, w, c .begun))
-
-      pub covered-next : (n : ℕ) → n ≡ choose (eqb (arcOn s h j .place) last) (need + arcOn s h j .weight) (arcOn s h j .weight) → arcOn s h j .weight < 65536 → n ≤ getD m (arcOn s h j .place) 0
-          → Covered s h t from middle m (j + 1) (arcOn s h j .place) n
-      covered-next n e w g = record {
-        sound = c .sound;
-        first = c .first;
-        second = c .second;
-        begun = omega (arith, c .begun);
-        within = omega (arith, known);
-        enough = λ p. at p (ℕ-discrete p (arcOn s h j .place));
-        passed = omega arith;
-        at-last = λ u. let k : j ≡ j + 1 - 1 = omega arith in ap (λ (i : ℕ). arcOn s h i .place) k;
-        so-far = adds-up n e;
-        low = low-next n e w;
-      }
-        where
-          at : (p : ℕ) → Dec (p ≡ arcOn s h j .place) → weightOn 0 p t (arcsFrom s (h .arcstart) (j + 1)) ≤ getD m p 0
-          at p (yes q) =
-              subst (λ (k : ℕ). weightOn 0 k t (arcsFrom s (h .arcstart) (j + 1)) ≤ getD m k 0) (sym q) (omega (arith, adds-up n e))
-          at p (no q) = omega (arith, c .enough p, sum-next 0 p t s (h .arcstart) j, share-unless 0 p t (arcOn s h j) (λ a b z. q (sym z)))
-
       -- a lower place has no input arc of t from j on
       lower : (r : ℕ) → r < arcOn s h j .place → input (netFrom s h) r t ≤ getD m r 0
       unfolding input
@@ -169,29 +135,75 @@ module _ {s : List ℕ} {h : Header} {t from middle : ℕ} {m : List ℕ} where
                 (λ i a b. share-unless 0 r t (arcOn s h i) (λ e d p. omega (arith, key-le s (h .arcstart) 0 (h .arcs) j i (c .sound .order) a b, z .0, z .1))),
           )
 
-      pub lacking : (n : ℕ) → n ≡ choose (eqb (arcOn s h j .place) last) (need + arcOn s h j .weight) (arcOn s h j .weight) → arcOn s h j .weight < 65536 → getD m (arcOn s h j .place) 0 < n
-          → Lacking s h j n (getD m (arcOn s h j .place) 0)
-      lacking n e w g =
-          let z = input-of j (c .begun) l in
-          record {
-            sound = c .sound;
-            known = known;
-            input = z .0;
-            so-far = adds-up n e ∙ ap (λ (x : ℕ). weightOn 0 (arcOn s h j .place) x (arcsFrom s (h .arcstart) (j + 1))) (sym (z .1));
-            low = omega (arith, low-next n e w, known, c .sound .placed .arcs);
-            over = g;
-          }
-
       need-is : needAt s h j ≡ input (netFrom s h) (arcOn s h j .place) t
       need-is = ap (input (netFrom s h) (arcOn s h j .place)) (input-of j (c .begun) l .1)
 
-      pub short-here : (n : ℕ) → n ≡ choose (eqb (arcOn s h j .place) last) (need + arcOn s h j .weight) (arcOn s h j .weight) → getD m (arcOn s h j .place) 0 < n
-          → ShortAt (netFrom s h) t (held m) (arcOn s h j .place) (needAt s h j - getD m (arcOn s h j .place) 0)
-      unfolding input
-      short-here n e g =
-          let more = sum-more 0 (arcOn s h j .place) t s (h .arcstart) (j + 1) (h .arcs) (omega (arith, known)) in
-          let sum = adds-up n e in
-          record { place = place-known; amount = omega (arith, need-is, sum, more); some = omega (arith, need-is, sum, more); lowest = lower }
+      -- arc j added: n is what the arcs up to it take from its place
+      module _ (n : ℕ) (e : n ≡ choose (eqb (arcOn s h j .place) last) (need + arcOn s h j .weight) (arcOn s h j .weight)) (w : arcOn s h j .weight < 65536) where
+        adds-up : n ≡ weightOn 0 (arcOn s h j .place) t (arcsFrom s (h .arcstart) (j + 1))
+        adds-up =
+            let z = input-of j (c .begun) l in
+            let own = share-is 0 (arcOn s h j .place) t (arcOn s h j) (z .1) (z .0) refl in
+            by-cases (eqb (arcOn s h j .place) last)
+            (λ q. omega (
+              arith,
+              rw q at e,
+              own,
+              sum-next 0 (arcOn s h j .place) t s (h .arcstart) j,
+              c .so-far,
+              ap (λ (k : ℕ). weightOn 0 k t (arcsFrom s (h .arcstart) j)) (eqb-true (arcOn s h j .place) last q),
+            ))
+            (λ q. omega (arith, rw q at e, own, sum-next 0 (arcOn s h j .place) t s (h .arcstart) j, none-there (eqb-false (arcOn s h j .place) last q)))
+
+        low-next : n ≤ 65535 * (j + 1 - from)
+        low-next =
+            by-cases (eqb (arcOn s h j .place) last)
+            (λ q. omega (arith, rw q at e, w, c .low, c .begun))
+            (λ q. omega (arith, rw q at e, w, c .begun))
+
+        covered-next : n ≤ getD m (arcOn s h j .place) 0 → Covered s h t from middle m (j + 1) (arcOn s h j .place) n
+        covered-next g = record {
+          sound = c .sound;
+          first = c .first;
+          second = c .second;
+          begun = omega (arith, c .begun);
+          within = omega (arith, known);
+          enough = λ p. at p (ℕ-discrete p (arcOn s h j .place));
+          passed = omega arith;
+          at-last = λ u. let k : j ≡ j + 1 - 1 = omega arith in ap (λ (i : ℕ). arcOn s h i .place) k;
+          so-far = adds-up;
+          low = low-next;
+        }
+          where
+            at : (p : ℕ) → Dec (p ≡ arcOn s h j .place) → weightOn 0 p t (arcsFrom s (h .arcstart) (j + 1)) ≤ getD m p 0
+            at p (yes q) =
+                subst (λ (k : ℕ). weightOn 0 k t (arcsFrom s (h .arcstart) (j + 1)) ≤ getD m k 0) (sym q) (omega (arith, adds-up))
+            at p (no q) = omega (arith, c .enough p, sum-next 0 p t s (h .arcstart) j, share-unless 0 p t (arcOn s h j) (λ a b z. q (sym z)))
+
+        lacking : getD m (arcOn s h j .place) 0 < n → Lacking s h j n (getD m (arcOn s h j .place) 0)
+        lacking g =
+            let z = input-of j (c .begun) l in
+            record {
+              sound = c .sound;
+              known = known;
+              input = z .0;
+              so-far = adds-up ∙ ap (λ (x : ℕ). weightOn 0 (arcOn s h j .place) x (arcsFrom s (h .arcstart) (j + 1))) (sym (z .1));
+              low = omega (arith, low-next, known, c .sound .placed .arcs);
+              over = g;
+            }
+
+        short-here : getD m (arcOn s h j .place) 0 < n → ShortAt (netFrom s h) t (held m) (arcOn s h j .place) (needAt s h j - getD m (arcOn s h j .place) 0)
+        unfolding input
+        short-here g =
+            let more = sum-more 0 (arcOn s h j .place) t s (h .arcstart) (j + 1) (h .arcs) (omega (arith, known)) in
+            record { place = place-known; amount = omega (arith, need-is, adds-up, more); some = omega (arith, need-is, adds-up, more); lowest = lower }
+
+      -- the arc that was read, and the sum that was made with it
+      pub weigh : (a : Arc) → a ≡ arcOn s h j → a .weight < 65536 → (n : ℕ) → n ≡ choose (eqb (a .place) last) (need + a .weight) (a .weight) → Weighed s h t from middle m j (a .place) n
+      weigh a is w n e =
+          subst (λ (b : Arc). b .weight < 65536 → n ≡ choose (eqb (b .place) last) (need + b .weight) (b .weight) → Weighed s h t from middle m j (b .place) n) (sym is)
+          (λ v f. record { place = place-known; covers = covered-next n f v; lacks = lacking n f v; short = short-here n f v })
+          w e
 
     pub enabled : middle ≤ j → (p : ℕ) → input (netFrom s h) p t ≤ getD m p 0
     unfolding input slotAt

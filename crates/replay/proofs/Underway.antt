@@ -1,31 +1,46 @@
--- How a replay ends: all fired, or stuck at a firing. Assumes nothing.
+-- How a replay goes on, and how it ends: all fired, or stuck at a firing. Assumes nothing.
 use Prim.Native.Nat.{ℕ, _+_, _-_, _<_, _≤_}
-use mathlib.Core.Path.{_≡_, ap, sym, _∙_}
+use mathlib.Core.Path.{_≡_, refl, ap, sym, _∙_}
 use mathlib.Core.List.{List}
 use native.Mathlib.Omega.{arith}
-use lib.Dec.{eqb}
 use lib.ListN.{length, getD}
-use Rattle.net.specs.Net.{Answer, fired, short, Replay, replayFrom}
+use Rattle.net.specs.Net.{Answer, Replay, fire, replayFrom}
 use Rattle.file.specs.Layout.{netFrom}
 use Rattle.file.specs.declared.Header.{Header}
-use Rattle.ahead.specs.Steps.{held, Holds, Underway}
-use Rattle.ahead.proofs.Underway.{known, replay-end, replay-stuck}
-use Rattle.starts.specs.Table.{choose}
-use Rattle.replay.specs.Steps.{arcOn, needAt, Firable}
-use Rattle.replay.proofs.Short.{Covered, enabled, short-here}
+use Rattle.promise.specs.Firing.{replayTold}
+use Rattle.ahead.specs.Steps.{held, Ready, Holds, Underway}
+use Rattle.ahead.proofs.Underway.{known, fired-on, replay-end, replay-stuck}
+use Rattle.replay.specs.Told.{outcomeNumbers}
+use Rattle.replay.specs.Steps.{needAt, Firable}
+use Rattle.replay.specs.declared.Outcome.{Outcome}
+use Rattle.replay.specs.declared.Outcome.the-variants.{Fired, Stuck}
+use Rattle.replay.proofs.Short.{Covered, Weighed, enabled}
+
+-- the outcome and the marking m are those of the replay of the list from m₀
+abbrev pub Ended : List ℕ → Header → List ℕ → List ℕ → List ℕ → Outcome → Type 0
+Ended s h ts m₀ m o =
+    (outcomeNumbers o ≡ replayTold (replayFrom (netFrom s h) 0 (held m₀) ts .answer)) × Holds m₀ m (replayFrom (netFrom s h) 0 (held m₀) ts .marking)
 
 module _ {s : List ℕ} {h : Header} {ts m₀ m : List ℕ} {k : ℕ} (u : Underway s h ts m₀ m k) where
-  pub all-fired : length ts ≤ k → replayFrom (netFrom s h) 0 (held m₀) ts ≡ record { answer = fired; marking = held m }
-  all-fired l = sym (u .same) ∙ replay-end (netFrom s h) ts k (held m) l
+  ended : {a : Answer} (o : Outcome) → replayFrom (netFrom s h) 0 (held m₀) ts ≡ record { answer = a; marking = held m } → outcomeNumbers o ≡ replayTold a → Ended s h ts m₀ m o
+  ended o e told =
+      (told ∙ ap (λ (R : Replay). replayTold (R .answer)) (sym e), record { long = u .long; at = λ p. ap (λ (R : Replay). R .marking p) (sym e) })
 
-  -- the marking that the replay ends with
-  pub tokens-left : {a : Answer} → replayFrom (netFrom s h) 0 (held m₀) ts ≡ record { answer = a; marking = held m } → Holds m₀ m (replayFrom (netFrom s h) 0 (held m₀) ts .marking)
-  tokens-left e = record { long = u .long; at = λ p. ap (λ (R : Replay). R .marking p) (sym e) }
+  -- no firing is left
+  pub ended-fired : length ts ≤ k → Ended s h ts m₀ m Fired
+  ended-fired l = ended Fired (sym (u .same) ∙ replay-end (netFrom s h) ts k (held m) l) refl
 
-  module _ (l : k < length ts) {from middle j last need : ℕ} (c : Covered s h (getD ts k 0) from middle m j last need) where
-    pub stuck-at : j < middle → (n : ℕ) → n ≡ choose (eqb (arcOn s h j .place) last) (need + arcOn s h j .weight) (arcOn s h j .weight) → getD m (arcOn s h j .place) 0 < n
-        → replayFrom (netFrom s h) 0 (held m₀) ts ≡ record { answer = short k (arcOn s h j .place) (needAt s h j - getD m (arcOn s h j .place) 0); marking = held m }
-    stuck-at d n e g = sym (u .same) ∙ replay-stuck (netFrom s h) ts k (held m) l (arcOn s h j .place) (needAt s h j - getD m (arcOn s h j .place) 0) (short-here c d n e g)
+  module _ (l : k < length ts) {from middle : ℕ} where
+    -- input arc j wants more than its place p has
+    pub ended-stuck : {j p n : ℕ} → Weighed s h (getD ts k 0) from middle m j p n → getD m p 0 < n → {amount : ℕ} → amount ≡ needAt s h j - getD m p 0 → Ended s h ts m₀ m (Stuck k p amount)
+    ended-stuck {j} {p} w g e =
+        ended (Stuck k p _) (sym (u .same) ∙ replay-stuck (netFrom s h) ts k (held m) l p (needAt s h j - getD m p 0) (w .short g))
+        (ap (λ (n : ℕ). outcomeNumbers (Stuck k p n)) e)
 
-    pub firable : middle ≤ j → Firable s h (getD ts k 0) m
-    firable d = record { known = known u l; enabled = enabled c d; low = λ p. omega (arith, u .low p, u .within, u .listed .short) }
+    -- every input arc was looked at
+    module _ {j last need : ℕ} (c : Covered s h (getD ts k 0) from middle m j last need) (all : middle ≤ j) where
+      pub firable : Firable s h (getD ts k 0) m
+      firable = record { known = known u l; enabled = enabled c all; low = λ p. omega (arith, u .low p, u .within, u .listed .short) }
+
+      pub fired-next : {table m₁ m′ : List ℕ} → Ready s h table m₁ → Holds m m′ (fire (netFrom s h) (getD ts k 0) (held m)) → Underway s h ts m₀ m′ (k + 1)
+      fired-next r f = fired-on u l (r .sound) (r .bytes) (enabled c all) f

@@ -1,7 +1,13 @@
-use Rattle.replay.proofs.Firing.{runs-by, take-run, take-enough, give-run, give-fits, fired-once}
 use borrow.Author.Needs.{needs}
+use Rattle.replay.proofs.Firing.{Turn, turn}
 use Rattle.replay.proofs.fire.Statement.{statement}
 use Rattle.replay.proofs.fire.Tie as tie
+
+-- where the arcs of t stand
+turn-at : (c : tie.After-entry3) → let s = c .before .before .before .before .before .before in Turn (s .args .file .now) (s .args .h) (s .args .t) (c .before .before .entry .result) (c .before .entry2 .result) (c .entry3 .result) (s .args .marking .now)
+turn-at c =
+    let s = c .before .before .before .before .before .before in
+    turn (s .pre .0) (s .pre .1) (c .before .before .entry .ensures) (c .before .entry2 .ensures) (c .entry3 .ensures)
 
 mul-entry : tie.Need-mul-entry
 mul-entry c = search needs
@@ -28,16 +34,19 @@ entry-requires-3 : tie.Need-entry-requires-3
 entry-requires-3 c κs = search needs
 
 take-requires : tie.Need-take-requires
-take-requires c κs = (take-run (c .before .before .before .before .before .before .before .pre .0) (c .before .before .before .before .before .before .before .pre .1) (runs-by (c .before .before .before .before .before .before .before .pre .0) (c .before .before .before .before .before .before .before .args .t) (c .before .before .before .before .before .before .before .pre .1 .known) (c .before .before .before .entry .ensures) (c .before .before .entry2 .ensures) (c .before .entry3 .ensures)), take-enough (c .before .before .before .before .before .before .before .pre .0) (c .before .before .before .before .before .before .before .pre .1) (runs-by (c .before .before .before .before .before .before .before .pre .0) (c .before .before .before .before .before .before .before .args .t) (c .before .before .before .before .before .before .before .pre .1 .known) (c .before .before .before .entry .ensures) (c .before .before .entry2 .ensures) (c .before .entry3 .ensures)))
+take-requires c κs = turn-at (c .before) .taking
 
 give-requires : tie.Need-give-requires
-give-requires c κs = (give-run (c .before .before .before .before .before .before .before .before .before .before .before .pre .0) (c .before .before .before .before .before .before .before .before .before .before .before .pre .1) (runs-by (c .before .before .before .before .before .before .before .before .before .before .before .pre .0) (c .before .before .before .before .before .before .before .before .before .before .before .args .t) (c .before .before .before .before .before .before .before .before .before .before .before .pre .1 .known) (c .before .before .before .before .before .before .before .entry .ensures) (c .before .before .before .before .before .before .entry2 .ensures) (c .before .before .before .before .before .entry3 .ensures)) (c .before .before .before .take .ensures), give-fits (c .before .before .before .before .before .before .before .before .before .before .before .pre .0) (c .before .before .before .before .before .before .before .before .before .before .before .pre .1) (runs-by (c .before .before .before .before .before .before .before .before .before .before .before .pre .0) (c .before .before .before .before .before .before .before .before .before .before .before .args .t) (c .before .before .before .before .before .before .before .before .before .before .before .pre .1 .known) (c .before .before .before .before .before .before .before .entry .ensures) (c .before .before .before .before .before .before .entry2 .ensures) (c .before .before .before .before .before .entry3 .ensures)) (c .before .before .before .take .ensures))
+give-requires c κs = turn-at (c .before .before .before .before .before) .giving _ (c .before .before .before .take .ensures)
 
 same-length : tie.Need-same-length
 same-length c = search needs
 
 returns : tie.Need-returns
-returns c = fired-once (c .before .before .before .before .before .before .before .before .before .before .before .before .before .before .pre .0) (c .before .before .before .before .before .before .before .before .before .before .before .before .before .before .pre .1) (runs-by (c .before .before .before .before .before .before .before .before .before .before .before .before .before .before .pre .0) (c .before .before .before .before .before .before .before .before .before .before .before .before .before .before .args .t) (c .before .before .before .before .before .before .before .before .before .before .before .before .before .before .pre .1 .known) (c .before .before .before .before .before .before .before .before .before .before .entry .ensures) (c .before .before .before .before .before .before .before .before .before .entry2 .ensures) (c .before .before .before .before .before .before .before .before .entry3 .ensures)) (c .before .before .before .before .before .before .take .ensures) (c .before .before .give .ensures)
+returns c =
+    let give = c .before .before in
+    let take = give .before .before .before .before in
+    turn-at (take .before .before) .fired _ _ (take .take .ensures) (give .give .ensures)
 
 pub fire-spec : {M : Type 1} → statement M
 fire-spec =
