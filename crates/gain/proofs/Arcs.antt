@@ -16,12 +16,7 @@ use Rattle.file.proofs.Bytes.{le16-lt}
 use Rattle.net.specs.declared.Arc.{Arc}
 use Rattle.starts.specs.Table.{slotOf, slotAt, Split}
 use Rattle.file.proofs.Rows.{range-at, weight-none, weight-next}
-
--- arc i of those that start at `start` joins p and t in direction d
-pub record Joins (d p t : ℕ) (s : List ℕ) (start i : ℕ) : Type 0 where
-  pub transition : arcAt s (start + 8 * i) .transition ≡ t
-  pub direction : arcAt s (start + 8 * i) .direction ≡ d
-  pub place : arcAt s (start + 8 * i) .place ≡ p
+use Rattle.gain.specs.Ways.{Joins}
 
 pub record JoinsBelow (d p t : ℕ) (s : List ℕ) (start n : ℕ) : Type 0 where
   pub at : ℕ

@@ -46,18 +46,6 @@ module _ {s : List ℕ} {h : Header} {t b e : ℕ} (r : Stretch s h t b e) where
   unfolding slotAt
   later i l k q = omega (arith, q, r .end .above i l k, ways i k)
 
-  -- an arc of t is one of them
-  pub in-run : (i : ℕ) → i < h .arcs → transitionAt s (h .arcstart) i ≡ t → (b ≤ i) × (i < e)
-  in-run i l q = (from (decLt i b), to (decLt i e))
-    where
-      from : Dec (i < b) → b ≤ i
-      from (yes k) = absurd (earlier i k q)
-      from (no k) = omega arith
-
-      to : Dec (i < e) → i < e
-      to (yes k) = k
-      to (no k) = absurd (later i (omega arith) l q)
-
   pub sums : (d p : ℕ) → sumOn d s (h .arcstart) p e ≡ sumOn d s (h .arcstart) p b + weightOn d p t (netFrom s h .arcs)
   sums d p = sum-run d p t s (h .arcstart) (h .arcs) b e earlier own later rises (r .end .within)
 

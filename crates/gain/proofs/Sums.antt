@@ -1,11 +1,9 @@
 -- Laws of a column of sums. Assumes nothing.
 use Prim.Native.Nat.{ℕ, zero, suc, _+_, _*_, _-_, _≤_, _<_}
 use mathlib.Core.Path.{_≡_, refl, sym, ap, _∙_, subst}
-use mathlib.Core.Bool.{Bool, true, false}
 use mathlib.Core.List.{List}
 use native.Mathlib.Omega.{arith}
 use native.Mathlib.Decide.{ℕ-discrete}
-use lib.Dec.{eqb}
 use lib.ListN.{length, getD, set, length-set}
 use lib.Seq.{getD-set-same, getD-set-other}
 use borrow.Author.Tests.{eq-eqb, ne-eqb}
@@ -57,9 +55,9 @@ module _ (s : List ℕ) (start from j : ℕ) (was is : List ℕ) (a : Arc) (e : 
       go p (no q) =
           omega (arith, getD-set-other is (a .place) p (getD is (a .place) 0 - a .weight) 0 q, x .at p, sum-next s start p j, same-part p, part-other a p (λ r. q (sym r)))
 
-  -- what arc j brings fits
-  pub fits : (to : ℕ) → j < to → Gain.Gives s start from j was is → ((p : ℕ) → getD was p 0 + Gain.sumTo s start p to < 4294967296 + Gain.sumTo s start p from) → getD is (a .place) 0 + a .weight < 4294967296
-  fits to l x room =
+  -- what arc j brings fits, in entries of any width
+  pub fits : {limit : ℕ} (to : ℕ) → j < to → Gain.Gives s start from j was is → ((p : ℕ) → getD was p 0 + Gain.sumTo s start p to < limit + Gain.sumTo s start p from) → getD is (a .place) 0 + a .weight < limit
+  fits {limit} to l x room =
       omega (arith, x .at (a .place) inside, room (a .place), sum-next s start (a .place) j, same-part (a .place), part-here a (a .place) refl, sum-more s start (a .place) (j + 1) to (omega arith))
 
   pub gives-more : Gain.Gives s start from j was is → Gain.Gives s start from (j + 1) was (set is (a .place) (getD is (a .place) 0 + a .weight))

@@ -2,6 +2,7 @@
 use Prim.Native.Nat.{ℕ, zero, suc, _+_, _*_}
 use mathlib.Core.Bool.{_&&_}
 use mathlib.Core.List.{List}
+use mathlib.Core.Path.{_≡_}
 use lib.Dec.{eqb}
 use Rattle.net.specs.Net.{counted}
 use Rattle.net.specs.declared.Arc.{Arc}
@@ -18,6 +19,12 @@ transitionAt s start i = arcAt s (start + 8 * i) .transition
 -- its direction
 abbrev pub directionAt : List ℕ → ℕ → ℕ → ℕ
 directionAt s start i = arcAt s (start + 8 * i) .direction
+
+-- arc i of those that start at `start` joins p and t in direction d
+pub record Joins (d p t : ℕ) (s : List ℕ) (start i : ℕ) : Type 0 where
+  pub transition : arcAt s (start + 8 * i) .transition ≡ t
+  pub direction : arcAt s (start + 8 * i) .direction ≡ d
+  pub place : arcAt s (start + 8 * i) .place ≡ p
 
 -- what an arc adds to the sum of p in direction d
 abbrev pub share : ℕ → ℕ → Arc → ℕ

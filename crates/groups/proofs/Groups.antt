@@ -4,20 +4,18 @@ use mathlib.Core.Bool.{Bool, true, false, _&&_}
 use mathlib.Core.List.{List}
 use mathlib.Core.Path.{_≡_, refl, sym, ap, _∙_}
 use native.Mathlib.Omega.{arith}
-use native.Mathlib.Nat.{add-zero}
-use native.Mathlib.Decide.{ℕ-discrete, decLt}
+use native.Mathlib.Decide.{decLt}
 use lib.Dec.{eqb}
-use borrow.Author.Tests.{eqb-true, eqb-false, eq-eqb}
+use borrow.Author.Tests.{eqb-true, eq-eqb}
 use Rattle.net.specs.Net.{weightOn}
 use Rattle.net.specs.declared.Arc.{Arc}
-use Rattle.file.specs.Word.{Bytes}
 use Rattle.file.specs.Layout.{arcAt, arcsFrom}
-use Rattle.file.specs.Facts.{ArcWord, arcOf, Sound}
+use Rattle.file.specs.Facts.{ArcWord, Sound}
 use Rattle.file.specs.Refusal.{key}
 use Rattle.file.specs.declared.Header.{Header}
 use Rattle.file.proofs.Rows.{key-le, weight-none, weight-next}
-use Rattle.gain.specs.Ways.{placeAt, transitionAt, directionAt}
-use Rattle.gain.proofs.Arcs.{Joins, good-at}
+use Rattle.gain.specs.Ways.{placeAt, transitionAt, directionAt, Joins}
+use Rattle.gain.proofs.Arcs.{good-at}
 use Rattle.gain.proofs.Shares.{share-is, share-unless, sum-same}
 use Rattle.groups.specs.Groups
 

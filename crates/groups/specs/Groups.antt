@@ -1,11 +1,9 @@
 -- Parallel arcs: the arcs that join one place and one transition in one direction. In order, they stand next to each other. Assumes nothing.
 use Prim.Native.Nat.{ℕ, zero, suc, _+_, _*_, _≤_, _<_}
-use mathlib.Core.Path.{_≡_}
 use mathlib.Core.List.{List}
 use lib.ListN.{length}
 use Rattle.file.specs.Layout.{arcAt}
-use Rattle.gain.specs.Ways.{placeAt, transitionAt, directionAt}
-use Rattle.gain.proofs.Arcs.{Joins}
+use Rattle.gain.specs.Ways.{placeAt, transitionAt, directionAt, Joins}
 
 -- the weight of arc j of those that start at `start`
 abbrev pub weightAt : List ℕ → ℕ → ℕ → ℕ

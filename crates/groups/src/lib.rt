@@ -1,7 +1,7 @@
 // Parallel arcs stand next to each other: where such a group ends, and the sum of its weights.
 ghost use mathlib.Core.Path.{_≡_};
 ghost use mathlib.Core.Bool.{true, _&&_};
-ghost use Prim.Native.Nat.{ℕ, _+_, _-_, _*_, _/_, _%_, _≤_};
+ghost use Prim.Native.Nat.{_+_, _-_, _*_, _/_, _%_, _≤_};
 ghost use lib.Dec.{eqb};
 ghost use Rattle.groups.specs.Groups.{GroupEnd, Stands, runWeight};
 use file::arcs::word;

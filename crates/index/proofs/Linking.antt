@@ -15,9 +15,9 @@ use Rattle.file.specs.declared.Header.{Header}
 use Rattle.file.proofs.Rows.{weight-none}
 use Rattle.starts.specs.Table.{slotAt, choose, Split}
 use Rattle.starts.proofs.Reached.{number-below}
-use Rattle.gain.specs.Ways.{transitionAt, directionAt, placeAt}
+use Rattle.gain.specs.Ways.{transitionAt, directionAt, placeAt, Joins}
 use Rattle.rows.specs.Rows.{entryOf, Ends, Rows}
-use Rattle.gain.proofs.Arcs.{Joins, good-at}
+use Rattle.gain.proofs.Arcs.{good-at}
 use Rattle.groups.specs.Groups.{Alike, Opens, Parallel, GroupEnd, runWeight}
 use Rattle.groups.proofs.Groups.{alike, alone, between, opens-next}
 use Rattle.index.specs.Steps.{arcIn, Fronted, Returned, Linked, Room}

@@ -13,10 +13,10 @@ use Rattle.file.specs.Layout.{arcAt, arcsFrom, netFrom}
 use Rattle.file.specs.Facts.{Sound}
 use Rattle.file.specs.declared.Header.{Header}
 use Rattle.file.proofs.Rows.{key-le, weight-none}
-use Rattle.gain.specs.Ways.{transitionAt, directionAt, placeAt}
+use Rattle.gain.specs.Ways.{transitionAt, directionAt, placeAt, Joins}
 use Rattle.rows.specs.Rows.{moves}
 use Rattle.gain.proofs.Shares.{share-unless, sum-same, sum-more}
-use Rattle.gain.proofs.Arcs.{Joins, arc-has, good-at}
+use Rattle.gain.proofs.Arcs.{arc-has, good-at}
 use Rattle.groups.specs.Groups.{Alike, Opens, GroupEnd, runWeight}
 use Rattle.groups.proofs.Groups.{alike-sum, group-sum}
 

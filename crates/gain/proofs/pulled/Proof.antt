@@ -1,8 +1,8 @@
 use borrow.Author.Needs.{needs}
 use Prim.Native.Nat.{ℕ, _+_, _*_, _-_, _≤_, _<_}
-use mathlib.Core.Path.{_≡_, refl, sym, ap, _∙_, subst}
+use mathlib.Core.Path.{_≡_, ap, subst}
 use native.Mathlib.Omega.{arith}
-use lib.ListN.{length, getD}
+use lib.ListN.{length}
 use Rattle.file.specs.Layout.{arcAt}
 use Rattle.net.specs.declared.Arc.{Arc}
 use Rattle.gain.proofs.Looking.{Looked, looked-none, looked-more, looked-end}
@@ -79,11 +79,11 @@ loop-less c = search needs
 
 -- src/lib.rt:60:5
 loop-again : tie.Need-loop-again Inv-loop μ-loop
-loop-again c = (
-  search needs,
-  search needs,
-  looked-more (c .before .before .before .before .before .before .before .before .before .args .file .now) _ _ (c .before .before .before .before .before .before .before .before .before .args .limit .now) _ _ _ _ (c .before .before .before .before .before .loop .inv .2) (c .before .before .before .before .before .loop .inv .0) _ (place-is (c .before .before .before)) (inside (c .before .before .before)) _ (c .pulling .ensures),
-)
+loop-again c =
+    let arc = c .before .before .before in
+    let head = arc .before .before in
+    let start = head .before .before .before .before in
+    (search needs, search needs, looked-more (start .args .file .now) _ _ (start .args .limit .now) _ _ _ _ (head .loop .inv .2) (head .loop .inv .0) _ (place-is arc) (inside arc) _ (c .pulling .ensures))
 
 -- src/lib.rt:45:1
 same-length : tie.Need-same-length Inv-loop μ-loop
