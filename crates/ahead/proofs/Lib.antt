@@ -1,4 +1,3 @@
-pub mod Underway
 pub mod Moving
 pub mod Raising
 pub mod Marching

@@ -13,9 +13,9 @@ use Rattle.starts.proofs.Reached.{order-at}
 use Rattle.gain.proofs.Arcs.{good-at, none-past}
 use Rattle.gain.proofs.Stretch.{Stretch, rises, own, sums, small}
 use Rattle.gain.proofs.Ways.{sum-quiet, sum-rises}
-use Rattle.ahead.specs.Steps.{Ready, Listed, Underway}
+use Rattle.replay_steps.specs.Steps.{Ready, Listed, Underway}
 use Rattle.ahead.specs.Moves.{lowAt, lowered, MovesOf, Movable, Moved, Lifted, Shifted, Raised, Marched}
-use Rattle.ahead.proofs.Underway.{underway-begin, fired-on}
+use Rattle.replay_steps.proofs.Underway.{underway-begin, fired-on}
 use Rattle.ahead.proofs.Raising.{lowered-at, lowered-long, lowered-is}
 
 pub marched-none : {s : List ℕ} {h : Header} {ts m : List ℕ} → Listed h ts (lowered m) → Lifted m → Marched s h ts m m 0

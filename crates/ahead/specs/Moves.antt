@@ -10,7 +10,7 @@ use Rattle.file.specs.Facts.{Sound}
 use Rattle.file.specs.declared.Header.{Header}
 use Rattle.starts.specs.Table.{choose}
 use Rattle.gain.specs.Ways.{sumOn}
-use Rattle.ahead.specs.Steps.{Underway}
+use Rattle.replay_steps.specs.Steps.{Underway}
 
 -- the move of an arc: its place, and below that what it adds, modulo 2 ^ 54; an input arc takes its weight
 abbrev pub moveOf : ℕ → ℕ → ℕ → ℕ

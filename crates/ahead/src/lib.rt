@@ -1,20 +1,11 @@
 // A quick way through the firings of a list. One number for each arc says what the arc does to its place,
 // and every entry of the marking stands 2^46 above its tokens meanwhile, so that a place that would be short shows in bit 46.
 ghost use mathlib.Core.Path.{_≡_};
-ghost use Prim.Native.Nat.{_<_};
-ghost use lib.ListN.{length, getD};
-ghost use Rattle.ahead.specs.Steps.{Ready, Listed, Underway};
+ghost use Rattle.replay_steps.specs.Steps.{Ready, Listed, Underway};
 ghost use Rattle.ahead.specs.Moves.{moveOf, MoveFits, Readable, MovesOf, Movable, Shifted, Moved, lowered, Plain, Lifted, Raised, Marched};
 use file::Header;
 use file::arcs::arc;
-
-// The number of arcs whose slot is below k: inputs of t have slot 2t, outputs 2t + 1.
-pub fn entry(table: &[u16], k: usize) -> usize
-    requires { ⌜ k < length (now table) ⌝ }
-    ensures { λ r. ⌜ r ≡ getD (now (table .entry)) k 0 ⌝ }
-{
-    table[k] as usize
-}
+use starts::entry;
 
 // The move of an arc: its place from bit 54 on, and below it what it adds, modulo 2^54.
 fn move_of(direction: usize, weight: usize, place: usize) -> u64

@@ -15,14 +15,8 @@ use Rattle.gain.specs.Gain.{part, sumTo, Run, Takes, Gives}
 use Rattle.gain.proofs.Sums.{sum-next, part-here, sum-more}
 use Rattle.gain.proofs.Arcs.{good-at, weight-le, none-past}
 use Rattle.gain.proofs.Weights as weights
-use Rattle.ahead.specs.Steps.{held, Ready, Holds}
+use Rattle.replay_steps.specs.Steps.{held, Ready, Holds}
 use Rattle.replay.specs.Steps.{Firable}
-
--- what arc j brings fits
-pub fits : (s : List ℕ) (start from j : ℕ) (was is : List ℕ) (a : Arc) → a ≡ arcAt s (start + 8 * j) → a .place < length was → (to : ℕ) → j < to → Gives s start from j was is
-    → ((p : ℕ) → getD was p 0 + sumTo s start p to < 2 ^ 64 + sumTo s start p from) → getD is (a .place) 0 + a .weight < 2 ^ 64
-fits s start from j was is a e inside to l x room =
-    omega (arith, x .at (a .place) inside, room (a .place), sum-next s start (a .place) j, ap (part (a .place)) (sym e), part-here a (a .place) refl, sum-more s start (a .place) (j + 1) to (omega arith))
 
 module _ {s : List ℕ} {h : Header} (w : Sound s h) where
   pub arcs-fit : h .arcstart + 8 * h .arcs ≤ length s

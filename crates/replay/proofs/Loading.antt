@@ -16,7 +16,7 @@ use Rattle.file.specs.Word.{Bytes, le32}
 use Rattle.file.specs.Layout.{netFrom}
 use Rattle.file.specs.declared.Header.{Header}
 use Rattle.file.proofs.Bytes.{le32-lt}
-use Rattle.ahead.specs.Steps.{held, Holds}
+use Rattle.replay_steps.specs.Steps.{held, Holds}
 
 pub record Loaded (s : List ℕ) (h : Header) (m₀ m : List ℕ) (n : ℕ) : Type 0 where
   pub places : length m₀ ≡ h .places

@@ -15,7 +15,7 @@ use Rattle.file.specs.Facts.{Sound}
 use Rattle.file.specs.declared.Header.{Header}
 use Rattle.file.proofs.Rows.{key-le, weight-none}
 use Rattle.starts.specs.Table.{slotAt, choose, Split}
-use Rattle.ahead.specs.Steps.{held}
+use Rattle.replay_steps.specs.Steps.{held}
 use Rattle.replay.specs.Steps.{arcOn, needAt, Lacking}
 use Rattle.gain.proofs.Arcs.{good-at}
 use Rattle.gain.proofs.Shares.{share-is, share-unless, sum-next, sum-same, sum-more}

@@ -8,8 +8,8 @@ use Rattle.net.specs.Net.{Answer, Replay, fire, replayFrom}
 use Rattle.file.specs.Layout.{netFrom}
 use Rattle.file.specs.declared.Header.{Header}
 use Rattle.promise.specs.Firing.{replayTold}
-use Rattle.ahead.specs.Steps.{held, Ready, Holds, Underway}
-use Rattle.ahead.proofs.Underway.{known, fired-on, replay-end, replay-stuck}
+use Rattle.replay_steps.specs.Steps.{held, Ready, Holds, Underway}
+use Rattle.replay_steps.proofs.Underway.{known, fired-on, replay-end, replay-stuck}
 use Rattle.replay.specs.Told.{outcomeNumbers}
 use Rattle.replay.specs.Steps.{needAt, Firable}
 use Rattle.replay.specs.declared.Outcome.{Outcome}

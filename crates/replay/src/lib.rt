@@ -10,13 +10,13 @@ ghost use Rattle.gain.specs.Gain.{sumTo, Run, Takes, Gives};
 ghost use Rattle.promise.specs.Calls.{written};
 ghost use Rattle.promise.specs.Firing.{replayTold, replayOr};
 ghost use Rattle.replay.specs.Told.{outcomeNumbers, heldBack};
-ghost use Rattle.ahead.specs.Steps.{held, Ready, Holds, Listed};
+ghost use Rattle.replay_steps.specs.Steps.{held, Ready, Holds, Listed, Underway};
 ghost use Rattle.starts.specs.Table.{choose};
 ghost use Rattle.replay.specs.Steps.{needAt, Lacking, Firable, Passed};
-use ahead::entry;
 use file::Header;
 use file::arcs::arc;
 use groups::group;
+use starts::entry;
 
 // How a replay ends: all fired; stuck, at an index of the list, a place and the tokens missing there; or refused.
 pub enum Outcome {
@@ -90,6 +90,15 @@ fn fire(file: &[u8], h: Header, table: &[u16], t: usize, marking: &mut [u64])
     give(file, h.arcstart, middle, to, marking);
 }
 
+// A quick way through the first firings: how many it has done. It may answer 0, and leave the marking alone.
+fn head_start(file: &[u8], h: Header, table: &[u16], list: &[u16], marking: &mut [u64]) -> usize
+    requires { ⌜ Ready (now file) h (now table) (now marking) ⌝ }
+    requires { ⌜ Listed h (now list) (now marking) ⌝ }
+    ensures { λ r. ⌜ Underway (now (file .entry)) h (now (list .entry)) (now (marking .entry)) (now (marking .exit)) r ⌝ }
+{
+    ahead::ahead(file, h, table, list, marking)
+}
+
 // Fires the listed transitions in turn, until one is not enabled.
 fn run(file: &[u8], h: Header, table: &[u16], list: &[u16], marking: &mut [u64]) -> Outcome
     requires { ⌜ Ready (now file) h (now table) (now marking) ⌝ }
@@ -97,7 +106,7 @@ fn run(file: &[u8], h: Header, table: &[u16], list: &[u16], marking: &mut [u64])
     ensures { λ r. ⌜ outcomeNumbers r ≡ replayTold (replayFrom (netFrom (now (file .entry)) h) 0 (held (now (marking .entry))) (now (list .entry)) .answer) ⌝ }
     ensures { λ _. ⌜ Holds (now (marking .entry)) (now (marking .exit)) (replayFrom (netFrom (now (file .entry)) h) 0 (held (now (marking .entry))) (now (list .entry)) .marking) ⌝ }
 {
-    let mut k = ahead::ahead(file, h, table, list, marking);
+    let mut k = head_start(file, h, table, list, marking);
     'firings: loop {
         if list.len() <= k {
             break 'firings Outcome::Fired;

@@ -70,6 +70,14 @@ pub fn starts(file: &[u8], start: usize, count: usize, transitions: usize, table
     fill(2 * transitions, table);
 }
 
+// Entry k of the table.
+pub fn entry(table: &[u16], k: usize) -> usize
+    requires { ⌜ k < length (now table) ⌝ }
+    ensures { λ r. ⌜ r ≡ getD (now (table .entry)) k 0 ⌝ }
+{
+    table[k] as usize
+}
+
 // How many arcs have a slot below k, by halving: they stand first.
 pub fn first_from(file: &[u8], start: usize, count: usize, k: usize) -> usize
     requires { ⌜ Ordered (now file) start count ⌝ }

@@ -4,7 +4,7 @@ use Prim.Native.Nat.{_-_}
 use native.Mathlib.Omega.{arith}
 use lib.ListN.{length}
 use Rattle.ahead.specs.Moves.{Marched}
-use Rattle.ahead.proofs.Underway.{Tabulated, tabulated}
+use Rattle.replay_steps.proofs.Underway.{Tabulated, tabulated}
 use Rattle.ahead.proofs.Marching.{marched-none, marched-long, Step, step}
 use Rattle.ahead.proofs.march.Statement.{statement}
 use Rattle.ahead.proofs.march.Tie as tie

@@ -4,8 +4,7 @@ use native.Mathlib.Omega.{arith}
 use lib.ListN.{length}
 use Rattle.net.specs.declared.Arc.{Arc}
 use Rattle.gain.specs.Gain.{Gives}
-use Rattle.gain.proofs.Sums.{gives-more}
-use Rattle.replay.proofs.Firing.{fits}
+use Rattle.gain.proofs.Sums.{fits, gives-more}
 use borrow.Author.Needs.{needs}
 use Rattle.replay.proofs.give.Statement.{statement}
 use Rattle.replay.proofs.give.Tie as tie

@@ -4,8 +4,8 @@ use Prim.Native.Nat.{ℕ, _*_, _+_, _-_}
 use native.Mathlib.Omega.{arith}
 use lib.ListN.{length, getD}
 use mathlib.Core.List.{List}
-use Rattle.ahead.specs.Steps.{Underway}
-use Rattle.ahead.proofs.Underway.{Tabulated, tabulated, ready-still}
+use Rattle.replay_steps.specs.Steps.{Underway}
+use Rattle.replay_steps.proofs.Underway.{Tabulated, tabulated, ready-still}
 use Rattle.replay.proofs.Firing.{arcs-fit, split-by}
 use Rattle.replay.proofs.Short.{Covered, Weighed, covered-none, weigh, known}
 use Rattle.replay.proofs.Underway.{ended-fired, ended-stuck, firable, fired-next}
@@ -41,7 +41,7 @@ firing c = c .before .before .before .before .before
 
 -- the marking after k firings, of those ahead and of the loop
 here : (c : Firing) → let s = call c in Underway (s .args .file .now) (s .args .h) (s .args .list .now) (s .args .marking .now) (c .firings .marking) (c .firings .k)
-here c = c .firings .inv (call c .args .marking .now) (c .before .before .before .ahead .ensures)
+here c = c .firings .inv (call c .args .marking .now) (c .before .before .before .head-start .ensures)
 
 -- the transition listed at k, in the table
 listed : (c : tie.After-shared-slice-known4 Inv-loop μ-loop Inv-firings μ-firings) → let s = call (c .before .before) in Tabulated (s .args .h) (s .args .table .now) (s .args .list .now) (c .before .before .firings .k)
@@ -57,8 +57,8 @@ weighed c =
 
 -- ---- to the firings
 
-ahead-requires : tie.Need-ahead-requires Inv-loop μ-loop Inv-firings μ-firings
-ahead-requires c κs = search needs
+head-start-requires : tie.Need-head-start-requires Inv-loop μ-loop Inv-firings μ-firings
+head-start-requires c κs = search needs
 
 firings-holds : tie.Need-firings-holds Inv-loop μ-loop Inv-firings μ-firings
 firings-holds c = λ m u. u
@@ -203,7 +203,7 @@ run-spec =
     μ-loop
     Inv-firings
     μ-firings
-    ahead-requires
+    head-start-requires
     firings-holds
     mul-t
     shared-slice-read-t

@@ -15,7 +15,7 @@ use Rattle.file.specs.Facts.{Sound}
 use Rattle.file.specs.declared.Header.{Header}
 use Rattle.file.proofs.Caps.{no-caps}
 use Rattle.gain.proofs.Arcs.{weight-le}
-use Rattle.ahead.specs.Steps.{held, Ready, Holds, Listed, Underway}
+use Rattle.replay_steps.specs.Steps.{held, Ready, Holds, Listed, Underway}
 
 module _ (N : Net) (i : ℕ) (M : Marking) (t : ℕ) (ts : List ℕ) where
   step-stuck : (p n : ℕ) → ShortAt N t M p n → replayFrom N i M (t ∷ ts) ≡ record { answer = short i p n; marking = M }

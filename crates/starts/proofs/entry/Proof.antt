@@ -1,7 +1,7 @@
 use native.Mathlib.Omega.{arith}
 use borrow.Author.Needs.{needs}
-use Rattle.ahead.proofs.entry.Statement.{statement}
-use Rattle.ahead.proofs.entry.Tie as tie
+use Rattle.starts.proofs.entry.Statement.{statement}
+use Rattle.starts.proofs.entry.Tie as tie
 
 mul-result : tie.Need-mul-result
 mul-result c = search needs
