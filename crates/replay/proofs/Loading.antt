@@ -16,7 +16,11 @@ use Rattle.file.specs.Word.{Bytes, le32}
 use Rattle.file.specs.Layout.{netFrom}
 use Rattle.file.specs.declared.Header.{Header}
 use Rattle.file.proofs.Bytes.{le32-lt}
-use Rattle.replay_steps.specs.Steps.{held, Holds}
+use Rattle.promise.specs.Firing.{ReplayAnswer, replayTold}
+use Rattle.starts.specs.Table.{Split}
+use Rattle.lists.proofs.Passing.{list-short, list-known}
+use Rattle.replay_steps.specs.Steps.{held, Ready, Holds, Listed}
+use Rattle.replay.specs.Steps.{Passed}
 
 pub record Loaded (s : List ℕ) (h : Header) (m₀ m : List ℕ) (n : ℕ) : Type 0 where
   pub places : length m₀ ≡ h .places
@@ -50,7 +54,7 @@ module _ {s : List ℕ} {h : Header} {m₀ : List ℕ} where
             )
 
 -- "a marking 0 to 4,294,967,295"
-pub marking-low : (s : List ℕ) (h : Header) → Bytes s → (p : ℕ) → netFrom s h .marking p < 2 ^ 32
+marking-low : (s : List ℕ) (h : Header) → Bytes s → (p : ℕ) → netFrom s h .marking p < 2 ^ 32
 marking-low s h b p = go (decLt p (h .places))
   where
     go : Dec (p < h .places) → netFrom s h .marking p < 2 ^ 32
@@ -71,7 +75,7 @@ getD-tokens M a (suc n) (suc i) l =
     getD-tokens M (suc a) n i (omega arith) ∙ ap M e
 
 -- a list is the entries of the marking that it holds
-pub tokens-are : (N : Net) (M : Marking) (m : List ℕ) → length m ≡ N .places → ((p : ℕ) → getD m p 0 ≡ M p) → m ≡ tokens N M
+tokens-are : (N : Net) (M : Marking) (m : List ℕ) → length m ≡ N .places → ((p : ℕ) → getD m p 0 ≡ M p) → m ≡ tokens N M
 unfolding tokens
 tokens-are N M m e f =
     ext-getD 0 m (map M (selected (λ p. true) 0 (N .places))) (e ∙ sym (length-tokens M 0 (N .places)))
@@ -82,13 +86,28 @@ unfolding tokens
 length-tokens-of N M = length-tokens M 0 (N .places)
 
 -- "starts at the initial marking"
-pub from-initial : (s : List ℕ) (h : Header) {m₀ m : List ℕ} → Holds m₀ m (netFrom s h .marking) → (ts : List ℕ) → replayFrom (netFrom s h) 0 (held m) ts ≡ replay (netFrom s h) ts
+from-initial : (s : List ℕ) (h : Header) {m₀ m : List ℕ} → Holds m₀ m (netFrom s h .marking) → (ts : List ℕ) → replayFrom (netFrom s h) 0 (held m) ts ≡ replay (netFrom s h) ts
 unfolding replay
 from-initial s h e ts = ap (λ (M : Marking). replayFrom (netFrom s h) 0 M ts) (fun-ext (e .at))
 
--- the list that holds the marking that a replay ends with
-pub ended : (s : List ℕ) (h : Header) {m₀ m₁ m₂ : List ℕ} → length m₀ ≡ h .places → (ts : List ℕ) → Holds m₀ m₁ (netFrom s h .marking) → Holds m₁ m₂ (replayFrom (netFrom s h) 0 (held m₁) ts .marking)
-    → m₂ ≡ tokens (netFrom s h) (replay (netFrom s h) ts .marking)
-ended s h e ts f g =
-    tokens-are (netFrom s h) (replay (netFrom s h) ts .marking) _ (g .long ∙ f .long ∙ e)
-    (λ p. g .at p ∙ ap (λ (R : Replay). R .marking p) (from-initial s h f ts))
+module _ {s : List ℕ} {h : Header} {ts m₀ m : List ℕ} (passed : Passed s h ts m₀) (loaded : Holds m₀ m (netFrom s h .marking)) where
+  pub listed : Bytes s → Listed h ts m
+  listed b = record {
+    short = list-short (h .transitions) ts (passed .list);
+    known = list-known (h .transitions) ts (passed .list);
+    low = λ p. omega (arith, loaded .at p, marking-low s h b p);
+  }
+
+  pub ready : Bytes s → {table : List ℕ} → 2 * h .transitions < length table → ((k : ℕ) → k ≤ 2 * h .transitions → Split s (h .arcstart) (h .arcs) k (getD table k 0)) → Ready s h table m
+  ready b long starts = record { sound = passed .sound; bytes = b; long = long; starts = starts; places = loaded .long ∙ passed .places }
+
+  -- what the replay from the initial marking answers, and the list that holds the marking that it ends with
+  module _ {m′ : List ℕ} where
+    pub ended : {a : ReplayAnswer} → (a ≡ replayTold (replayFrom (netFrom s h) 0 (held m) ts .answer)) × Holds m m′ (replayFrom (netFrom s h) 0 (held m) ts .marking)
+        → (a ≡ replayTold (replay (netFrom s h) ts .answer)) × (m′ ≡ tokens (netFrom s h) (replay (netFrom s h) ts .marking))
+    ended r =
+        let e = from-initial s h loaded ts in (
+          r .0 ∙ ap (λ (R : Replay). replayTold (R .answer)) e,
+          tokens-are (netFrom s h) (replay (netFrom s h) ts .marking) _ (r .1 .long ∙ loaded .long ∙ passed .places)
+              (λ p. r .1 .at p ∙ ap (λ (R : Replay). R .marking p) e),
+        )

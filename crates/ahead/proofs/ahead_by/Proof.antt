@@ -7,7 +7,11 @@ lift-requires : tie.Need-lift-requires
 lift-requires c κs = search needs
 
 march-requires : tie.Need-march-requires
-march-requires c κs = (ready-raised (c .before .before .before .lift .ensures) (c .before .before .before .before .before .before .before .before .before .before .pre .0), (c .before .before .before .before .before .before .before .before .before .before .pre .1 .1, (listed-raised (c .before .before .before .lift .ensures) (c .before .before .before .before .before .before .before .before .before .before .pre .1 .0), c .before .before .before .lift .ensures .lifted)))
+march-requires c κs =
+    let lift = c .before .before .before in
+    let pre = lift .before .before .before .before .before .before .before .pre in
+    let up = lift .lift .ensures in
+    (ready-raised up (pre .0), (pre .1 .1, (listed-raised up (pre .1 .0), up .lifted)))
 
 lower-requires : tie.Need-lower-requires
 lower-requires c κs = search needs
@@ -16,7 +20,11 @@ same-length : tie.Need-same-length
 same-length c = search needs
 
 returns : tie.Need-returns
-returns c = underway-lowered (c .before .before .before .before .before .before .before .before .before .before .lift .ensures) (c .before .before .before .before .before .before .march .ensures) (c .before .before .lower .ensures)
+returns c =
+    let lower = c .before .before in
+    let march = lower .before .before .before .before in
+    let lift = march .before .before .before .before in
+    underway-lowered (lift .lift .ensures) (march .march .ensures) (lower .lower .ensures)
 
 pub ahead-by-spec : {M : Type 1} → statement M
 ahead-by-spec =

@@ -17,27 +17,39 @@ returns : tie.Need-returns
 returns c = (told-refused _ _ (c .before .held-back .ensures) (c .if1 .taken), kept-refused _ _ _ (c .before .held-back .ensures) (c .if1 .taken))
 
 slice-relend-prefix-replay-all : tie.Need-slice-relend-prefix-replay-all
-slice-relend-prefix-replay-all c = room-enough (c .before .before .before .before .before .args .h) (c .before .before .before .before .before .args .list .now) (length (c .before .before .before .before .before .args .marking .now)) (c .before .held-back .ensures) (c .if1 .left)
+slice-relend-prefix-replay-all c =
+    let s = c .before .before .before .before .before .args in
+    room-enough (s .h) (s .list .now) (length (s .marking .now)) (c .before .held-back .ensures) (c .if1 .left)
 
 slice-aggregate-replay-all : tie.Need-slice-aggregate-replay-all
-slice-aggregate-replay-all c = sym (length-take-le (c .before .before .before .before .before .before .args .h .places) (c .before .before .before .before .before .before .args .marking .now) (room-enough (c .before .before .before .before .before .before .args .h) (c .before .before .before .before .before .before .args .list .now) (length (c .before .before .before .before .before .before .args .marking .now)) (c .before .before .held-back .ensures) (c .before .if1 .left)))
+slice-aggregate-replay-all c =
+    let s = c .before .before .before .before .before .before .args in
+    sym (length-take-le (s .h .places) (s .marking .now) (room-enough (s .h) (s .list .now) (length (s .marking .now)) (c .before .before .held-back .ensures) (c .before .if1 .left)))
 
 replay-all-requires : tie.Need-replay-all-requires
-replay-all-requires c κs = record {
-  sound = c .before .before .before .before .before .before .pre;
-  list = list-passes (c .before .before .before .before .before .before .args .h) (c .before .before .before .before .before .before .args .list .now) (length (c .before .before .before .before .before .before .args .marking .now)) (c .before .before .held-back .ensures) (c .before .if1 .left);
-  places = length-take-le (c .before .before .before .before .before .before .args .h .places) (c .before .before .before .before .before .before .args .marking .now) (room-enough (c .before .before .before .before .before .before .args .h) (c .before .before .before .before .before .before .args .list .now) (length (c .before .before .before .before .before .before .args .marking .now)) (c .before .before .held-back .ensures) (c .before .if1 .left));
-}
+replay-all-requires c κs =
+    let start = c .before .before .before .before .before .before in
+    let s = start .args in
+    let back = c .before .before .held-back .ensures in
+    let none = c .before .if1 .left in
+    record {
+      sound = start .pre;
+      list = list-passes (s .h) (s .list .now) (length (s .marking .now)) back none;
+      places = length-take-le (s .h .places) (s .marking .now) (room-enough (s .h) (s .list .now) (length (s .marking .now)) back none);
+    }
 
 same-length : tie.Need-same-length
 same-length c = search needs
 
 returns-2 : tie.Need-returns-2
 returns-2 c =
-    let n = c .before .before .before .before .before .held-back .ensures in
-    let z = c .before .before .before .before .if1 .left in (
-      told-whole _ _ _ n z (c .before .before .replay-all .ensures .0),
-      written-whole _ _ _ _ _ n z (length-tokens-of (netFrom (c .before .before .before .before .before .before .before .before .before .args .file .now) (c .before .before .before .before .before .before .before .before .before .args .h)) (replay (netFrom (c .before .before .before .before .before .before .before .before .before .args .file .now) (c .before .before .before .before .before .before .before .before .before .args .h)) (c .before .before .before .before .before .before .before .before .before .args .list .now) .marking)) (c .before .before .replay-all .ensures .1),
+    let all = c .before .before in
+    let back = all .before .before .before in
+    let s = back .before .before .before .before .args in
+    let net = netFrom (s .file .now) (s .h) in
+    let none = all .before .before .if1 .left in (
+      told-whole _ _ _ (back .held-back .ensures) none (all .replay-all .ensures .0),
+      written-whole _ _ _ _ _ (back .held-back .ensures) none (length-tokens-of net (replay net (s .list .now) .marking)) (all .replay-all .ensures .1),
     )
 
 pub replay-spec : {M : Type 1} → statement M

@@ -1,18 +1,16 @@
-use mathlib.Core.Path.{ap, _∙_}
 use native.Mathlib.Omega.{arith}
 use lib.ListN.{length}
-use Rattle.net.specs.Net.{Replay}
 use Rattle.file.specs.Word.{Bytes}
-use Rattle.promise.specs.Firing.{replayTold}
 use Rattle.starts.proofs.Reached.{tabled}
-use Rattle.lists.proofs.Passing.{list-short, list-known}
-use Rattle.replay.proofs.Loading.{marking-low, from-initial, ended}
+use Rattle.replay.proofs.Loading.{listed, ready, ended}
 use borrow.Author.Needs.{needs}
 use Rattle.replay.proofs.replay_by.Statement.{statement}
 use Rattle.replay.proofs.replay_by.Tie as tie
 
 starts-requires : tie.Need-starts-requires
-starts-requires c κs = tabled (c .before .before .before .before .before .args .file .now) (c .before .before .before .before .before .args .h) (length (c .before .before .before .before .before .args .table .now)) (c .before .before .before .before .before .pre .0 .sound) (c .before .before .before .before .before .pre .1)
+starts-requires c κs =
+    let s = c .before .before .before .before .before in
+    tabled (s .args .file .now) (s .args .h) (length (s .args .table .now)) (s .pre .0 .sound) (s .pre .1)
 
 load-requires : tie.Need-load-requires
 load-requires c κs = search needs
@@ -20,22 +18,13 @@ load-requires c κs = search needs
 run-requires : tie.Need-run-requires
 unfolding Bytes
 run-requires c κs =
-    let s = c .before .before .before .before .before .before .before .before .before .before .before .before .before .before .args .file .now in
-    let h = c .before .before .before .before .before .before .before .before .before .before .before .before .before .before .args .h in
-    let list = c .before .before .before .before .before .before .before .before .before .before .before .before .before .before .args .list .now in (
-      record {
-        sound = c .before .before .before .before .before .before .before .before .before .before .before .before .before .before .pre .0 .sound;
-        bytes = λ i. omega (arith, c .before .before .before .before .before .before .before .before .before .before .before .before .before .shared-slice-known .given i);
-        long = omega (arith, c .before .before .before .before .before .before .before .before .starts .ensures .0, c .before .before .before .before .before .before .before .before .before .before .before .before .before .before .pre .1);
-        starts = c .before .before .before .before .before .before .before .before .starts .ensures .1;
-        places = c .before .before .before .before .load .ensures .long ∙ c .before .before .before .before .before .before .before .before .before .before .before .before .before .before .pre .0 .places;
-      },
-      record {
-        short = list-short (h .transitions) list (c .before .before .before .before .before .before .before .before .before .before .before .before .before .before .pre .0 .list);
-        known = list-known (h .transitions) list (c .before .before .before .before .before .before .before .before .before .before .before .before .before .before .pre .0 .list);
-        low = λ p. omega (arith, c .before .before .before .before .load .ensures .at p, marking-low s h (λ i. omega (arith, c .before .before .before .before .before .before .before .before .before .before .before .before .before .shared-slice-known .given i)) p);
-      },
-    )
+    let load = c .before .before .before .before in
+    let starts = load .before .before .before .before in
+    let known = starts .before .before .before .before .before in
+    let s = known .before in
+    let bytes : Bytes (s .args .file .now) = λ i. omega (arith, known .shared-slice-known .given i) in
+    let table = starts .starts .ensures in
+    (ready (s .pre .0) (load .load .ensures) bytes (omega (arith, table .0, s .pre .1)) (table .1), listed (s .pre .0) (load .load .ensures) bytes)
 
 same-length : tie.Need-same-length
 same-length c = search needs
@@ -45,12 +34,11 @@ same-length-2 c = search needs
 
 returns : tie.Need-returns
 returns c =
-    let s = c .before .before .before .before .before .before .before .before .before .before .before .before .before .before .before .before .before .args .file .now in
-    let h = c .before .before .before .before .before .before .before .before .before .before .before .before .before .before .before .before .before .args .h in
-    let list = c .before .before .before .before .before .before .before .before .before .before .before .before .before .before .before .before .before .args .list .now in (
-      c .before .before .run .ensures .0 ∙ ap (λ (R : Replay). replayTold (R .answer)) (from-initial s h (c .before .before .before .before .before .before .before .load .ensures) list),
-      ended s h (c .before .before .before .before .before .before .before .before .before .before .before .before .before .before .before .before .before .pre .0 .places) list (c .before .before .before .before .before .before .before .load .ensures) (c .before .before .run .ensures .1),
-    )
+    let run = c .before .before in
+    let load = run .before .before .before .before .before in
+    let starts = load .before .before .before .before in
+    let s = starts .before .before .before .before .before .before in
+    ended (s .pre .0) (load .load .ensures) (run .run .ensures)
 
 pub replay-by-spec : {M : Type 1} → statement M
 replay-by-spec =
