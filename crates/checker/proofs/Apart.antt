@@ -1,41 +1,9 @@
--- No two verdicts have the same numbers. Assumes nothing.
-use Prim.Native.Nat.{ℕ, _-_}
-use mathlib.Core.Path.{_≡_, refl, sym, ap, _∙_}
-use mathlib.Core.Bool.{Bool, true, false}
-use mathlib.Core.List.{List, [], _∷_}
-use lib.ListN.{getD}
-use Rattle.promise.specs.Calls.{Checked}
-use Rattle.checker.specs.Answer.{outcomeNumbers, ToldApart}
-use Rattle.checker.specs.declared.Outcome.{Outcome}
-use Rattle.checker.specs.declared.Outcome.the-variants.{Accepted, Refused, UnknownPlace, UnknownTransition, OtherMarking, OtherArcs, CriterionMissing, ChangerMissing, InputMissing, RaiserMissing}
+-- No two verdicts have the same numbers.
+use mathlib.Core.Path.{ap}
+use Rattle.check_rules.specs.declared.Outcome.{Outcome}
+use Rattle.check_rules.proofs.Apart.{outcomes-apart}
+use Rattle.checker.specs.Answer.{ToldApart}
 use Rattle.checker.specs.declared.Verdict.{Verdict}
 
--- accepted, then the rules in order
-abbrev cases : List (ℕ → Outcome)
-cases =
-    (λ n. Accepted) ∷ UnknownPlace ∷ UnknownTransition ∷ OtherMarking ∷ OtherArcs ∷ CriterionMissing ∷ ChangerMissing ∷ InputMissing ∷ RaiserMissing ∷ []
-
-abbrev by : Bool → ℕ → ℕ → Outcome
-by true code number = Refused code
-by false code number = getD cases (code - 100) (λ n. Accepted) number
-
--- the outcome that has these numbers
-abbrev outcomeOf : Checked → Outcome
-outcomeOf c = by (c .refused) (c .code) (c .number)
-
-recovered : (o : Outcome) → outcomeOf (outcomeNumbers o) ≡ o
-recovered Accepted = refl
-recovered (Refused n) = refl
-recovered (UnknownPlace n) = refl
-recovered (UnknownTransition n) = refl
-recovered (OtherMarking n) = refl
-recovered (OtherArcs n) = refl
-recovered (CriterionMissing n) = refl
-recovered (ChangerMissing n) = refl
-recovered (InputMissing n) = refl
-recovered (RaiserMissing n) = refl
-
 pub told-apart : ToldApart
-told-apart a b e =
-    let same : a .outcome ≡ b .outcome = sym (recovered (a .outcome)) ∙ ap outcomeOf e ∙ recovered (b .outcome) in
-    ap (λ (o : Outcome). record { outcome = o }) same
+told-apart a b e = ap (λ (o : Outcome). record { outcome = o }) (outcomes-apart (a .outcome) (b .outcome) e)

@@ -1,4 +1,3 @@
-pub mod Steps
 pub mod Listed
 pub mod OnePass
 pub mod Apart

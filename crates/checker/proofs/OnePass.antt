@@ -1,20 +1,17 @@
--- Rules 4 to 8 by one pass. Assumes nothing.
-use Prim.Native.Nat.{ℕ, _≤_}
+-- Rules 4 to 8 by one pass.
 use mathlib.Core.Path.{_≡_, _∙_}
 use mathlib.Core.Bool.{false}
 use mathlib.Core.List.{List}
+use Prim.Native.Nat.{ℕ}
 use native.Mathlib.Omega.{arith}
-use lib.ListN.{replicate, length-replicate, getD-replicate}
 use Rattle.net.specs.Net.{Net, Uncapped}
 use Rattle.net.specs.Slice.{Slice}
 use Rattle.net.specs.Checker.{Rule, breaks, breaker, verdictFrom}
 use Rattle.promise.specs.Calls.{told}
-use Rattle.file.specs.declared.Header.{Header}
 use Rattle.kept.proofs.Firsts.{first-none}
-use Rattle.agree.specs.Entries.{leftPlace, leftTransition}
-use Rattle.agree.specs.Pass.{Blank, Unbroken, Agreed}
-use Rattle.checker.specs.Room.{rulesFrom4, KnownIn}
-use Rattle.checker.proofs.Steps.{holds-here, caps-left, range4, range5, range6, range7, range8}
+use Rattle.agree.specs.Pass.{Unbroken, Agreed}
+use Rattle.check_rules.specs.Room.{rulesFrom4}
+use Rattle.check_rules.proofs.Steps.{holds-here, caps-left, range4, range5, range6, range7, range8}
 
 -- no number breaks the rule: its lowest number is past its range
 past : (R : Rule) → Unbroken R → R .range ≡ breaker R
@@ -29,14 +26,3 @@ agreed-told N S Q none a =
     ∙ holds-here 6 _ _ _ _ (range6 N S Q) (past _ (a .sixth)) (omega (arith, range6 N S Q))
     ∙ holds-here 5 _ _ _ _ (range5 N S Q) (past _ (a .fifth)) (omega (arith, range5 N S Q))
     ∙ holds-here 4 _ _ _ _ (range4 N S) (past _ (a .fourth)) (omega (arith, range4 N S))
-
--- tables of n entries, all of them left out
-pub blank : (hp : Header) (S : Slice) (n : ℕ) → n ≤ 1024 → hp .places ≤ n → hp .transitions ≤ n → KnownIn hp S → Blank hp S (replicate n leftPlace) (replicate n leftTransition)
-blank hp S n few p t k = record {
-  placesReached = omega (arith, length-replicate n leftPlace);
-  transitionsReached = omega (arith, length-replicate n leftTransition);
-  origins = record { few = omega (arith, length-replicate n leftPlace); at = λ i l. omega (arith, length-replicate n leftPlace, k .places .at i l) };
-  transition-origins = record { few = omega (arith, length-replicate n leftTransition); at = λ i l. omega (arith, length-replicate n leftTransition, k .transitions .at i l) };
-  place-entry = λ x l. getD-replicate n x leftPlace 0 (omega (arith, length-replicate n leftPlace));
-  transition-entry = λ x l. getD-replicate n x leftTransition 0 (omega (arith, length-replicate n leftTransition));
-}

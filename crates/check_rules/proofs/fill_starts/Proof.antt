@@ -1,0 +1,37 @@
+use borrow.Author.Needs.{needs}
+use native.Mathlib.Omega.{arith}
+use Rattle.starts.proofs.Reached.{tabled}
+use Rattle.check_rules.proofs.fill_starts.Statement.{statement}
+use Rattle.check_rules.proofs.fill_starts.Tie as tie
+use Rattle.check_rules.proofs.fill_starts.Reads as reads
+use Rattle.check_rules.proofs.fill_starts.Lts as lts
+use Rattle.starts.proofs.starts.Reads as starts-reads
+
+-- src/lib.rt:144:5
+starts-requires : tie.Need-starts-requires
+starts-requires c κs = tabled _ _ _ (c .before .before .before .before .before .pre .0) (c .before .before .before .before .before .pre .1 .1 .0)
+
+-- src/lib.rt:145:5
+starts-requires-2 : tie.Need-starts-requires-2
+starts-requires-2 c κs = tabled _ _ _ (c .before .before .before .before .before .before .before .before .before .pre .1 .0) (c .before .before .before .before .before .before .before .before .before .pre .1 .1 .1)
+
+-- src/lib.rt:129:1
+same-length : tie.Need-same-length
+same-length c = search needs
+
+-- src/lib.rt:129:1
+same-length-2 : tie.Need-same-length-2
+same-length-2 c = search needs
+
+-- src/lib.rt:129:1
+returns : tie.Need-returns
+returns c =
+    let plan = c .before .before .before .before .before .before .starts .ensures in
+    let slice = c .before .before .starts2 .ensures in (
+      record { long = omega (arith, plan .0, c .before .before .before .before .before .before .before .before .before .before .before .before .pre .1 .1 .0); split = plan .1 },
+      record { long = omega (arith, slice .0, c .before .before .before .before .before .before .before .before .before .before .before .before .pre .1 .1 .1); split = slice .1 },
+    )
+
+pub fill-starts-spec : {M : Type 1} → statement M
+fill-starts-spec =
+    tie.close (tie.spec starts-requires starts-requires-2 same-length same-length-2 returns)

@@ -1,0 +1,186 @@
+// The rules 4 to 8 in order, and what the checker finds.
+ghost use mathlib.Core.Path.{_≡_};
+ghost use Prim.Native.Nat.{_*_, _<_};
+ghost use lib.ListN.{length};
+ghost use Rattle.net.specs.Checker.{verdictFrom};
+ghost use Rattle.file.specs.Layout.{netFrom, sliceFrom};
+ghost use Rattle.file.specs.Facts.{Sound};
+ghost use Rattle.file.specs.Criterion.{criterionRefusal};
+ghost use Rattle.promise.specs.Calls.{told};
+ghost use Rattle.tables.specs.Matched.{Starts, Matched};
+ghost use Rattle.movers.specs.Movers.{Resting};
+ghost use Rattle.check_rules.specs.Answer.{outcomeNumbers};
+ghost use Rattle.check_rules.specs.Room.{rulesFrom4, rulesFrom6, Judged, Room, Filled};
+use file::Header;
+
+// "accepted, or the broken rule with its number": each rule with the place or transition that breaks it. A call that is turned back has the refusal's number.
+pub enum Outcome {
+    Accepted,
+    Refused(u32),
+    UnknownPlace(u16),
+    UnknownTransition(u16),
+    OtherMarking(u16),
+    OtherArcs(u16),
+    CriterionMissing(u16),
+    ChangerMissing(u16),
+    InputMissing(u16),
+    RaiserMissing(u16),
+}
+
+// Rules 6 to 8.
+fn movers_outcome(
+    plan: &[u8],
+    hp: Header,
+    table: &[u16],
+    slice: &[u8],
+    hs: Header,
+    ownp: &[u16],
+    ownt: &[u16],
+    criterion: &[u16],
+    limit: &mut [u32],
+    column: &mut [u32],
+) -> Outcome
+    requires { ⌜ Matched (now plan) hp (now table) (now slice) hs (now ownp) (now ownt) ⌝ }
+    requires { ⌜ criterionRefusal (hp .places) (now criterion) ≡ 0 ⌝ }
+    requires { ⌜ Resting (hp .places) (now column) ⌝ }
+    requires { ⌜ length (now limit) ≡ length (now column) ⌝ }
+    ensures { λ r. ⌜ outcomeNumbers r ≡ told (verdictFrom 6 (rulesFrom6 (netFrom (now (plan .entry)) hp) (sliceFrom (now (slice .entry)) hs) (now (criterion .entry)))) ⌝ }
+{
+    let transitions = hp.transitions;
+    let changer = movers::changer_missing(
+        plan,
+        hp,
+        table,
+        slice,
+        hs,
+        ownp,
+        ownt,
+        criterion,
+        limit,
+        column,
+    );
+    if changer < transitions {
+        return Outcome::ChangerMissing(changer as u16);
+    }
+    let taker = links::input_missing(plan, hp, table, slice, hs, ownp, ownt);
+    if taker < transitions {
+        return Outcome::InputMissing(taker as u16);
+    }
+    let raiser = movers::raiser_missing(plan, hp, table, slice, hs, ownp, ownt, limit, column);
+    if raiser < transitions {
+        return Outcome::RaiserMissing(raiser as u16);
+    }
+    Outcome::Accepted
+}
+
+// Rules 4 to 8. `table` and `runs` have the starts of the plan's and the slice's arcs.
+fn links_outcome(
+    plan: &[u8],
+    hp: Header,
+    table: &[u16],
+    slice: &[u8],
+    hs: Header,
+    runs: &[u16],
+    ownp: &[u16],
+    ownt: &[u16],
+    criterion: &[u16],
+    limit: &mut [u32],
+    column: &mut [u32],
+) -> Outcome
+    requires { ⌜ Matched (now plan) hp (now table) (now slice) hs (now ownp) (now ownt) ⌝ }
+    requires { ⌜ Starts (now slice) hs (now runs) ⌝ }
+    requires { ⌜ criterionRefusal (hp .places) (now criterion) ≡ 0 ⌝ }
+    requires { ⌜ Resting (hp .places) (now column) ⌝ }
+    requires { ⌜ length (now limit) ≡ length (now column) ⌝ }
+    ensures { λ r. ⌜ outcomeNumbers r ≡ told (verdictFrom 4 (rulesFrom4 (netFrom (now (plan .entry)) hp) (sliceFrom (now (slice .entry)) hs) (now (criterion .entry)))) ⌝ }
+{
+    let places = hp.places;
+    let transitions = hp.transitions;
+    let other = links::other_arcs(plan, hp, table, slice, hs, runs, ownp, ownt);
+    if other < transitions {
+        return Outcome::OtherArcs(other as u16);
+    }
+    let missing = kept::criterion_missing(criterion, places, ownp);
+    if missing < places {
+        return Outcome::CriterionMissing(missing as u16);
+    }
+    movers_outcome(
+        plan,
+        hp,
+        table,
+        slice,
+        hs,
+        ownp,
+        ownt,
+        criterion,
+        limit,
+        column,
+    )
+}
+
+// The starts of the plan's and of the slice's arcs.
+fn fill_starts(
+    plan: &[u8],
+    hp: Header,
+    slice: &[u8],
+    hs: Header,
+    table: &mut [u16],
+    runs: &mut [u16],
+)
+    requires { ⌜ Sound (now plan) hp ⌝ }
+    requires { ⌜ Sound (now slice) hs ⌝ }
+    requires { ⌜ 2 * hp .transitions < length (now table) ⌝ }
+    requires { ⌜ 2 * hs .transitions < length (now runs) ⌝ }
+    ensures { λ _. ⌜ Starts (now (plan .entry)) hp (now (table .exit)) ⌝ }
+    ensures { λ _. ⌜ Starts (now (slice .entry)) hs (now (runs .exit)) ⌝ }
+{
+    starts::starts(plan, hp.arcstart, hp.arcs, hp.transitions, table);
+    starts::starts(slice, hs.arcstart, hs.arcs, hs.transitions, runs);
+}
+
+// The slice's own numbers of places and transitions.
+fn fill_own(slice: &[u8], hs: Header, ownp: &mut [u16], ownt: &mut [u16])
+    requires { ⌜ Sound (now slice) hs ⌝ }
+    requires { ⌜ hs .kind ≡ 1 ⌝ }
+    ensures { λ _. ⌜ Filled (now (slice .entry)) hs (now (ownp .entry)) (now (ownp .exit)) (now (ownt .entry)) (now (ownt .exit)) ⌝ }
+{
+    own::own(slice, hs.originstart, hs.places, ownp);
+    own::own(slice, hs.originstart + 2 * hs.places, hs.transitions, ownt);
+}
+
+// Rules 4 to 8, in arrays that are lent.
+pub fn lent_outcome(
+    plan: &[u8],
+    hp: Header,
+    slice: &[u8],
+    hs: Header,
+    criterion: &[u16],
+    table: &mut [u16],
+    runs: &mut [u16],
+    ownp: &mut [u16],
+    ownt: &mut [u16],
+    limit: &mut [u32],
+    column: &mut [u32],
+) -> Outcome
+    requires { ⌜ Judged (now plan) hp (now slice) hs (now criterion) ⌝ }
+    requires { ⌜ Room hp hs (length (now table)) (length (now runs)) (length (now ownp)) (length (now ownt)) ⌝ }
+    requires { ⌜ Resting (hp .places) (now column) ⌝ }
+    requires { ⌜ length (now limit) ≡ length (now column) ⌝ }
+    ensures { λ r. ⌜ outcomeNumbers r ≡ told (verdictFrom 4 (rulesFrom4 (netFrom (now (plan .entry)) hp) (sliceFrom (now (slice .entry)) hs) (now (criterion .entry)))) ⌝ }
+{
+    fill_starts(plan, hp, slice, hs, table, runs);
+    fill_own(slice, hs, ownp, ownt);
+    links_outcome(
+        plan,
+        hp,
+        table,
+        slice,
+        hs,
+        runs,
+        ownp,
+        ownt,
+        criterion,
+        limit,
+        column,
+    )
+}

@@ -1,0 +1,158 @@
+// Rules 4 to 8 in tables that are not much larger than the nets.
+ghost use mathlib.Core.Path.{_≡_};
+ghost use mathlib.Core.Bool.{true};
+ghost use Rattle.net.specs.Checker.{verdictFrom};
+ghost use Rattle.file.specs.Layout.{netFrom, sliceFrom};
+ghost use Rattle.promise.specs.Calls.{told};
+ghost use Rattle.agree.specs.Pass.{Agreed};
+ghost use Rattle.check_rules.specs.Answer.{outcomeNumbers};
+ghost use Rattle.check_rules.specs.Room.{rulesFrom4, Judged};
+ghost use Rattle.check_sizes.specs.Sizes.{KnownIn, Within};
+use check_rules::Outcome;
+use check_rules::lent_outcome;
+use file::Header;
+
+// Have the plan and the slice at most n places and n transitions?
+fn within(hp: Header, hs: Header, n: usize) -> bool
+    ensures { λ r. ⌜ (r ≡ true → Within n hp hs) ⌝ }
+{
+    (hp.places <= n) & (hp.transitions <= n) & (hs.transitions <= n)
+}
+
+// Rules 4 to 8 for nets of at most 64 places and 64 transitions.
+fn small_outcome(plan: &[u8], hp: Header, slice: &[u8], hs: Header, criterion: &[u16]) -> Outcome
+    requires { ⌜ Judged (now plan) hp (now slice) hs (now criterion) ⌝ }
+    requires { ⌜ Within 64 hp hs ⌝ }
+    ensures { λ r. ⌜ outcomeNumbers r ≡ told (verdictFrom 4 (rulesFrom4 (netFrom (now (plan .entry)) hp) (sliceFrom (now (slice .entry)) hs) (now (criterion .entry)))) ⌝ }
+{
+    let mut table = [0u16; 129];
+    let mut runs = [0u16; 129];
+    let mut ownp = [0u16; 64];
+    let mut ownt = [0u16; 64];
+    let mut limit = [0u32; 64];
+    let mut column = [1073741824u32; 64];
+    lent_outcome(
+        plan,
+        hp,
+        slice,
+        hs,
+        criterion,
+        &mut table,
+        &mut runs,
+        &mut ownp,
+        &mut ownt,
+        &mut limit,
+        &mut column,
+    )
+}
+
+// The same for all nets.
+fn large_outcome(plan: &[u8], hp: Header, slice: &[u8], hs: Header, criterion: &[u16]) -> Outcome
+    requires { ⌜ Judged (now plan) hp (now slice) hs (now criterion) ⌝ }
+    ensures { λ r. ⌜ outcomeNumbers r ≡ told (verdictFrom 4 (rulesFrom4 (netFrom (now (plan .entry)) hp) (sliceFrom (now (slice .entry)) hs) (now (criterion .entry)))) ⌝ }
+{
+    let mut table = [0u16; 2049];
+    let mut runs = [0u16; 2049];
+    let mut ownp = [0u16; 1024];
+    let mut ownt = [0u16; 1024];
+    let mut limit = [0u32; 1024];
+    let mut column = [1073741824u32; 1024];
+    lent_outcome(
+        plan,
+        hp,
+        slice,
+        hs,
+        criterion,
+        &mut table,
+        &mut runs,
+        &mut ownp,
+        &mut ownt,
+        &mut limit,
+        &mut column,
+    )
+}
+
+// Rules 4 to 8 in order, for all nets.
+pub fn sized(plan: &[u8], hp: Header, slice: &[u8], hs: Header, criterion: &[u16]) -> Outcome
+    requires { ⌜ Judged (now plan) hp (now slice) hs (now criterion) ⌝ }
+    ensures { λ r. ⌜ outcomeNumbers r ≡ told (verdictFrom 4 (rulesFrom4 (netFrom (now (plan .entry)) hp) (sliceFrom (now (slice .entry)) hs) (now (criterion .entry)))) ⌝ }
+{
+    if within(hp, hs, 64) {
+        return small_outcome(plan, hp, slice, hs, criterion);
+    }
+    large_outcome(plan, hp, slice, hs, criterion)
+}
+
+// Are the rules 4 to 8 certainly kept? For nets of at most 16 places and 16 transitions.
+fn tiny_agrees(plan: &[u8], hp: Header, slice: &[u8], hs: Header, criterion: &[u16]) -> bool
+    requires { ⌜ Judged (now plan) hp (now slice) hs (now criterion) ⌝ }
+    requires { ⌜ KnownIn hp (sliceFrom (now slice) hs) ⌝ }
+    requires { ⌜ Within 16 hp hs ⌝ }
+    ensures { λ r. ⌜ (r ≡ true → Agreed (netFrom (now (plan .entry)) hp) (sliceFrom (now (slice .entry)) hs) (now (criterion .entry))) ⌝ }
+{
+    let mut places = [4398047494144usize; 16];
+    let mut transitions = [459776usize; 16];
+    agree::agrees(
+        plan,
+        hp,
+        slice,
+        hs,
+        criterion,
+        &mut places,
+        &mut transitions,
+    )
+}
+
+// The same for at most 128 of each.
+fn small_agrees(plan: &[u8], hp: Header, slice: &[u8], hs: Header, criterion: &[u16]) -> bool
+    requires { ⌜ Judged (now plan) hp (now slice) hs (now criterion) ⌝ }
+    requires { ⌜ KnownIn hp (sliceFrom (now slice) hs) ⌝ }
+    requires { ⌜ Within 128 hp hs ⌝ }
+    ensures { λ r. ⌜ (r ≡ true → Agreed (netFrom (now (plan .entry)) hp) (sliceFrom (now (slice .entry)) hs) (now (criterion .entry))) ⌝ }
+{
+    let mut places = [4398047494144usize; 128];
+    let mut transitions = [459776usize; 128];
+    agree::agrees(
+        plan,
+        hp,
+        slice,
+        hs,
+        criterion,
+        &mut places,
+        &mut transitions,
+    )
+}
+
+// The same for all nets.
+fn large_agrees(plan: &[u8], hp: Header, slice: &[u8], hs: Header, criterion: &[u16]) -> bool
+    requires { ⌜ Judged (now plan) hp (now slice) hs (now criterion) ⌝ }
+    requires { ⌜ KnownIn hp (sliceFrom (now slice) hs) ⌝ }
+    ensures { λ r. ⌜ (r ≡ true → Agreed (netFrom (now (plan .entry)) hp) (sliceFrom (now (slice .entry)) hs) (now (criterion .entry))) ⌝ }
+{
+    let mut places = [4398047494144usize; 1024];
+    let mut transitions = [459776usize; 1024];
+    agree::agrees(
+        plan,
+        hp,
+        slice,
+        hs,
+        criterion,
+        &mut places,
+        &mut transitions,
+    )
+}
+
+// Are the rules 4 to 8 certainly kept? By one pass, in tables that are not much larger than the net.
+pub fn agreeing(plan: &[u8], hp: Header, slice: &[u8], hs: Header, criterion: &[u16]) -> bool
+    requires { ⌜ Judged (now plan) hp (now slice) hs (now criterion) ⌝ }
+    requires { ⌜ KnownIn hp (sliceFrom (now slice) hs) ⌝ }
+    ensures { λ r. ⌜ (r ≡ true → Agreed (netFrom (now (plan .entry)) hp) (sliceFrom (now (slice .entry)) hs) (now (criterion .entry))) ⌝ }
+{
+    if within(hp, hs, 16) {
+        return tiny_agrees(plan, hp, slice, hs, criterion);
+    }
+    if within(hp, hs, 128) {
+        return small_agrees(plan, hp, slice, hs, criterion);
+    }
+    large_agrees(plan, hp, slice, hs, criterion)
+}
