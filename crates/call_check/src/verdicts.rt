@@ -27,7 +27,7 @@ pub fn check(plan: &[u8], slice: &[u8], criterion: &[u16]) -> Verdict
             outcome: Outcome::Refused(file::number(second)),
         };
     };
-    let broken = criterion::refusal(criterion, p.places);
+    let broken = inputs_criterion::refusal(criterion, p.places);
     if broken != 0 {
         return Verdict {
             outcome: Outcome::Refused(broken),
@@ -49,7 +49,7 @@ pub fn check_bytes(plan: &[u8], slice: &[u8], q: &[u8]) -> u32
     let Reading::Whole(s) = second else {
         return file::number(second);
     };
-    let broken = criterion::bytes_refusal(q, p.places);
+    let broken = inputs_criterion::bytes_refusal(q, p.places);
     if broken != 0 {
         return broken;
     }

@@ -18,7 +18,7 @@ pub fn safety(plan: &[u8], criterion: &[u16], buffer: &mut [u8]) -> Cut
     let Reading::Whole(h) = whole else {
         return Cut::Refused(file::number(whole));
     };
-    let broken = criterion::refusal(criterion, h.places);
+    let broken = inputs_criterion::refusal(criterion, h.places);
     if broken != 0 {
         return Cut::Refused(broken);
     }
@@ -35,7 +35,7 @@ pub fn branching(plan: &[u8], criterion: &[u16], buffer: &mut [u8]) -> Cut
     let Reading::Whole(h) = whole else {
         return Cut::Refused(file::number(whole));
     };
-    let broken = criterion::refusal(criterion, h.places);
+    let broken = inputs_criterion::refusal(criterion, h.places);
     if broken != 0 {
         return Cut::Refused(broken);
     }

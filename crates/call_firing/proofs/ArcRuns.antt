@@ -18,7 +18,7 @@ use Rattle.file.specs.declared.Reading.the-variants.{Refused}
 use Rattle.file.proofs.Opening.{turned-back}
 use Rattle.file.specs.declared.Header.{Header}
 use Rattle.promise.specs.Firing.{named, runIf, runStart, runFrom, runIn, arcRun, startIf, arcStart}
-use Rattle.firing.specs.Runs.{runOf, startOf}
+use Rattle.arcs_effect.specs.Runs.{runOf, startOf}
 
 -- either file refused: no run
 module _ (plan slice : List ℕ) (inslice : Bool) (t : ℕ) where

@@ -16,7 +16,7 @@ use Rattle.file.specs.declared.Header.{Header}
 use Rattle.file.proofs.Opening.{orElse-stop}
 use Rattle.promise.specs.Calls.{written}
 use Rattle.promise.specs.Firing.{ProjectAnswer, projectOr, projectRefusal, projectAnswer, projectOutput}
-use Rattle.lists.proofs.Passing.{kept-refused}
+use Rattle.inputs_lists.proofs.Passing.{kept-refused}
 use Rattle.projection.specs.Told.{projectedNumbers, heldBack}
 use Rattle.projection.specs.declared.Projected.the-variants.{Refused}
 use Rattle.projection.proofs.Outcomes.{told-refused}

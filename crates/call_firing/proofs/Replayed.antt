@@ -14,7 +14,7 @@ use Rattle.promise.specs.Calls.{written}
 use Rattle.promise.specs.Firing.{ReplayAnswer, replayOr, replayRefusal, replayAnswer, replayMarking}
 use Rattle.replay.specs.Told.{outcomeNumbers, heldBack}
 use Rattle.replay.specs.declared.Outcome.the-variants.{Refused}
-use Rattle.lists.proofs.Passing.{kept-refused}
+use Rattle.inputs_lists.proofs.Passing.{kept-refused}
 use Rattle.replay.proofs.Listing.{told-refused}
 
 module _ (s list : List ℕ) (n : ℕ) (a : (fileRefusal Either s ≡ n) × (n ≡ 0 → ⊥)) where

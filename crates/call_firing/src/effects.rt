@@ -27,6 +27,6 @@ pub fn effect(file: &[u8], place: u16, transition: u16) -> Change
     if h.transitions <= t {
         return Change::Refused(12);
     }
-    let by = firing::effect(file, h, p, t);
+    let by = arcs_effect::effect(file, h, p, t);
     Change::By(by)
 }

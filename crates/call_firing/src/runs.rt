@@ -20,9 +20,9 @@ pub fn arcs<'a>(plan: &'a [u8], slice: &'a [u8], inslice: bool, transition: u16)
     };
     let t = transition as usize;
     if inslice {
-        return firing::run(slice, s, t);
+        return arcs_effect::run(slice, s, t);
     }
-    firing::run(plan, p, t)
+    arcs_effect::run(plan, p, t)
 }
 
 // Where that run stands in the file named, in bytes; 0 and 0 where it is empty.
@@ -51,12 +51,12 @@ pub fn arc_part(plan: &[u8], slice: &[u8], inslice: bool, transition: u16) -> Pa
     };
     let t = transition as usize;
     if inslice {
-        let r = firing::run_part(slice, s, t);
+        let r = arcs_effect::run_part(slice, s, t);
         let start = r.start as u32;
         let length = r.length as u32;
         return Part { start, length };
     }
-    let r = firing::run_part(plan, p, t);
+    let r = arcs_effect::run_part(plan, p, t);
     let start = r.start as u32;
     let length = r.length as u32;
     Part { start, length }

@@ -10,7 +10,7 @@ use Rattle.file.specs.Layout.{sliceFrom}
 use Rattle.file.specs.Facts.{Sound}
 use Rattle.file.specs.Criterion.{criterionRefusal}
 use Rattle.file.specs.declared.Header.{Header}
-use Rattle.own.specs.Own.{Own}
+use Rattle.numbering.specs.Own.{Own}
 
 -- rules 6 to 10
 abbrev pub rulesFrom6 : Net → Slice → List ℕ → List Rule

@@ -7,8 +7,8 @@ ghost use Rattle.file.specs.Layout.{netFrom, sliceFrom};
 ghost use Rattle.file.specs.Facts.{Sound};
 ghost use Rattle.file.specs.Criterion.{criterionRefusal};
 ghost use Rattle.promise.specs.Calls.{told};
-ghost use Rattle.tables.specs.Matched.{Starts, Matched};
-ghost use Rattle.movers.specs.Movers.{Resting};
+ghost use Rattle.rules_tables.specs.Matched.{Starts, Matched};
+ghost use Rattle.rules_effects.specs.Movers.{Resting};
 ghost use Rattle.check_rules.specs.Answer.{outcomeNumbers};
 ghost use Rattle.check_rules.specs.Room.{rulesFrom4, rulesFrom6, Judged, Room, Filled};
 use file::Header;
@@ -47,7 +47,7 @@ fn movers_outcome(
     ensures { λ r. ⌜ outcomeNumbers r ≡ told (verdictFrom 6 (rulesFrom6 (netFrom (now (plan .entry)) hp) (sliceFrom (now (slice .entry)) hs) (now (criterion .entry)))) ⌝ }
 {
     let transitions = hp.transitions;
-    let changer = movers::changer_missing(
+    let changer = rules_effects::changer_missing(
         plan,
         hp,
         table,
@@ -62,11 +62,21 @@ fn movers_outcome(
     if changer < transitions {
         return Outcome::ChangerMissing(changer as u16);
     }
-    let taker = links::input_missing(plan, hp, table, slice, hs, ownp, ownt);
+    let taker = rules_arcs::input_missing(plan, hp, table, slice, hs, ownp, ownt);
     if taker < transitions {
         return Outcome::InputMissing(taker as u16);
     }
-    let raiser = movers::raiser_missing(plan, hp, table, slice, hs, ownp, ownt, limit, column);
+    let raiser = rules_effects::raiser_missing(
+        plan,
+        hp,
+        table,
+        slice,
+        hs,
+        ownp,
+        ownt,
+        limit,
+        column,
+    );
     if raiser < transitions {
         return Outcome::RaiserMissing(raiser as u16);
     }
@@ -96,11 +106,11 @@ fn links_outcome(
 {
     let places = hp.places;
     let transitions = hp.transitions;
-    let other = links::other_arcs(plan, hp, table, slice, hs, runs, ownp, ownt);
+    let other = rules_arcs::other_arcs(plan, hp, table, slice, hs, runs, ownp, ownt);
     if other < transitions {
         return Outcome::OtherArcs(other as u16);
     }
-    let missing = kept::criterion_missing(criterion, places, ownp);
+    let missing = rules_origins::criterion_missing(criterion, places, ownp);
     if missing < places {
         return Outcome::CriterionMissing(missing as u16);
     }
@@ -134,8 +144,8 @@ fn fill_starts(
     ensures { λ _. ⌜ Starts (now (plan .entry)) hp (now (table .exit)) ⌝ }
     ensures { λ _. ⌜ Starts (now (slice .entry)) hs (now (runs .exit)) ⌝ }
 {
-    starts::starts(plan, hp.arcstart, hp.arcs, hp.transitions, table);
-    starts::starts(slice, hs.arcstart, hs.arcs, hs.transitions, runs);
+    arcs_starts::starts(plan, hp.arcstart, hp.arcs, hp.transitions, table);
+    arcs_starts::starts(slice, hs.arcstart, hs.arcs, hs.transitions, runs);
 }
 
 // The slice's own numbers of places and transitions.
@@ -144,8 +154,8 @@ fn fill_own(slice: &[u8], hs: Header, ownp: &mut [u16], ownt: &mut [u16])
     requires { ⌜ hs .kind ≡ 1 ⌝ }
     ensures { λ _. ⌜ Filled (now (slice .entry)) hs (now (ownp .entry)) (now (ownp .exit)) (now (ownt .entry)) (now (ownt .exit)) ⌝ }
 {
-    own::own(slice, hs.originstart, hs.places, ownp);
-    own::own(slice, hs.originstart + 2 * hs.places, hs.transitions, ownt);
+    numbering::own(slice, hs.originstart, hs.places, ownp);
+    numbering::own(slice, hs.originstart + 2 * hs.places, hs.transitions, ownt);
 }
 
 // Rules 4 to 8, in arrays that are lent.

@@ -4,8 +4,8 @@ use native.Mathlib.Omega.{arith}
 use lib.ListN.{replicate, length-replicate, getD-replicate}
 use Rattle.net.specs.Slice.{Slice}
 use Rattle.file.specs.declared.Header.{Header}
-use Rattle.agree.specs.Entries.{leftPlace, leftTransition}
-use Rattle.agree.specs.Pass.{Blank}
+use Rattle.check_fast.specs.Entries.{leftPlace, leftTransition}
+use Rattle.check_fast.specs.Pass.{Blank}
 use Rattle.check_sizes.specs.Sizes.{KnownIn}
 
 -- tables of n entries, all of them left out

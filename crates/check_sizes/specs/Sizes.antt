@@ -2,7 +2,7 @@
 use Prim.Native.Nat.{ℕ, _≤_}
 use Rattle.net.specs.Slice.{Slice}
 use Rattle.file.specs.declared.Header.{Header}
-use Rattle.kept.specs.Known.{Known}
+use Rattle.rules_origins.specs.Known.{Known}
 
 -- the plan knows every place and transition of the slice: rules 1 and 2
 pub record KnownIn (hp : Header) (S : Slice) : Type 0 where

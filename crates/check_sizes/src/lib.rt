@@ -4,7 +4,7 @@ ghost use mathlib.Core.Bool.{true};
 ghost use Rattle.net.specs.Checker.{verdictFrom};
 ghost use Rattle.file.specs.Layout.{netFrom, sliceFrom};
 ghost use Rattle.promise.specs.Calls.{told};
-ghost use Rattle.agree.specs.Pass.{Agreed};
+ghost use Rattle.check_fast.specs.Pass.{Agreed};
 ghost use Rattle.check_rules.specs.Answer.{outcomeNumbers};
 ghost use Rattle.check_rules.specs.Room.{rulesFrom4, Judged};
 ghost use Rattle.check_sizes.specs.Sizes.{KnownIn, Within};
@@ -92,7 +92,7 @@ fn tiny_agrees(plan: &[u8], hp: Header, slice: &[u8], hs: Header, criterion: &[u
 {
     let mut places = [4398047494144usize; 16];
     let mut transitions = [459776usize; 16];
-    agree::agrees(
+    check_fast::agrees(
         plan,
         hp,
         slice,
@@ -112,7 +112,7 @@ fn small_agrees(plan: &[u8], hp: Header, slice: &[u8], hs: Header, criterion: &[
 {
     let mut places = [4398047494144usize; 128];
     let mut transitions = [459776usize; 128];
-    agree::agrees(
+    check_fast::agrees(
         plan,
         hp,
         slice,
@@ -131,7 +131,7 @@ fn large_agrees(plan: &[u8], hp: Header, slice: &[u8], hs: Header, criterion: &[
 {
     let mut places = [4398047494144usize; 1024];
     let mut transitions = [459776usize; 1024];
-    agree::agrees(
+    check_fast::agrees(
         plan,
         hp,
         slice,

@@ -62,15 +62,15 @@ fn whole_outcome(plan: &[u8], hp: Header, slice: &[u8], hs: Header, criterion: &
     requires { ⌜ Judged (now plan) hp (now slice) hs (now criterion) ⌝ }
     ensures { λ r. ⌜ outcomeNumbers r ≡ told (verdict (netFrom (now (plan .entry)) hp) (sliceFrom (now (slice .entry)) hs) (now (criterion .entry))) ⌝ }
 {
-    let i = kept::unknown_place(slice, hs, hp.places);
+    let i = rules_origins::unknown_place(slice, hs, hp.places);
     if i < hs.places {
         return Outcome::UnknownPlace(i as u16);
     }
-    let j = kept::unknown_transition(slice, hs, hp.transitions);
+    let j = rules_origins::unknown_transition(slice, hs, hp.transitions);
     if j < hs.transitions {
         return Outcome::UnknownTransition(j as u16);
     }
-    let p = kept::other_marking(plan, hp, slice, hs);
+    let p = rules_origins::other_marking(plan, hp, slice, hs);
     if p < hp.places {
         return Outcome::OtherMarking(p as u16);
     }
@@ -99,7 +99,7 @@ fn judge_in(plan: &[u8], hp: Header, slice: &[u8], hs: Header, q: &[u8], list: &
     ensures { λ r. ⌜ r ≡ told (verdict (netFrom (now (plan .entry)) hp) (sliceFrom (now (slice .entry)) hs) (criterionOf (now (q .entry)))) .code ⌝ }
 {
     let count = q.len() / 2;
-    criterion::decode(q, count, list);
+    inputs_criterion::decode(q, count, list);
     code(judge(plan, hp, slice, hs, &list[..count]))
 }
 

@@ -90,7 +90,7 @@ fn transition(file: &[u8], h: Header, t: usize)
 {
     say::form(b"transition %", &[t]);
     transition_origin(file, h, t);
-    steps::line(firing::run(file, h, t));
+    steps::line(arcs_effect::run(file, h, t));
 }
 
 fn transitions(file: &[u8], h: Header)

@@ -10,7 +10,7 @@ use lib.Seq.{take-all, ext-getD, getD-append-seam, getD-append-add, getD-set-sam
 use Rattle.net.specs.Numbers.{among}
 use Rattle.net.specs.Slice.{strike, own}
 use Rattle.net.proofs.Numbers.{by-cases}
-use Rattle.own.specs.Own.{ownEntry, Own}
+use Rattle.numbering.specs.Own.{ownEntry, Own}
 use Rattle.projection.specs.Choice.{chosen, chosenBy, Reached, Last}
 
 -- ---- an entry that is not 0

@@ -12,10 +12,10 @@ use Rattle.file.specs.Facts.{Sound}
 use Rattle.file.specs.declared.Header.{Header}
 use Rattle.file.proofs.Laws.{slice-part}
 use Rattle.file.proofs.Opening.{orElse-stop}
-use Rattle.lists.proofs.Passing.{list-short, list-known, kept-refused}
+use Rattle.inputs_lists.proofs.Passing.{list-short, list-known, kept-refused}
 use Rattle.promise.specs.Calls.{written}
 use Rattle.promise.specs.Firing.{projectOr, listRefusal}
-use Rattle.own.specs.Own.{Own, Origins}
+use Rattle.numbering.specs.Own.{Own, Origins}
 use Rattle.projection.specs.Told.{roomRefusal, heldBack}
 use Rattle.projection.specs.Choice.{chosenBy, Reached, Given}
 use Rattle.projection.proofs.Choices.{chosen-own, chosen-few}

@@ -104,7 +104,7 @@ fn project_by(
     ensures answer { λ r. ⌜ projectedNumbers r ≡ projectOr (roomRefusal (length (now (out .entry))) (projectOf (sliceFrom (now (slice .entry)) h) (now (list .entry)))) (length (projectOf (sliceFrom (now (slice .entry)) h) (now (list .entry)))) ⌝ }
     ensures output { λ _. ⌜ now (out .exit) ≡ written (roomRefusal (length (now (out .entry))) (projectOf (sliceFrom (now (slice .entry)) h) (now (list .entry)))) (projectOf (sliceFrom (now (slice .entry)) h) (now (list .entry))) (now (out .entry)) ⌝ }
 {
-    own::own(slice, h.originstart + 2 * h.places, h.transitions, table);
+    numbering::own(slice, h.originstart + 2 * h.places, h.transitions, table);
     if lacks(table, list, out.len()) {
         return Projected::Refused(13);
     }
@@ -126,7 +126,7 @@ pub fn project(
     ensures answer { λ r. ⌜ projectedNumbers r ≡ projectOr (heldBack transitions (now (list .entry)) (length (now (out .entry))) (projectOf (sliceFrom (now (slice .entry)) h) (now (list .entry)))) (length (projectOf (sliceFrom (now (slice .entry)) h) (now (list .entry)))) ⌝ }
     ensures output { λ _. ⌜ now (out .exit) ≡ written (heldBack transitions (now (list .entry)) (length (now (out .entry))) (projectOf (sliceFrom (now (slice .entry)) h) (now (list .entry)))) (projectOf (sliceFrom (now (slice .entry)) h) (now (list .entry))) (now (out .entry)) ⌝ }
 {
-    let listed = lists::refusal(transitions, list);
+    let listed = inputs_lists::refusal(transitions, list);
     if listed != 0 {
         return Projected::Refused(listed);
     }

@@ -10,11 +10,11 @@ use Rattle.net.specs.declared.Arc.{Arc}
 use Rattle.file.specs.Layout.{arcAt, arcsFrom, netFrom}
 use Rattle.file.specs.Facts.{Sound}
 use Rattle.file.specs.declared.Header.{Header}
-use Rattle.starts.specs.Table.{Split}
-use Rattle.gain.specs.Gain.{part, sumTo, Run, Takes, Gives}
-use Rattle.gain.proofs.Sums.{sum-next, part-here, sum-more}
-use Rattle.gain.proofs.Arcs.{good-at, weight-le, none-past}
-use Rattle.gain.proofs.Weights as weights
+use Rattle.arcs_starts.specs.Table.{Split}
+use Rattle.arcs_column.specs.Gain.{part, sumTo, Run, Takes, Gives}
+use Rattle.arcs_column.proofs.Sums.{sum-next, part-here, sum-more}
+use Rattle.arcs_column.proofs.Arcs.{good-at, weight-le, none-past}
+use Rattle.arcs_column.proofs.Weights as weights
 use Rattle.replay_steps.specs.Steps.{held, Ready, Holds}
 use Rattle.replay.specs.Steps.{Firable}
 

@@ -17,8 +17,8 @@ use Rattle.file.specs.Layout.{netFrom}
 use Rattle.file.specs.declared.Header.{Header}
 use Rattle.file.proofs.Bytes.{le32-lt}
 use Rattle.promise.specs.Firing.{ReplayAnswer, replayTold}
-use Rattle.starts.specs.Table.{Split}
-use Rattle.lists.proofs.Passing.{list-short, list-known}
+use Rattle.arcs_starts.specs.Table.{Split}
+use Rattle.inputs_lists.proofs.Passing.{list-short, list-known}
 use Rattle.replay_steps.specs.Steps.{held, Ready, Holds, Listed}
 use Rattle.replay.specs.Steps.{Passed}
 

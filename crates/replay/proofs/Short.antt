@@ -14,13 +14,13 @@ use Rattle.file.specs.Layout.{arcsFrom, netFrom}
 use Rattle.file.specs.Facts.{Sound}
 use Rattle.file.specs.declared.Header.{Header}
 use Rattle.file.proofs.Rows.{key-le, weight-none}
-use Rattle.starts.specs.Table.{slotAt, choose, Split}
+use Rattle.arcs_starts.specs.Table.{slotAt, choose, Split}
 use Rattle.replay_steps.specs.Steps.{held}
 use Rattle.replay.specs.Steps.{arcOn, needAt, Lacking}
-use Rattle.gain.proofs.Arcs.{good-at}
-use Rattle.gain.proofs.Shares.{share-is, share-unless, sum-next, sum-same, sum-more}
-use Rattle.groups.specs.Groups.{GroupEnd, runWeight}
-use Rattle.groups.proofs.Groups.{run-adds, none-after}
+use Rattle.arcs_column.proofs.Arcs.{good-at}
+use Rattle.arcs_column.proofs.Shares.{share-is, share-unless, sum-next, sum-same, sum-more}
+use Rattle.arcs_groups.specs.Groups.{GroupEnd, runWeight}
+use Rattle.arcs_groups.proofs.Groups.{run-adds, none-after}
 
 -- m has enough for the inputs of t before arc j, the last of which is at the place `last`, where they take `need`; the inputs are the arcs from..middle
 pub record Covered (s : List ℕ) (h : Header) (t from middle : ℕ) (m : List ℕ) (j last need : ℕ) : Type 0 where

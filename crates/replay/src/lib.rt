@@ -6,17 +6,17 @@ ghost use lib.Dec.{eqb};
 ghost use Rattle.net.specs.Net.{fire as fireOf, replay as replayOf, replayFrom, tokens};
 ghost use Rattle.file.specs.Layout.{netFrom};
 ghost use Rattle.file.specs.Facts.{Sound};
-ghost use Rattle.gain.specs.Gain.{sumTo, Run, Takes, Gives};
+ghost use Rattle.arcs_column.specs.Gain.{sumTo, Run, Takes, Gives};
 ghost use Rattle.promise.specs.Calls.{written};
 ghost use Rattle.promise.specs.Firing.{replayTold, replayOr};
 ghost use Rattle.replay.specs.Told.{outcomeNumbers, heldBack};
 ghost use Rattle.replay_steps.specs.Steps.{held, Ready, Holds, Listed, Underway};
-ghost use Rattle.starts.specs.Table.{choose};
+ghost use Rattle.arcs_starts.specs.Table.{choose};
 ghost use Rattle.replay.specs.Steps.{needAt, Lacking, Firable, Passed};
+use arcs_groups::group;
+use arcs_starts::entry;
 use file::Header;
 use file::arcs::arc;
-use groups::group;
-use starts::entry;
 
 // How a replay ends: all fired; stuck, at an index of the list, a place and the tokens missing there; or refused.
 pub enum Outcome {
@@ -96,7 +96,7 @@ fn head_start(file: &[u8], h: Header, table: &[u16], list: &[u16], marking: &mut
     requires { ⌜ Listed h (now list) (now marking) ⌝ }
     ensures { λ r. ⌜ Underway (now (file .entry)) h (now (list .entry)) (now (marking .entry)) (now (marking .exit)) r ⌝ }
 {
-    ahead::ahead(file, h, table, list, marking)
+    replay_fast::ahead(file, h, table, list, marking)
 }
 
 // Fires the listed transitions in turn, until one is not enabled.
@@ -162,7 +162,7 @@ fn replay_by(
     ensures { λ r. ⌜ outcomeNumbers r ≡ replayTold (replayOf (netFrom (now (file .entry)) h) (now (list .entry)) .answer) ⌝ }
     ensures { λ _. ⌜ now (marking .exit) ≡ tokens (netFrom (now (file .entry)) h) (replayOf (netFrom (now (file .entry)) h) (now (list .entry)) .marking) ⌝ }
 {
-    starts::starts(file, h.arcstart, h.arcs, h.transitions, table);
+    arcs_starts::starts(file, h.arcstart, h.arcs, h.transitions, table);
     load(file, h, marking);
     run(file, h, table, list, marking)
 }
@@ -190,11 +190,11 @@ fn held_back(h: Header, list: &[u16], room: usize) -> u32
     requires { ⌜ h .transitions ≤ 1024 ⌝ }
     ensures { λ r. ⌜ r ≡ heldBack h (now (list .entry)) room ⌝ }
 {
-    let listed = lists::refusal(h.transitions, list);
+    let listed = inputs_lists::refusal(h.transitions, list);
     if listed != 0 {
         return listed;
     }
-    lists::refuse(room < h.places, 13, 0)
+    inputs_lists::refuse(room < h.places, 13, 0)
 }
 
 // Replays the list from the initial marking. The first entries of `marking` get the marking that it ends with, and the others are kept.

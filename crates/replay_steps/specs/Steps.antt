@@ -8,7 +8,7 @@ use Rattle.file.specs.Word.{Bytes}
 use Rattle.file.specs.Layout.{netFrom}
 use Rattle.file.specs.Facts.{Sound}
 use Rattle.file.specs.declared.Header.{Header}
-use Rattle.starts.specs.Table.{Split}
+use Rattle.arcs_starts.specs.Table.{Split}
 
 -- the marking that stands in a list
 abbrev pub held : List ℕ → Marking

@@ -21,15 +21,15 @@ use Rattle.file.specs.declared.Header.{Header}
 use Rattle.file.proofs.Bytes.{length-markings, length-origins, length-arcs}
 use Rattle.promise.proofs.Cuts.{length-arcsFrom}
 use Rattle.file.proofs.Rows.{range-at}
-use Rattle.between.specs.Between.{keptArcs, Arcs, ArcsWritten}
-use Rattle.between.proofs.Restricted.{arcs-restricted}
-use Rattle.parts.specs.Trailer.{trailerFor}
-use Rattle.parts.specs.Markings.{keptMarkings}
-use Rattle.parts.proofs.Steps.{markings-same}
-use Rattle.put.proofs.Sets.{sets-after, sets-first, take-sets}
+use Rattle.slice_arcs.specs.Between.{keptArcs, Arcs, ArcsWritten}
+use Rattle.slice_arcs.proofs.Restricted.{arcs-restricted}
+use Rattle.slice_parts.specs.Trailer.{trailerFor}
+use Rattle.slice_parts.specs.Markings.{keptMarkings}
+use Rattle.slice_parts.proofs.Steps.{markings-same}
+use Rattle.slice_put.proofs.Sets.{sets-after, sets-first, take-sets}
 use Rattle.sets.specs.Member.{member, countBelow}
 use Rattle.sets.specs.declared.KeptSets.{KeptSets}
-use Rattle.members.proofs.Selected.{selected-below, count-selected}
+use Rattle.slice_members.proofs.Selected.{selected-below, count-selected}
 use Rattle.slice.specs.Kept.{Within, Answers, keptSlice}
 use Rattle.slice.specs.Parts.{Lists, Tables}
 use Rattle.slice.specs.declared.Cut.{Cut}

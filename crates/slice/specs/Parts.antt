@@ -5,7 +5,7 @@ use mathlib.Core.Path.{_≡_}
 use lib.ListN.{length, getD}
 use Rattle.net.specs.Numbers.{Rising}
 use Rattle.file.specs.declared.Header.{Header}
-use Rattle.own.specs.Own.{Own}
+use Rattle.numbering.specs.Own.{Own}
 
 -- rising lists of the plan's places and transitions
 pub record Lists (h : Header) (ps ts : List ℕ) : Type 0 where

@@ -36,13 +36,21 @@ fn write_parts(
     ensures { λ r. ⌜ Answers (keeping (netFrom (now (plan .entry)) h) (now (ps .entry)) (now (ts .entry))) (now (buffer .entry)) (now (buffer .exit)) r ⌝ }
 {
     let start = 4 * ps.len();
-    parts::write_markings(plan, h, ps, buffer);
-    let middle = between::write_arcs(plan, h.arcstart, h.arcs, places, transitions, start, buffer);
+    slice_parts::write_markings(plan, h, ps, buffer);
+    let middle = slice_arcs::write_arcs(
+        plan,
+        h.arcstart,
+        h.arcs,
+        places,
+        transitions,
+        start,
+        buffer,
+    );
     let end = middle + 2 * ps.len();
     let body = end + 2 * ts.len();
-    parts::write_origins(ps, middle, buffer);
-    parts::write_origins(ts, end, buffer);
-    parts::write_trailer(ps.len(), ts.len(), (middle - start) / 8, body, buffer);
+    slice_parts::write_origins(ps, middle, buffer);
+    slice_parts::write_origins(ts, end, buffer);
+    slice_parts::write_trailer(ps.len(), ts.len(), (middle - start) / 8, body, buffer);
     let bytes = (body + 16) as u32;
     let kept_places = ps.len() as u32;
     let kept_transitions = ts.len() as u32;
@@ -68,7 +76,7 @@ fn write_if_room(
     if rest + 8 * h.arcs <= buffer.len() {
         return write_parts(plan, h, ps, ts, places, transitions, buffer);
     }
-    let arcs = between::count_arcs(plan, h.arcstart, h.arcs, places, transitions);
+    let arcs = slice_arcs::count_arcs(plan, h.arcstart, h.arcs, places, transitions);
     if buffer.len() < rest + 8 * arcs {
         return Cut::Refused(13);
     }
@@ -90,8 +98,8 @@ fn write_lists(
     requires { ⌜ Cleared (h .places) (now places) × Cleared (h .transitions) (now transitions) ⌝ }
     ensures { λ r. ⌜ Answers (keeping (netFrom (now (plan .entry)) h) (now (ps .entry)) (now (ts .entry))) (now (buffer .entry)) (now (buffer .exit)) r ⌝ }
 {
-    members::positions(ps, places);
-    members::positions(ts, transitions);
+    slice_members::positions(ps, places);
+    slice_members::positions(ts, transitions);
     write_if_room(plan, h, ps, ts, places, transitions, buffer)
 }
 
@@ -118,8 +126,8 @@ fn write_sets(
     let wt = (h.transitions + 63) / 64;
     let np = sets::count(&kept_places, wp);
     let nt = sets::count(&kept_transitions, wt);
-    members::members(&kept_places, wp, ps);
-    members::members(&kept_transitions, wt, ts);
+    slice_members::members(&kept_places, wp, ps);
+    slice_members::members(&kept_transitions, wt, ts);
     write_lists(plan, h, &ps[..np], &ts[..nt], places, transitions, buffer)
 }
 

@@ -50,10 +50,10 @@ fn decoded(bytes: &[u8], to: &mut [u16]) -> usize
     let most = to.len();
     let n = bytes.len() / 2;
     if most < n {
-        criterion::decode(bytes, most, to);
+        inputs_criterion::decode(bytes, most, to);
         return most;
     }
-    criterion::decode(bytes, n, to);
+    inputs_criterion::decode(bytes, n, to);
     n
 }
 

@@ -1,10 +1,10 @@
 use borrow.Author.Needs.{needs}
-use Rattle.kept.proofs.Reached.{place-origins, transition-origins}
+use Rattle.rules_origins.proofs.Reached.{place-origins, transition-origins}
 use Rattle.check_rules.proofs.fill_own.Statement.{statement}
 use Rattle.check_rules.proofs.fill_own.Tie as tie
 use Rattle.check_rules.proofs.fill_own.Reads as reads
 use Rattle.check_rules.proofs.fill_own.Lts as lts
-use Rattle.own.proofs.own.Reads as own-reads
+use Rattle.numbering.proofs.own.Reads as own-reads
 
 -- src/lib.rt:154:5
 own-requires : tie.Need-own-requires

@@ -1,11 +1,11 @@
 use borrow.Author.Needs.{needs}
 use native.Mathlib.Omega.{arith}
-use Rattle.starts.proofs.Reached.{tabled}
+use Rattle.arcs_starts.proofs.Reached.{tabled}
 use Rattle.check_rules.proofs.fill_starts.Statement.{statement}
 use Rattle.check_rules.proofs.fill_starts.Tie as tie
 use Rattle.check_rules.proofs.fill_starts.Reads as reads
 use Rattle.check_rules.proofs.fill_starts.Lts as lts
-use Rattle.starts.proofs.starts.Reads as starts-reads
+use Rattle.arcs_starts.proofs.starts.Reads as starts-reads
 
 -- src/lib.rt:144:5
 starts-requires : tie.Need-starts-requires

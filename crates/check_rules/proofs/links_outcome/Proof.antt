@@ -6,8 +6,8 @@ use Rattle.check_rules.proofs.links_outcome.Tie as tie
 use Rattle.check_rules.proofs.links_outcome.Reads as reads
 use Rattle.check_rules.proofs.links_outcome.Lts as lts
 use Rattle.check_rules.proofs.movers_outcome.Reads as movers-outcome-reads
-use Rattle.kept.proofs.criterion_missing.Reads as criterion-missing-reads
-use Rattle.links.proofs.other_arcs.Reads as other-arcs-reads
+use Rattle.rules_origins.proofs.criterion_missing.Reads as criterion-missing-reads
+use Rattle.rules_arcs.proofs.other_arcs.Reads as other-arcs-reads
 
 -- src/lib.rt:117:9
 other-arcs-requires : tie.Need-other-arcs-requires

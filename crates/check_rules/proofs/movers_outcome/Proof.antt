@@ -7,9 +7,9 @@ use Rattle.check_rules.proofs.movers_outcome.Statement.{statement}
 use Rattle.check_rules.proofs.movers_outcome.Tie as tie
 use Rattle.check_rules.proofs.movers_outcome.Reads as reads
 use Rattle.check_rules.proofs.movers_outcome.Lts as lts
-use Rattle.links.proofs.input_missing.Reads as input-missing-reads
-use Rattle.movers.proofs.changer_missing.Reads as changer-missing-reads
-use Rattle.movers.proofs.raiser_missing.Reads as raiser-missing-reads
+use Rattle.rules_arcs.proofs.input_missing.Reads as input-missing-reads
+use Rattle.rules_effects.proofs.changer_missing.Reads as changer-missing-reads
+use Rattle.rules_effects.proofs.raiser_missing.Reads as raiser-missing-reads
 
 -- src/lib.rt:93:9
 changer-missing-requires : tie.Need-changer-missing-requires

@@ -15,7 +15,7 @@ use Rattle.checker.proofs.judge_in.Reads as reads
 use Rattle.checker.proofs.judge_in.Lts as lts
 use Rattle.checker.proofs.code.Reads as code-reads
 use Rattle.checker.proofs.judge.Reads as judge-reads
-use Rattle.criterion.proofs.decode.Reads as decode-reads
+use Rattle.inputs_criterion.proofs.decode.Reads as decode-reads
 
 -- src/lib.rt:464:5
 decode-requires : tie.Need-decode-requires

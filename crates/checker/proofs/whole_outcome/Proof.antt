@@ -8,7 +8,7 @@ use Rattle.file.specs.Layout.{netFrom, sliceFrom}
 use Rattle.promise.specs.Calls.{told}
 use Rattle.file.proofs.Caps.{no-caps}
 use Rattle.file.proofs.Rows.{length-words}
-use Rattle.kept.proofs.Keeping.{places-known, transitions-known}
+use Rattle.rules_origins.proofs.Keeping.{places-known, transitions-known}
 use Rattle.check_rules.specs.Room.{rulesFrom4}
 use Rattle.check_rules.proofs.Steps.{broken-here, holds-here, range1, range2, range3, all-rules}
 use Rattle.check_sizes.specs.Sizes.{KnownIn}

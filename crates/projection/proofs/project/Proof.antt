@@ -2,7 +2,7 @@ use native.Mathlib.Omega.{arith}
 use lib.ListN.{length}
 use Rattle.net.specs.Slice.{project}
 use Rattle.file.specs.Layout.{sliceFrom}
-use Rattle.lists.proofs.Passing.{kept-refused}
+use Rattle.inputs_lists.proofs.Passing.{kept-refused}
 use Rattle.projection.proofs.Outcomes.{given-by, told-refused, list-refused, list-passes}
 use borrow.Author.Needs.{needs}
 use Rattle.projection.proofs.project.Statement.{statement}

@@ -3,8 +3,8 @@ use mathlib.Core.Path.{_≡_, refl, sym, subst}
 use native.Mathlib.Omega.{arith}
 use lib.ListN.{length}
 use Rattle.net.specs.declared.Arc.{Arc}
-use Rattle.gain.specs.Gain.{Gives}
-use Rattle.gain.proofs.Sums.{fits, gives-more}
+use Rattle.arcs_column.specs.Gain.{Gives}
+use Rattle.arcs_column.proofs.Sums.{fits, gives-more}
 use borrow.Author.Needs.{needs}
 use Rattle.replay.proofs.give.Statement.{statement}
 use Rattle.replay.proofs.give.Tie as tie

@@ -3,7 +3,7 @@ use lib.ListN.{length}
 use lib.Seq.{length-take-le}
 use Rattle.net.specs.Net.{replay}
 use Rattle.file.specs.Layout.{netFrom}
-use Rattle.lists.proofs.Passing.{kept-refused, written-whole}
+use Rattle.inputs_lists.proofs.Passing.{kept-refused, written-whole}
 use Rattle.replay.proofs.Listing.{list-passes, room-enough, told-refused, told-whole}
 use Rattle.replay.proofs.Loading.{length-tokens-of}
 use borrow.Author.Needs.{needs}

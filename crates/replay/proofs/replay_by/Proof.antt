@@ -1,7 +1,7 @@
 use native.Mathlib.Omega.{arith}
 use lib.ListN.{length}
 use Rattle.file.specs.Word.{Bytes}
-use Rattle.starts.proofs.Reached.{tabled}
+use Rattle.arcs_starts.proofs.Reached.{tabled}
 use Rattle.replay.proofs.Loading.{listed, ready, ended}
 use borrow.Author.Needs.{needs}
 use Rattle.replay.proofs.replay_by.Statement.{statement}

@@ -3,8 +3,8 @@ use mathlib.Core.Path.{_≡_, refl, sym, subst}
 use native.Mathlib.Omega.{arith}
 use lib.ListN.{length}
 use Rattle.net.specs.declared.Arc.{Arc}
-use Rattle.gain.specs.Gain.{Takes}
-use Rattle.gain.proofs.Sums.{enough, takes-more}
+use Rattle.arcs_column.specs.Gain.{Takes}
+use Rattle.arcs_column.proofs.Sums.{enough, takes-more}
 use borrow.Author.Needs.{needs}
 use Rattle.replay.proofs.take.Statement.{statement}
 use Rattle.replay.proofs.take.Tie as tie

@@ -7,7 +7,7 @@ use Rattle.net.specs.Slice.{Slice, restrict, keeping}
 use Rattle.file.specs.Layout.{arcsFrom, netFrom}
 use Rattle.file.specs.Writing.{arcsBytes}
 use Rattle.file.proofs.Bytes.{length-arcs}
-use Rattle.between.specs.Between.{keptArcs}
+use Rattle.slice_arcs.specs.Between.{keptArcs}
 use Rattle.slice.proofs.Laws.{arcs-known, arcs-are, few-arcs, file-length, parts-stored, room, kept-places, kept-transitions}
 use Rattle.slice.proofs.write_parts.Statement.{statement}
 use Rattle.slice.proofs.write_parts.Tie as tie

@@ -12,7 +12,7 @@ use Rattle.call_check.proofs.verdicts.check.Tie as tie
 use Rattle.call_check.proofs.verdicts.check.Reads as reads
 use Rattle.call_check.proofs.verdicts.check.Lts as lts
 use Rattle.checker.proofs.judge.Reads as judge-reads
-use Rattle.criterion.proofs.refusal.Reads as refusal-reads
+use Rattle.inputs_criterion.proofs.refusal.Reads as refusal-reads
 use Rattle.file.proofs.number.Reads as number-reads
 use Rattle.file.proofs.read.Reads as read-reads
 

@@ -12,7 +12,7 @@ use Rattle.call_check.proofs.verdicts.check_bytes.Tie as tie
 use Rattle.call_check.proofs.verdicts.check_bytes.Reads as reads
 use Rattle.call_check.proofs.verdicts.check_bytes.Lts as lts
 use Rattle.checker.proofs.judge_bytes.Reads as judge-bytes-reads
-use Rattle.criterion.proofs.bytes_refusal.Reads as bytes-refusal-reads
+use Rattle.inputs_criterion.proofs.bytes_refusal.Reads as bytes-refusal-reads
 use Rattle.file.proofs.number.Reads as number-reads
 use Rattle.file.proofs.read.Reads as read-reads
 

@@ -11,7 +11,7 @@ use Rattle.call_cuts.proofs.cuts.branching.Statement.{statement}
 use Rattle.call_cuts.proofs.cuts.branching.Tie as tie
 use Rattle.call_cuts.proofs.cuts.branching.Reads as reads
 use Rattle.call_cuts.proofs.cuts.branching.Lts as lts
-use Rattle.criterion.proofs.refusal.Reads as refusal-reads
+use Rattle.inputs_criterion.proofs.refusal.Reads as refusal-reads
 use Rattle.cut.proofs.kept.Reads as kept-reads
 use Rattle.file.proofs.number.Reads as number-reads
 use Rattle.file.proofs.read.Reads as read-reads

@@ -11,7 +11,7 @@ use Rattle.call_firing.proofs.effects.effect.Reads as reads
 use Rattle.call_firing.proofs.effects.effect.Lts as lts
 use Rattle.file.proofs.number.Reads as number-reads
 use Rattle.file.proofs.read.Reads as read-reads
-use Rattle.firing.proofs.effect.Reads as effect-reads
+use Rattle.arcs_effect.proofs.effect.Reads as effect-reads
 
 -- what is known of the file from here on
 open-at : (c : tie.After-whole) → Opened Either (c .before .before .before .before .args .file .now) (c .whole .given .0 .0)

@@ -11,7 +11,7 @@ use Rattle.call_firing.proofs.runs.arc_part.Tie as tie
 use Rattle.call_firing.proofs.runs.arc_part.Reads as reads
 use Rattle.call_firing.proofs.runs.arc_part.Lts as lts
 use Rattle.file.proofs.read.Reads as read-reads
-use Rattle.firing.proofs.run_part.Reads as run-part-reads
+use Rattle.arcs_effect.proofs.run_part.Reads as run-part-reads
 
 -- what is known of the two files from here on
 plan-at : (c : tie.After-first) → Opened due.Plan (c .before .before .before .before .before .args .plan .now) (c .first .given .0 .0)

@@ -10,7 +10,7 @@ use Rattle.call_firing.proofs.runs.arcs.Tie as tie
 use Rattle.call_firing.proofs.runs.arcs.Reads as reads
 use Rattle.call_firing.proofs.runs.arcs.Lts as lts
 use Rattle.file.proofs.read.Reads as read-reads
-use Rattle.firing.proofs.run.Reads as run-reads
+use Rattle.arcs_effect.proofs.run.Reads as run-reads
 
 -- what is known of the two files from here on
 plan-at : (c : tie.After-first) → Opened due.Plan (c .before .before .before .before .before .args .plan .now) (c .first .given .0 .0)

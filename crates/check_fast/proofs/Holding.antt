@@ -1,0 +1,151 @@
+-- Arcs that are all gone through: the rules 4 to 8 hold. Assumes nothing.
+use Prim.Native.Nat.{ℕ, zero, suc, _+_, _*_, _<_}
+use mathlib.Core.Path.{_≡_, refl, sym, ap, _∙_}
+use mathlib.Core.Bool.{Bool, true, false, not, _&&_}
+use mathlib.Core.List.{List}
+use native.Mathlib.Omega.{arith}
+use lib.Dec.{eqb, ltb, ltb→lt, eqb→eq, T-not}
+use borrow.Author.Tests.{eq-eqb}
+use Rattle.net.specs.Numbers.{among, position, any, selected}
+use Rattle.net.specs.Net.{input, output, weightOn, joins, counted, changes, raises, takesFrom}
+use Rattle.net.specs.Slice.{arcsOf, restrict, sliceRun, planRun}
+use Rattle.net.specs.Checker.{breaks, rule4, rule5, rule6, rule7, rule8, lacksInput, sameArcs}
+use Rattle.net.proofs.Numbers.{by-cases, by-order, holds, is-true, is-false, fails, not-not, and-left, and-right, any-finds}
+use Rattle.net.proofs.Weights.{run-restrict}
+use Rattle.net.proofs.Verdict.{same-arcs-refl}
+use Rattle.file.specs.Layout.{arcAt, arcsFrom, netFrom, sliceFrom}
+use Rattle.file.specs.declared.Header.{Header}
+use Rattle.check_fast.specs.Pass.{Fine, Passed, Agreed}
+
+-- ---- a weight comes from an arc
+
+pub record Found (s : List ℕ) (start n d p t : ℕ) : Type 0 where
+  pub index : ℕ
+  pub inside : index < n
+  pub of-transition : arcAt s (start + 8 * index) .transition ≡ t
+  pub of-direction : arcAt s (start + 8 * index) .direction ≡ d
+  pub of-place : arcAt s (start + 8 * index) .place ≡ p
+
+found : (d p t : ℕ) (s : List ℕ) (start n : ℕ) → 0 < weightOn d p t (arcsFrom s start n) → Found s start n d p t
+unfolding weightOn arcsFrom
+found d p t s start zero h = absurd (omega arith)
+found d p t s start (suc n) h =
+    by-cases (joins d p t (arcAt s start))
+    (λ e.
+    let a = arcAt s start in
+    let z : start + 8 * 0 ≡ start = omega arith in
+    let one = and-left (eqb (a .transition) t && eqb (a .direction) d) (eqb (a .place) p) (holds _ e) in
+    record {
+      index = 0;
+      inside = omega arith;
+      of-transition = ap (λ (k : ℕ). arcAt s k .transition) z ∙ eqb→eq _ _ (and-left (eqb (a .transition) t) (eqb (a .direction) d) one);
+      of-direction = ap (λ (k : ℕ). arcAt s k .direction) z ∙ eqb→eq _ _ (and-right (eqb (a .transition) t) (eqb (a .direction) d) one);
+      of-place = ap (λ (k : ℕ). arcAt s k .place) z ∙ eqb→eq _ _ (and-right (eqb (a .transition) t && eqb (a .direction) d) (eqb (a .place) p) (holds _ e));
+    })
+    (λ e.
+    let w : counted (joins d p t (arcAt s start)) (arcAt s start .weight) ≡ 0 = ap (λ (b : Bool). counted b (arcAt s start .weight)) e in
+    let f = found d p t s (start + 8) n (omega arith) in
+    let z : start + 8 * suc (f .index) ≡ start + 8 + 8 * f .index = omega arith in
+    record {
+      index = suc (f .index);
+      inside = omega (arith, f .inside);
+      of-transition = ap (λ (k : ℕ). arcAt s k .transition) z ∙ f .of-transition;
+      of-direction = ap (λ (k : ℕ). arcAt s k .direction) z ∙ f .of-direction;
+      of-place = ap (λ (k : ℕ). arcAt s k .place) z ∙ f .of-place;
+    })
+
+-- ---- the rules
+
+module _ (plan : List ℕ) (hp : Header) (slice : List ℕ) (hs : Header) (Q : List ℕ) (x : Passed plan hp slice hs Q) where
+  fourth : (t : ℕ) → breaks (rule4 (netFrom plan hp) (sliceFrom slice hs)) t ≡ false
+  unfolding breaks rule4 sliceRun planRun
+  fourth t =
+      let ts = sliceFrom slice hs .transitionOrigins in
+      let ps = sliceFrom slice hs .placeOrigins in
+      by-cases (among t ts)
+      (λ e.
+      let same : arcsOf (position t ts) (netFrom slice hs .arcs) ≡ restrict ps ts (arcsOf t (netFrom plan hp .arcs)) = ap (arcsOf (position t ts)) (x .same) ∙ run-restrict ps ts t (holds _ e) (netFrom plan hp .arcs) in
+      let run = restrict ps ts (arcsOf t (netFrom plan hp .arcs)) in
+      rw (e, same, is-true (sameArcs run run) (same-arcs-refl run)))
+      (λ e. rw e)
+
+  -- an arc that a weight comes from is fine
+  module _ (d p t : ℕ) (w : 0 < weightOn d p t (arcsFrom plan (hp .arcstart) (hp .arcs))) where
+    where-found : Found plan (hp .arcstart) (hp .arcs) d p t
+    where-found = found d p t plan (hp .arcstart) (hp .arcs) w
+
+    arc-there : Fine (netFrom plan hp) (sliceFrom slice hs .placeOrigins) (sliceFrom slice hs .transitionOrigins) Q (arcAt plan (hp .arcstart + 8 * where-found .index))
+    arc-there = x .fine (where-found .index) (where-found .inside)
+
+    fed : d ≡ 0 → among t (sliceFrom slice hs .transitionOrigins) ≡ true → among p (sliceFrom slice hs .placeOrigins) ≡ true
+    fed z e =
+        ap (λ (q : ℕ). among q (sliceFrom slice hs .placeOrigins)) (sym (where-found .of-place))
+        ∙ arc-there .fed (ap (λ (u : ℕ). among u (sliceFrom slice hs .transitionOrigins)) (where-found .of-transition) ∙ e) (where-found .of-direction ∙ z)
+
+    unchanged : among t (sliceFrom slice hs .transitionOrigins) ≡ false → among p Q ≡ true → changes (netFrom plan hp) t p ≡ false
+    unchanged e q =
+        ap (λ (u : ℕ). changes (netFrom plan hp) u p) (sym (where-found .of-transition))
+        ∙ ap (changes (netFrom plan hp) _) (sym (where-found .of-place))
+        ∙ arc-there .unchanged (ap (λ (u : ℕ). among u (sliceFrom slice hs .transitionOrigins)) (where-found .of-transition) ∙ e) (ap (λ (u : ℕ). among u Q) (where-found .of-place) ∙ q)
+
+    unraised : d ≡ 1 → among t (sliceFrom slice hs .transitionOrigins) ≡ false → among p (sliceFrom slice hs .placeOrigins) ≡ true → raises (netFrom plan hp) t p ≡ false
+    unraised z e q =
+        ap (λ (u : ℕ). raises (netFrom plan hp) u p) (sym (where-found .of-transition))
+        ∙ ap (raises (netFrom plan hp) _) (sym (where-found .of-place))
+        ∙ arc-there .unraised (ap (λ (u : ℕ). among u (sliceFrom slice hs .transitionOrigins)) (where-found .of-transition) ∙ e) (ap (λ (u : ℕ). among u (sliceFrom slice hs .placeOrigins)) (where-found .of-place) ∙ q) (where-found .of-direction ∙ z)
+
+  no-change : (t p : ℕ) → among t (sliceFrom slice hs .transitionOrigins) ≡ false → among p Q ≡ true → changes (netFrom plan hp) t p ≡ false
+  unfolding changes input output
+  no-change t p e q =
+      by-order (weightOn 0 p t (arcsFrom plan (hp .arcstart) (hp .arcs))) (weightOn 1 p t (arcsFrom plan (hp .arcstart) (hp .arcs)))
+      (λ l. unchanged 1 p t (omega arith) e q)
+      (λ l. rw (eq-eqb _ _ l))
+      (λ l. unchanged 0 p t (omega arith) e q)
+
+  sixth : (t : ℕ) → breaks (rule6 (netFrom plan hp) (sliceFrom slice hs) Q) t ≡ false
+  unfolding breaks rule6
+  sixth t =
+      let ts = sliceFrom slice hs .transitionOrigins in
+      is-false _ (λ b.
+      let f = any-finds (changes (netFrom plan hp) t) Q (and-left (any (changes (netFrom plan hp) t) Q) (not (among t ts)) b) in
+      let out = is-false _ (T-not (among t ts) (and-right (any (changes (netFrom plan hp) t) Q) (not (among t ts)) b)) in
+      fails _ (no-change t (f .0) out (is-true _ (f .1))) (f .2))
+
+  seventh : (t : ℕ) → breaks (rule7 (netFrom plan hp) (sliceFrom slice hs)) t ≡ false
+  unfolding breaks rule7 lacksInput takesFrom input
+  seventh t =
+      let N = netFrom plan hp in
+      let ps = sliceFrom slice hs .placeOrigins in
+      let ts = sliceFrom slice hs .transitionOrigins in
+      let lacks = any (λ p. takesFrom N t p && not (among p ps)) (selected (λ p. true) 0 (hp .places)) in
+      is-false _ (λ b.
+      let kept = is-true _ (and-left (among t ts) (not (not lacks)) b) in
+      let f = any-finds (λ p. takesFrom N t p && not (among p ps)) (selected (λ p. true) 0 (hp .places)) (not-not lacks (λ n. T-not (not lacks) (and-right (among t ts) (not (not lacks)) b) n)) in
+      let takes = ltb→lt 0 (weightOn 0 (f .0) t (N .arcs)) (and-left (takesFrom N t (f .0)) (not (among (f .0) ps)) (f .2)) in
+      T-not (among (f .0) ps) (and-right (takesFrom N t (f .0)) (not (among (f .0) ps)) (f .2)) (holds _ (fed 0 (f .0) t takes refl kept)))
+
+  eighth : (t : ℕ) → breaks (rule8 (netFrom plan hp) (sliceFrom slice hs)) t ≡ false
+  unfolding breaks rule8 raises input output
+  eighth t =
+      let N = netFrom plan hp in
+      let ps = sliceFrom slice hs .placeOrigins in
+      let ts = sliceFrom slice hs .transitionOrigins in
+      is-false _ (λ b.
+      let f = any-finds (raises N t) ps (and-left (any (raises N t) ps) (not (among t ts)) b) in
+      let out = is-false _ (T-not (among t ts) (and-right (any (raises N t) ps) (not (among t ts)) b)) in
+      let more = ltb→lt (weightOn 0 (f .0) t (N .arcs)) (weightOn 1 (f .0) t (N .arcs)) (f .2) in
+      fails _ (unraised 1 (f .0) t (omega arith) refl out (is-true _ (f .1))) (f .2))
+
+  module _ (kept : (q : ℕ) → among q Q ≡ true → among q (sliceFrom slice hs .placeOrigins) ≡ true) where
+    fifth : (p : ℕ) → breaks (rule5 (netFrom plan hp) (sliceFrom slice hs) Q) p ≡ false
+    unfolding breaks rule5
+    fifth p = by-cases (among p Q) (λ e. rw (e, kept p e)) (λ e. rw e)
+
+    pub agreed : Agreed (netFrom plan hp) (sliceFrom slice hs) Q
+    agreed = record {
+      fourth = record { at = λ n l. fourth n };
+      fifth = record { at = λ n l. fifth n };
+      sixth = record { at = λ n l. sixth n };
+      seventh = record { at = λ n l. seventh n };
+      eighth = record { at = λ n l. eighth n };
+    }

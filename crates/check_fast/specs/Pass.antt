@@ -1,0 +1,93 @@
+-- One pass over the plan's arcs, against the slice's. Assumes nothing.
+use Prim.Native.Nat.{ℕ, _+_, _-_, _*_, _/_, _%_, _≤_, _<_}
+use mathlib.Core.Bool.{Bool, true, false, _||_, _&&_, not}
+use mathlib.Core.List.{List}
+use mathlib.Core.Path.{_≡_}
+use lib.Dec.{eqb, ltb, leb}
+use lib.ListN.{length, getD}
+use Rattle.net.specs.Numbers.{among}
+use Rattle.net.specs.Net.{Net, changes, raises}
+use Rattle.net.specs.Slice.{Slice, restrict}
+use Rattle.net.specs.Checker.{Rule, breaks, rule4, rule5, rule6, rule7, rule8}
+use Rattle.net.specs.declared.Arc.{Arc}
+use Rattle.file.specs.Layout.{arcAt, arcsFrom, netFrom, sliceFrom}
+use Rattle.file.specs.Facts.{Sound, arcOf}
+use Rattle.file.specs.declared.Header.{Header}
+use Rattle.check_fast.specs.Entries.{leftPlace, leftTransition, numbered, marked, Reached}
+
+-- a plan, a slice and the tables for them
+pub record Ready (plan : List ℕ) (hp : Header) (slice : List ℕ) (hs : Header) (Q places transitions : List ℕ) : Type 0 where
+  pub planned : Sound plan hp
+  pub sliced : Sound slice hs
+  pub kind : hs .kind ≡ 1
+  pub placesReached : hp .places ≤ length places
+  pub transitionsReached : hp .transitions ≤ length transitions
+  pub place-entry : (x : ℕ) → x < hp .places → getD places x 0 ≡ marked Q (numbered 4294967296 (sliceFrom slice hs .placeOrigins) leftPlace x) x
+  pub transition-entry : (x : ℕ) → x < hp .transitions → getD transitions x 0 ≡ numbered 1 (sliceFrom slice hs .transitionOrigins) leftTransition x
+  pub criterion : (q : ℕ) → among q Q ≡ true → among q (sliceFrom slice hs .placeOrigins) ≡ true
+
+-- an arc's number with the entries of its place and its transition
+abbrev pub joinedOf : ℕ → List ℕ → List ℕ → ℕ
+joinedOf w places transitions = w + getD places (arcOf w .place) 0 + getD transitions (arcOf w .transition) 0
+
+-- both ends of the arc are kept
+abbrev pub keptOf : ℕ → Bool
+keptOf z = ltb (z % 4294967296) 262144
+
+-- the arc wants a closer look
+abbrev pub oddOf : ℕ → Bool
+oddOf z = eqb (z / 524288 % 2) 1 || not (eqb (z / 16777216 % 256) 0)
+
+-- every bit is 0 but those of 1024 in both own numbers and the criterion's mark
+abbrev pub quietOf : ℕ → Bool
+quietOf d = eqb (d % 1024) 0 && eqb (d / 2048 % 64) 0 && eqb (d / 262144 % 16777216) 0 && eqb (d / 8796093022208) 0
+
+-- the arc breaks none of the rules 6 to 8
+pub record Fine (N : Net) (ps ts Q : List ℕ) (a : Arc) : Type 0 where
+  pub fed : among (a .transition) ts ≡ true → a .direction ≡ 0 → among (a .place) ps ≡ true
+  pub unchanged : among (a .transition) ts ≡ false → among (a .place) Q ≡ true → changes N (a .transition) (a .place) ≡ false
+  pub unraised : among (a .transition) ts ≡ false → among (a .place) ps ≡ true → a .direction ≡ 1 → raises N (a .transition) (a .place) ≡ false
+
+-- such an arc, not between what is kept
+pub record Settled (plan : List ℕ) (hp : Header) (slice : List ℕ) (hs : Header) (Q : List ℕ) (a : Arc) : Type 0 where
+  pub fine : Fine (netFrom plan hp) (sliceFrom slice hs .placeOrigins) (sliceFrom slice hs .transitionOrigins) Q a
+  pub out : (among (a .place) (sliceFrom slice hs .placeOrigins) && among (a .transition) (sliceFrom slice hs .transitionOrigins)) ≡ false
+
+-- the slice's arcs are "every plan arc between" what is kept
+abbrev pub Same : List ℕ → Header → List ℕ → Header → Type 0
+Same plan hp slice hs = netFrom slice hs .arcs ≡ restrict (sliceFrom slice hs .placeOrigins) (sliceFrom slice hs .transitionOrigins) (netFrom plan hp .arcs)
+
+-- j of the plan's arcs and k of the slice's are gone through; where nothing differs, the rest decides
+pub record Walked (plan : List ℕ) (hp : Header) (slice : List ℕ) (hs : Header) (Q : List ℕ) (j k differs : ℕ) : Type 0 where
+  pub within : j ≤ hp .arcs
+  pub behind : k ≤ j
+  pub fine : (i : ℕ) → i < j → Fine (netFrom plan hp) (sliceFrom slice hs .placeOrigins) (sliceFrom slice hs .transitionOrigins) Q (arcAt plan (hp .arcstart + 8 * i))
+  pub same : k ≤ hs .arcs → quietOf differs ≡ true
+      → arcsFrom slice (hs .arcstart + 8 * k) (hs .arcs - k) ≡ restrict (sliceFrom slice hs .placeOrigins) (sliceFrom slice hs .transitionOrigins) (arcsFrom plan (hp .arcstart + 8 * j) (hp .arcs - j))
+      → Same plan hp slice hs
+
+-- all arcs are gone through
+pub record Passed (plan : List ℕ) (hp : Header) (slice : List ℕ) (hs : Header) (Q : List ℕ) : Type 0 where
+  pub same : Same plan hp slice hs
+  pub fine : (i : ℕ) → i < hp .arcs → Fine (netFrom plan hp) (sliceFrom slice hs .placeOrigins) (sliceFrom slice hs .transitionOrigins) Q (arcAt plan (hp .arcstart + 8 * i))
+
+-- tables that tell each place and transition of the plan as left out
+pub record Blank (hp : Header) (S : Slice) (places transitions : List ℕ) : Type 0 where
+  pub placesReached : hp .places ≤ length places
+  pub transitionsReached : hp .transitions ≤ length transitions
+  pub origins : Reached (S .placeOrigins) (length places)
+  pub transition-origins : Reached (S .transitionOrigins) (length transitions)
+  pub place-entry : (x : ℕ) → x < length places → getD places x 0 ≡ leftPlace
+  pub transition-entry : (x : ℕ) → x < length transitions → getD transitions x 0 ≡ leftTransition
+
+-- no number breaks the rule
+pub record Unbroken (R : Rule) : Type 0 where
+  pub at : (n : ℕ) → n < R .range → breaks R n ≡ false
+
+-- the rules 4 to 8 hold
+pub record Agreed (N : Net) (S : Slice) (Q : List ℕ) : Type 0 where
+  pub fourth : Unbroken (rule4 N S)
+  pub fifth : Unbroken (rule5 N S Q)
+  pub sixth : Unbroken (rule6 N S Q)
+  pub seventh : Unbroken (rule7 N S)
+  pub eighth : Unbroken (rule8 N S)

@@ -1,0 +1,301 @@
+// Are the rules 4 to 8 certainly kept? One pass over the plan's arcs, with no branch on what is kept.
+//
+// An arc's number has the transition in bits 0 to 15, the direction in bit 16, zeros up to 31, the place in 32 to 47 and
+// the weight in 48 to 63. Entries of two tables are added to it, for its place and its transition. They put their own
+// numbers, 1024 more each, in the place of the plan's, and beside the direction, in units of 2 ^ 16, these flags:
+// 2 for a place of the criterion, 15 for a place left out, 7 for a transition left out.
+// So both ends are kept where direction and flags come to less than 4, and bit 3 of them tells an arc to look at:
+// 15 is an input left out (rule 7); of a transition left out, 8 gives to a kept place (rule 8), and 9 and 10 are at a
+// place of the criterion (rule 6).
+ghost use mathlib.Core.Path.{_≡_};
+ghost use mathlib.Core.Bool.{true, _&&_};
+ghost use Prim.Native.Nat.{ℕ, _+_, _*_, _<_, _≤_};
+ghost use lib.ListN.{length, getD};
+ghost use lib.Bits.{bitXor};
+ghost use lib.IntN.{pos};
+ghost use lib.Signed.{leZ};
+ghost use Rattle.net.specs.Net.{counted};
+ghost use Rattle.file.specs.Facts.{Sound, arcOf};
+ghost use Rattle.file.specs.Layout.{arcAt, wordsFrom, netFrom, sliceFrom};
+ghost use Rattle.file.specs.Criterion.{criterionRefusal};
+ghost use Rattle.numbering.specs.Own.{Origins};
+ghost use Rattle.check_fast.specs.Entries.{leftPlace, Numbered, Marked, Reached};
+ghost use Rattle.check_fast.specs.Pass.{Ready, joinedOf, keptOf, oddOf, quietOf, Settled, Walked, Passed, Blank, Agreed};
+use file::Header;
+use file::arcs::arc_of;
+use file::arcs::word;
+use file::word::get16;
+
+// How far the arcs are gone through: the plan's, the slice's own, and the bits in which some differ.
+pub struct Walk {
+    pub arc: usize,
+    pub own: usize,
+    pub differs: usize,
+}
+
+// The entry of each origin: 1024 units, and what takes it to its own number.
+fn number(file: &[u8], start: usize, count: usize, unit: usize, table: &mut [usize])
+    requires { ⌜ Origins (now file) start count ⌝ }
+    requires { ⌜ Reached (wordsFrom (now file) start count) (length (now table)) ⌝ }
+    requires { ⌜ unit ≤ 4294967296 ⌝ }
+    ensures { λ _. ⌜ Numbered unit (wordsFrom (now (file .entry)) start count) (now (table .entry)) (now (table .exit)) ⌝ }
+{
+    let mut i: usize = 0;
+    while i < count {
+        let origin = get16(file, start + 2 * i);
+        table[origin] = unit * (1024 + i - origin);
+        i += 1;
+    }
+}
+
+fn wide(x: u16) -> usize
+    ensures { λ r. ⌜ (r ≡ x) × (r < 65536) ⌝ }
+{
+    x as usize
+}
+
+// Is no place of the criterion left out?
+fn all_kept(criterion: &[u16], places: &[usize]) -> bool
+    requires { ⌜ Reached (now criterion) (length (now places)) ⌝ }
+    ensures { λ r. ⌜ (r ≡ true → (i : ℕ) → i < length (now (criterion .entry)) → getD (now (places .entry)) (getD (now (criterion .entry)) i 0) 0 ≡ leftPlace → ⊥) ⌝ }
+{
+    let mut i: usize = 0;
+    while i < criterion.len() {
+        let q = wide(criterion[i]);
+        if places[q] == 4398047494144 {
+            return false;
+        }
+        i += 1;
+    }
+    true
+}
+
+// Marks the criterion's places.
+fn mark(criterion: &[u16], places: &mut [usize])
+    requires { ⌜ Reached (now criterion) (length (now places)) ⌝ }
+    ensures { λ _. ⌜ Marked (now (criterion .entry)) (now (places .entry)) (now (places .exit)) ⌝ }
+{
+    let mut i: usize = 0;
+    while i < criterion.len() {
+        let q = wide(criterion[i]);
+        places[q] = places[q] / 262144 * 262144 + 131072;
+        i += 1;
+    }
+}
+
+// The arc with the entries of its place and its transition added.
+fn joined(w: usize, places: &[usize], transitions: &[usize]) -> usize
+    requires { ⌜ (arcOf w .place < length (now places)) × (arcOf w .transition < length (now transitions)) ⌝ }
+    requires { ⌜ joinedOf w (now places) (now transitions) < 18446744073709551616 ⌝ }
+    ensures { λ r. ⌜ r ≡ joinedOf w (now (places .entry)) (now (transitions .entry)) ⌝ }
+{
+    let p = w / 4294967296 % 65536;
+    let t = w % 65536;
+    w + places[p] + transitions[t]
+}
+
+// Are both ends of the arc kept?
+fn kept(z: usize) -> bool
+    ensures { λ r. ⌜ r ≡ keptOf z ⌝ }
+{
+    z % 4294967296 < 262144
+}
+
+// Does the arc want a closer look?
+fn odd(z: usize) -> bool
+    ensures { λ r. ⌜ r ≡ oddOf z ⌝ }
+{
+    (z / 524288 % 2 == 1) | (z / 16777216 % 256 != 0)
+}
+
+// Is every bit 0 but those of 1024 in both own numbers and the criterion's mark?
+fn quiet(d: usize) -> bool
+    ensures { λ r. ⌜ r ≡ quietOf d ⌝ }
+{
+    (d % 1024 == 0) & (d / 2048 % 64 == 0) & (d / 262144 % 16777216 == 0) & (d / 8796093022208 == 0)
+}
+
+// n where ok, else 0.
+fn chosen(ok: bool, n: usize) -> usize
+    ensures { λ r. ⌜ r ≡ counted ok n ⌝ }
+{
+    if ok { n } else { 0 }
+}
+
+// Quiet where the arc is not kept, or the slice's own arc is the one due.
+fn unlike(z: usize, own: usize) -> usize
+    ensures { λ r. ⌜ r ≡ counted (keptOf z) (bitXor z own) ⌝ }
+{
+    chosen(kept(z), z ^ own)
+}
+
+// 1 where the arc is kept, else 0.
+fn step(z: usize) -> usize
+    ensures { λ r. ⌜ r ≡ counted (keptOf z) 1 ⌝ }
+{
+    chosen(kept(z), 1)
+}
+
+// Is an effect not above 0?
+fn lowers(effect: i32) -> bool
+    ensures { λ r. ⌜ r ≡ leZ effect (pos 0) ⌝ }
+{
+    effect <= 0
+}
+
+// Is an effect 0?
+fn balances(effect: i32) -> bool
+    ensures { λ r. ⌜ r ≡ (leZ effect (pos 0) && leZ (pos 0) effect) ⌝ }
+{
+    (effect <= 0) & (0 <= effect)
+}
+
+// Does a transition left out leave the arc's place as the rules 6 and 8 ask? Only asked of an arc that wants a closer look.
+fn settled(
+    plan: &[u8],
+    hp: Header,
+    slice: &[u8],
+    hs: Header,
+    criterion: &[u16],
+    j: usize,
+    places: &[usize],
+    transitions: &[usize],
+) -> bool
+    requires { ⌜ Ready (now plan) hp (now slice) hs (now criterion) (now places) (now transitions) ⌝ }
+    requires { ⌜ j < hp .arcs ⌝ }
+    ensures { λ r. ⌜ (r ≡ true → Settled (now (plan .entry)) hp (now (slice .entry)) hs (now (criterion .entry)) (arcAt (now (plan .entry)) (hp .arcstart + 8 * j))) ⌝ }
+{
+    let w = word(plan, hp.arcstart + 8 * j);
+    let z = joined(w, places, transitions);
+    let a = arc_of(w);
+    let flags = z / 65536 % 65536;
+    if flags == 8 {
+        return lowers(arcs_effect::effect(plan, hp, a.place, a.transition));
+    }
+    if (flags == 9) | (flags == 10) {
+        return balances(arcs_effect::effect(plan, hp, a.place, a.transition));
+    }
+    false
+}
+
+// Goes on from there through the plan's arcs, up to one that wants a closer look.
+fn stretch(
+    plan: &[u8],
+    hp: Header,
+    slice: &[u8],
+    hs: Header,
+    criterion: &[u16],
+    places: &[usize],
+    transitions: &[usize],
+    from: Walk,
+) -> Walk
+    requires { ⌜ Ready (now plan) hp (now slice) hs (now criterion) (now places) (now transitions) ⌝ }
+    requires { ⌜ Walked (now plan) hp (now slice) hs (now criterion) (from .arc) (from .own) (from .differs) ⌝ }
+    ensures { λ r. ⌜ Walked (now (plan .entry)) hp (now (slice .entry)) hs (now (criterion .entry)) (r .arc) (r .own) (r .differs) ⌝ }
+{
+    let start = hp.arcstart;
+    let first = hs.arcstart;
+    let mut j = from.arc;
+    let mut k = from.own;
+    let mut differs = from.differs;
+    while j < hp.arcs {
+        if hs.arcs < k {
+            return Walk {
+                arc: j,
+                own: k,
+                differs,
+            };
+        }
+        let w = word(plan, start + 8 * j);
+        let z = joined(w, places, transitions);
+        if odd(z) {
+            return Walk {
+                arc: j,
+                own: k,
+                differs,
+            };
+        }
+        differs = differs | unlike(z, word(slice, first + 8 * k));
+        k += step(z);
+        j += 1;
+    }
+    Walk {
+        arc: j,
+        own: k,
+        differs,
+    }
+}
+
+// Do the plan's arcs break none of the rules 4, 6, 7 and 8? At most 16 of them get a closer look.
+fn pass(
+    plan: &[u8],
+    hp: Header,
+    slice: &[u8],
+    hs: Header,
+    criterion: &[u16],
+    places: &[usize],
+    transitions: &[usize],
+) -> bool
+    requires { ⌜ Ready (now plan) hp (now slice) hs (now criterion) (now places) (now transitions) ⌝ }
+    ensures { λ r. ⌜ (r ≡ true → Passed (now (plan .entry)) hp (now (slice .entry)) hs (now (criterion .entry))) ⌝ }
+{
+    let start = Walk {
+        arc: 0,
+        own: 0,
+        differs: 0,
+    };
+    let mut at = stretch(plan, hp, slice, hs, criterion, places, transitions, start);
+    let mut looks: usize = 16;
+    while at.arc < hp.arcs {
+        if looks == 0 {
+            return false;
+        }
+        if hs.arcs < at.own {
+            return false;
+        }
+        if !settled(plan, hp, slice, hs, criterion, at.arc, places, transitions) {
+            return false;
+        }
+        let from = Walk {
+            arc: at.arc + 1,
+            own: at.own,
+            differs: at.differs,
+        };
+        let next = stretch(plan, hp, slice, hs, criterion, places, transitions, from);
+        at = next;
+        looks -= 1;
+    }
+    quiet(at.differs) & (at.own == hs.arcs)
+}
+
+// Are the rules 4 to 8 certainly kept? The tables start with what stands for left out.
+pub fn agrees(
+    plan: &[u8],
+    hp: Header,
+    slice: &[u8],
+    hs: Header,
+    criterion: &[u16],
+    places: &mut [usize],
+    transitions: &mut [usize],
+) -> bool
+    requires { ⌜ Sound (now plan) hp ⌝ }
+    requires { ⌜ Sound (now slice) hs ⌝ }
+    requires { ⌜ hs .kind ≡ 1 ⌝ }
+    requires { ⌜ criterionRefusal (hp .places) (now criterion) ≡ 0 ⌝ }
+    requires { ⌜ Blank hp (sliceFrom (now slice) hs) (now places) (now transitions) ⌝ }
+    ensures { λ r. ⌜ (r ≡ true → Agreed (netFrom (now (plan .entry)) hp) (sliceFrom (now (slice .entry)) hs) (now (criterion .entry))) ⌝ }
+{
+    number(slice, hs.originstart, hs.places, 4294967296, places);
+    number(
+        slice,
+        hs.originstart + 2 * hs.places,
+        hs.transitions,
+        1,
+        transitions,
+    );
+    if !all_kept(criterion, places) {
+        return false;
+    }
+    mark(criterion, places);
+    pass(plan, hp, slice, hs, criterion, places, transitions)
+}

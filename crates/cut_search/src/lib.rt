@@ -1,0 +1,133 @@
+// A step of the search for a cut: the lowest pending place is gone through.
+ghost use mathlib.Core.Path.{_≡_};
+ghost use Prim.Native.Nat.{ℕ, _*_, _≤_, _<_};
+ghost use lib.ListN.{length};
+ghost use Rattle.net.specs.Net.{takesFrom};
+ghost use Rattle.file.specs.Layout.{netFrom};
+ghost use Rattle.file.specs.Facts.{Sound};
+ghost use Rattle.arcs_starts.specs.Table.{Split};
+ghost use Rattle.sets_pending.specs.Growing.{PlacesKept};
+ghost use Rattle.arcs_column.specs.Ways.{transitionAt};
+ghost use Rattle.cut_rows.specs.Rows.{Last, Rows};
+ghost use Rattle.cut_search.specs.Search.{Sets, TransitionKept, Nexts, Row, Followed, Turned, Ready, Stepped};
+use file::Header;
+use sets::Found;
+
+// Keeps the input places of the transition t, whose arcs start with arc `from`.
+fn keep_inputs(
+    file: &[u8],
+    h: Header,
+    from: usize,
+    t: usize,
+    marks: u64,
+    places: &mut [u64; 16],
+) -> u64
+    requires { ⌜ Sound (now file) h × (t < h .transitions) × Split (now file) (h .arcstart) (h .arcs) (2 * t) from × (length (now places) ≡ 16) ⌝ }
+    ensures { λ r. ⌜ PlacesKept (takesFrom (netFrom (now (file .entry)) h) t) marks (r) (now (places .entry)) (now (places .exit)) ⌝ }
+{
+    let start = h.arcstart;
+    let arcs = h.arcs;
+    let mut m = marks;
+    let mut j = from;
+    while j < arcs {
+        let a = file::arcs::arc(file, start + 8 * j);
+        if a.transition + a.direction * 65536 != t {
+            return m;
+        }
+        m = sets_pending::keep(places, m, a.place);
+        j += 1;
+    }
+    m
+}
+
+// Keeps the transition whose arcs start with arc `from`, and if it is new its input places.
+fn keep_transition(
+    file: &[u8],
+    h: Header,
+    from: usize,
+    marks: u64,
+    places: &mut [u64; 16],
+    transitions: &mut [u64; 16],
+) -> u64
+    requires { ⌜ Sound (now file) h × (from < h .arcs) × Split (now file) (h .arcstart) (h .arcs) (2 * transitionAt (now file) (h .arcstart) from) from ⌝ }
+    requires { ⌜ Sets (now places) (now transitions) ⌝ }
+    ensures { λ r. ⌜ TransitionKept (takesFrom (netFrom (now (file .entry)) h) (transitionAt (now (file .entry)) (h .arcstart) from)) (transitionAt (now (file .entry)) (h .arcstart) from) marks (r) (now (places .entry)) (now (transitions .entry)) (now (places .exit)) (now (transitions .exit)) ⌝ }
+{
+    let a = file::arcs::arc(file, h.arcstart + 8 * from);
+    let t = a.transition;
+    if sets::contains(transitions, t) {
+        return marks;
+    }
+    sets_pending::insert(transitions, t);
+    keep_inputs(file, h, from, t, marks, places)
+}
+
+// Keeps every transition of the row.
+fn follow(
+    file: &[u8],
+    h: Header,
+    next: &[u32],
+    row: u32,
+    marks: u64,
+    places: &mut [u64; 16],
+    transitions: &mut [u64; 16],
+) -> u64
+    requires { ⌜ Sound (now file) h × Nexts (now file) h (now next) × Row (now file) h row × Sets (now places) (now transitions) ⌝ }
+    ensures { λ r. ⌜ ((d p : ℕ) → d ≤ 1 → Last (now (file .entry)) h (h .arcs) d p row → Followed (now (file .entry)) h d p marks (r) (now (places .entry)) (now (transitions .entry)) (now (places .exit)) (now (transitions .exit))) ⌝ }
+{
+    let mut m = marks;
+    let mut e = row as usize;
+    while e != 0 {
+        m = keep_transition(file, h, e / 65536 - 1, m, places, transitions);
+        e = next[e % 65536 - 1] as usize;
+    }
+    m
+}
+
+// Goes through the place p: keeps every transition that it draws in.
+fn turn(
+    file: &[u8],
+    h: Header,
+    all: bool,
+    both: &[u64; 16],
+    head: &[u32],
+    next: &[u32],
+    p: usize,
+    marks: u64,
+    places: &mut [u64; 16],
+    transitions: &mut [u64; 16],
+) -> u64
+    requires { ⌜ Sound (now file) h × Rows (now file) h (now head) (now next) × (p < h .places) × Sets (now places) (now transitions) ⌝ }
+    ensures { λ r. ⌜ Turned (now (file .entry)) h all (now (both .entry)) p marks (r) (now (places .entry)) (now (transitions .entry)) (now (places .exit)) (now (transitions .exit)) ⌝ }
+{
+    let mut m = marks;
+    if all | sets::contains(both, p) {
+        m = follow(file, h, next, head[2 * p], m, places, transitions);
+    }
+    follow(file, h, next, head[2 * p + 1], m, places, transitions)
+}
+
+// Takes the lowest pending place, and goes through it. Answers the marks then: 0 where no place was pending.
+pub fn step(
+    file: &[u8],
+    h: Header,
+    all: bool,
+    both: &[u64; 16],
+    head: &[u32],
+    next: &[u32],
+    gone: &mut [u64; 16],
+    marks: u64,
+    places: &mut [u64; 16],
+    transitions: &mut [u64; 16],
+) -> u64
+    requires { ⌜ (Sound (now file) h × Rows (now file) h (now head) (now next)) × Ready h marks (now places) (now transitions) (now gone) ⌝ }
+    ensures { λ r. ⌜ Stepped (now (file .entry)) h all (now (both .entry)) (r) (now (places .entry)) (now (transitions .entry)) (now (gone .entry)) (now (places .exit)) (now (transitions .exit)) (now (gone .exit)) ⌝ }
+{
+    let mut m = marks;
+    let lowest = sets_pending::lowest(places, gone, &mut m);
+    let Found::At(p) = lowest else {
+        return 0;
+    };
+    sets_pending::insert(gone, p);
+    turn(file, h, all, both, head, next, p, m, places, transitions)
+}

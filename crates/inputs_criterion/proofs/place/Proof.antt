@@ -1,0 +1,30 @@
+use Rattle.file.specs.Word.{le16}
+use borrow.Author.Needs.{needs}
+use Rattle.inputs_criterion.proofs.place.Statement.{statement}
+use Rattle.inputs_criterion.proofs.place.Tie as tie
+use Rattle.inputs_criterion.proofs.place.Reads as reads
+use Rattle.inputs_criterion.proofs.place.Lts as lts
+use Rattle.file.proofs.word.get8.Reads as get8-reads
+
+get8-requires : tie.Need-get8-requires
+get8-requires c κs = search needs
+
+add-get8 : tie.Need-add-get8
+add-get8 c = search needs
+
+get8-requires-2 : tie.Need-get8-requires-2
+get8-requires-2 c κs = search needs
+
+mul-result : tie.Need-mul-result
+mul-result c = search needs
+
+add-result : tie.Need-add-result
+add-result c = search needs
+
+returns : tie.Need-returns
+unfolding le16
+returns c = search needs
+
+pub place-spec : {M : Type 1} → statement M
+place-spec =
+    tie.close (tie.spec get8-requires add-get8 get8-requires-2 mul-result add-result returns)

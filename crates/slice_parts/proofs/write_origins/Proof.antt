@@ -1,0 +1,85 @@
+use borrow.Author.Needs.{needs}
+use Prim.Native.Nat.{_+_, _-_, _*_, _≤_}
+use mathlib.Core.Path.{_≡_}
+use native.Mathlib.Omega.{arith}
+use lib.ListN.{length, getD, drop}
+use Rattle.file.specs.Word.{bytes16}
+use Rattle.file.specs.Writing.{originsBytes}
+use Rattle.file.proofs.Bytes.{length-16}
+use Rattle.slice_put.proofs.Storing.{Storing, storing-all, storing-as, storing-from, storing-part, storing-none}
+use Rattle.slice_parts.proofs.Steps.{origins-next, origins-end}
+use Rattle.slice_parts.proofs.write_origins.Statement.{statement}
+use Rattle.slice_parts.proofs.write_origins.Tie as tie
+
+abbrev Inv-loop : tie.InvT-loop
+Inv-loop list start buffer₀ i₀ buffer i =
+    (i ≤ length list) × Storing buffer₀ start (originsBytes list) buffer (start + 2 * i) (originsBytes (drop i list))
+
+abbrev μ-loop : tie.MeasureT-loop
+μ-loop list start buffer₀ i₀ buffer i = length list - i
+
+loop-holds : tie.Need-loop-holds Inv-loop μ-loop
+loop-holds c = (search needs, storing-from (let e : c .before .before .args .start ≡ c .before .before .args .start + 2 * 0 = omega arith in e) (storing-all _ _ _))
+
+mul-put16 : tie.Need-mul-put16 Inv-loop μ-loop
+mul-put16 c = search needs
+
+add-put16 : tie.Need-add-put16 Inv-loop μ-loop
+add-put16 c = search needs
+
+mul-put16-2 : tie.Need-mul-put16-2 Inv-loop μ-loop
+mul-put16-2 c = search needs
+
+shared-slice-read-put16 : tie.Need-shared-slice-read-put16 Inv-loop μ-loop
+shared-slice-read-put16 c = search needs
+
+cast-put16 : tie.Need-cast-put16 Inv-loop μ-loop
+cast-put16 c = omega (arith, c .shared-slice-known2 .given (c .before .before .before .loop .i))
+
+put16-requires : tie.Need-put16-requires Inv-loop μ-loop
+put16-requires c κs = omega (arith, c .before .before .before .before .before .before .pre, c .before .before .loop-test .taken, c .before .before .before .loop .inv .1 .long)
+
+add-i : tie.Need-add-i Inv-loop μ-loop
+add-i c = search needs
+
+loop-less : tie.Need-loop-less Inv-loop μ-loop
+loop-less c = search needs
+
+loop-again : tie.Need-loop-again Inv-loop μ-loop
+loop-again c =
+    let start = c .before .before .before .before .before .before .before .before .before in
+    let at = c .before .before .before .before .before .before .loop in
+    let call = c .before .before .put16 in
+    let o = getD (start .args .list .now) (at .i) 0 in
+    let next = origins-next (start .args .list .now) (at .i) (c .before .before .before .before .before .loop-test .taken) in (
+      omega arith,
+      storing-part (bytes16 o) _ _ _ (storing-as (at .inv .1) next) (call .ensures) (omega (arith, length-16 o)),
+    )
+
+same-length : tie.Need-same-length Inv-loop μ-loop
+same-length c = c .before .loop .inv .1 .long
+
+returns : tie.Need-returns Inv-loop μ-loop
+returns c =
+    let start = c .before .before .before .before in
+    let at = c .before .loop in
+    storing-none (storing-as (at .inv .1) (origins-end (start .args .list .now) (at .i) (omega (arith, at .inv .0, c .loop-test .left))))
+
+pub write-origins-spec : {M : Type 1} → statement M
+write-origins-spec =
+    tie.close
+    (tie.spec
+    Inv-loop
+    μ-loop
+    loop-holds
+    mul-put16
+    add-put16
+    mul-put16-2
+    shared-slice-read-put16
+    cast-put16
+    put16-requires
+    add-i
+    loop-less
+    loop-again
+    same-length
+    returns)

@@ -1,0 +1,84 @@
+use borrow.Author.Needs.{needs}
+use Prim.Native.Nat.{_+_}
+use mathlib.Core.List.{_++_}
+use native.Mathlib.Omega.{arith}
+use Rattle.file.specs.Word.{bytes16, bytes32}
+use Rattle.slice_parts.specs.Trailer.{trailerFor}
+use Rattle.slice_put.proofs.Sets.{sets-after}
+use Rattle.slice_parts.proofs.write_trailer.Statement.{statement}
+use Rattle.slice_parts.proofs.write_trailer.Tie as tie
+
+put32-requires : tie.Need-put32-requires
+put32-requires c κs = search needs
+
+add-put16 : tie.Need-add-put16
+add-put16 c = search needs
+
+put16-requires : tie.Need-put16-requires
+put16-requires c κs = search needs
+
+add-put16-2 : tie.Need-add-put16-2
+add-put16-2 c = search needs
+
+put16-requires-2 : tie.Need-put16-requires-2
+put16-requires-2 c κs = search needs
+
+add-put16-3 : tie.Need-add-put16-3
+add-put16-3 c = search needs
+
+put16-requires-3 : tie.Need-put16-requires-3
+put16-requires-3 c κs = search needs
+
+add-put16-4 : tie.Need-add-put16-4
+add-put16-4 c = search needs
+
+put16-requires-4 : tie.Need-put16-requires-4
+put16-requires-4 c κs = search needs
+
+add-put32 : tie.Need-add-put32
+add-put32 c = search needs
+
+put32-requires-2 : tie.Need-put32-requires-2
+put32-requires-2 c κs = search needs
+
+same-length : tie.Need-same-length
+same-length c = search needs
+
+returns : tie.Need-returns
+unfolding trailerFor bytes32 bytes16
+returns c =
+    let start = c .before .before .before .before .before .before .before .before .before .before .before .before .before .before .before .before .before .before .before .before .before .before .before .before .before in
+    let s = start .args .buffer .now in
+    let b = start .args .body in
+    let B = bytes32 b in
+    let P = bytes16 (start .args .places) in
+    let T = bytes16 (start .args .transitions) in
+    let A = bytes16 (start .args .arcs) in
+    let K = bytes16 257 in
+    sets-after (B ++ P ++ T ++ A ++ K) (bytes32 0x4C4C4542) s b (b + 12)
+    (sets-after (B ++ P ++ T ++ A) K s b (b + 10)
+    (sets-after (B ++ P ++ T) A s b (b + 8)
+    (sets-after (B ++ P) T s b (b + 6)
+    (sets-after B P s b (b + 4) (c .before .before .before .before .before .before .before .before .before .before .before .before .before .before .before .before .before .before .before .before .before .before .put32 .ensures) (c .before .before .before .before .before .before .before .before .before .before .before .before .before .before .before .before .before .before .put16 .ensures) (omega arith))
+    (c .before .before .before .before .before .before .before .before .before .before .before .before .before .before .put162 .ensures) (omega arith))
+    (c .before .before .before .before .before .before .before .before .before .before .put163 .ensures) (omega arith))
+    (c .before .before .before .before .before .before .put164 .ensures) (omega arith))
+    (c .before .before .put322 .ensures) (omega arith)
+
+pub write-trailer-spec : {M : Type 1} → statement M
+write-trailer-spec =
+    tie.close
+    (tie.spec
+    put32-requires
+    add-put16
+    put16-requires
+    add-put16-2
+    put16-requires-2
+    add-put16-3
+    put16-requires-3
+    add-put16-4
+    put16-requires-4
+    add-put32
+    put32-requires-2
+    same-length
+    returns)
