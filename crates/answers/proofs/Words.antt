@@ -1,4 +1,4 @@
--- Two byte strings are the same, or are not. Assumes nothing.
+-- Two byte strings are the same, or are not.
 use Prim.Native.Nat.{ℕ}
 use mathlib.Core.Path.{_≡_, refl, sym, ap, _∙_}
 use mathlib.Core.Bool.{Bool, true, false, _&&_}

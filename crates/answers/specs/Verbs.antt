@@ -1,4 +1,4 @@
--- The verbs by name and number, how many words each takes, and where its numbers start. Assumes nothing.
+-- The verbs by name and number, how many words each takes, and where its numbers start.
 use Prim.Native.Nat.{ℕ}
 use mathlib.Core.Bool.{Bool, true, false, not, _&&_, _||_}
 use mathlib.Core.List.{List, [], _∷_}

@@ -1,4 +1,4 @@
--- Weights and the arcs that carry them: a weight above 0 has an arc, and an arc adds its weight. Assumes nothing.
+-- Weights and the arcs that carry them: a weight above 0 has an arc, and an arc adds its weight.
 use Prim.Native.Nat.{ℕ, zero, suc, _+_, _*_, _-_, _≤_, _<_}
 use mathlib.Core.Bool.{Bool, true, false, _&&_}
 use mathlib.Core.List.{List}

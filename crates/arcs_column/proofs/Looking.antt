@@ -1,4 +1,4 @@
--- Laws of the loop that looks for a pulled place. Assumes nothing.
+-- Laws of the loop that looks for a pulled place.
 use Prim.Native.Nat.{ℕ, suc, _+_, _*_, _-_, _≤_, _<_}
 use mathlib.Core.Path.{_≡_, refl, sym, ap, _∙_}
 use mathlib.Core.Bool.{Bool, true, false, not, _&&_, _||_}

@@ -1,4 +1,4 @@
--- The sum of the weights over the first arcs of a file, one arc at a time. Assumes nothing.
+-- The sum of the weights over the first arcs of a file, one arc at a time.
 use Prim.Native.Nat.{ℕ, zero, suc, _+_, _*_, _-_, _<_, _≤_}
 use mathlib.Core.Path.{_≡_, refl, ap, _∙_}
 use mathlib.Core.Bool.{Bool, true, false, _&&_}

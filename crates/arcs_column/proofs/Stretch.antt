@@ -1,4 +1,4 @@
--- The arcs of one transition, which stand in a row, and what it takes and gives by them. Assumes nothing.
+-- The arcs of one transition, which stand in a row, and what it takes and gives by them.
 use Prim.Native.Nat.{ℕ, _+_, _*_, _≤_, _<_}
 use mathlib.Core.List.{List}
 use mathlib.Core.Logic.{_≢_}

@@ -1,4 +1,4 @@
--- Laws of a column of sums. Assumes nothing.
+-- Laws of a column of sums.
 use Prim.Native.Nat.{ℕ, zero, suc, _+_, _*_, _-_, _≤_, _<_}
 use mathlib.Core.Path.{_≡_, refl, sym, ap, _∙_, subst}
 use mathlib.Core.List.{List}

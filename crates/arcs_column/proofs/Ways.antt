@@ -1,4 +1,4 @@
--- Laws of sums in one direction, and that over the run of a transition's arcs. Assumes nothing.
+-- Laws of sums in one direction, and that over the run of a transition's arcs.
 use Prim.Native.Nat.{ℕ, zero, suc, _+_, _*_, _-_, _≤_, _<_}
 use mathlib.Core.Bool.{Bool, true, false, _&&_}
 use mathlib.Core.List.{List}

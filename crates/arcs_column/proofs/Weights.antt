@@ -1,4 +1,4 @@
--- The sum over the run of a transition's arcs in one direction is its weight there. Assumes nothing.
+-- The sum over the run of a transition's arcs in one direction is its weight there.
 use Prim.Native.Nat.{ℕ, zero, suc, _+_, _*_, _-_, _≤_, _<_}
 use mathlib.Core.Path.{_≡_, refl, subst}
 use mathlib.Core.Bool.{Bool, true, false, _&&_}

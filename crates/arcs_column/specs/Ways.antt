@@ -1,4 +1,4 @@
--- Sums of the weights that go in one direction, over a run of arcs. Assumes nothing.
+-- Sums of the weights that go in one direction, over a run of arcs.
 use Prim.Native.Nat.{ℕ, zero, suc, _+_, _*_}
 use mathlib.Core.Bool.{_&&_}
 use mathlib.Core.List.{List}

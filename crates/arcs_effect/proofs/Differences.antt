@@ -1,4 +1,4 @@
--- The difference of two numbers as a signed one. Assumes nothing.
+-- The difference of two numbers as a signed one.
 use Prim.Native.Nat.{ℕ, zero, suc, _-_, _<_, _^_}
 use mathlib.Core.Path.{_≡_, refl, ap₂}
 use mathlib.Core.Bool.{Bool, true, false, cond}

@@ -1,4 +1,4 @@
--- Where the arcs of a transition stand, by the two places where the arcs split. Assumes nothing.
+-- Where the arcs of a transition stand, by the two places where the arcs split.
 use Prim.Native.Nat.{ℕ, zero, suc, _+_, _-_, _*_, _≤_, _<_}
 use mathlib.Core.Path.{_≡_, refl, sym, ap, ap₂, _∙_, subst}
 use mathlib.Core.Bool.{Bool, true, false}

@@ -1,4 +1,4 @@
--- The arcs of one transition and direction by their places: the sum at one place. Assumes nothing.
+-- The arcs of one transition and direction by their places: the sum at one place.
 use Prim.Native.Nat.{ℕ, zero, suc, _+_, _-_, _*_, _≤_, _<_}
 use mathlib.Core.Path.{_≡_, sym, ap, _∙_}
 use mathlib.Core.List.{List}

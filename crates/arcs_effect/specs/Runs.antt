@@ -1,5 +1,4 @@
 -- Parts of a file by its header: the run of a transition's arcs (document 01, "Firing": "The run handed back is that part of the file named").
--- Assumes nothing.
 use Prim.Native.Nat.{ℕ, _+_, _*_, _≤_, _<_}
 use mathlib.Core.List.{List}
 use mathlib.Core.Path.{_≡_}

@@ -1,4 +1,4 @@
--- Laws of groups of parallel arcs. Assumes nothing.
+-- Laws of groups of parallel arcs.
 use Prim.Native.Nat.{ℕ, zero, suc, _+_, _-_, _*_, _/_, _%_, _≤_, _<_}
 use mathlib.Core.Bool.{Bool, true, false, _&&_}
 use mathlib.Core.List.{List}

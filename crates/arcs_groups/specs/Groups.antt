@@ -1,4 +1,4 @@
--- Parallel arcs: the arcs that join one place and one transition in one direction. In order, they stand next to each other. Assumes nothing.
+-- Parallel arcs: the arcs that join one place and one transition in one direction. In order, they stand next to each other.
 use Prim.Native.Nat.{ℕ, zero, suc, _+_, _*_, _≤_, _<_}
 use mathlib.Core.List.{List}
 use lib.ListN.{length}

@@ -1,4 +1,4 @@
--- A search by halving, in numbers that do not fall: where those below k end. Assumes nothing.
+-- A search by halving, in numbers that do not fall: where those below k end.
 use Prim.Native.Nat.{ℕ, _+_, _≤_, _<_}
 use mathlib.Core.Path.{_≡_}
 use native.Mathlib.Omega.{arith}

@@ -1,4 +1,4 @@
--- From a file that was read to what the table asks, and from its entries to numbers of arcs. Assumes nothing.
+-- From a file that was read to what the table asks, and from its entries to numbers of arcs.
 use Prim.Native.Nat.{ℕ, zero, suc, _+_, _-_, _*_, _≤_, _<_}
 use mathlib.Core.Path.{_≡_, ap}
 use mathlib.Core.Bool.{true, false}

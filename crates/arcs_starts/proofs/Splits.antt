@@ -1,4 +1,4 @@
--- Laws of the table of starts. Assumes nothing.
+-- Laws of the table of starts.
 use Prim.Native.Nat.{ℕ, zero, suc, _+_, _≤_, _<_}
 use mathlib.Core.Path.{_≡_, refl, sym, ap, _∙_, subst}
 use mathlib.Core.Bool.{Bool, true, false}

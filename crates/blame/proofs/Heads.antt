@@ -1,4 +1,4 @@
--- The header by the trailer alone, by the way out of the function, and what is known of it. Assumes nothing.
+-- The header by the trailer alone, by the way out of the function, and what is known of it.
 use Prim.Native.Nat.{ℕ, zero, suc, _+_, _*_, _≤_, _<_}
 use mathlib.Core.Path.{_≡_, refl, sym, ap, _∙_}
 use mathlib.Core.Bool.{true, false}

@@ -1,4 +1,4 @@
--- The counts of specs/, one entry at a time: a whole count is what was counted and what is left, which stops, goes on or ends. Assumes nothing.
+-- The counts of specs/, one entry at a time: a whole count is what was counted and what is left, which stops, goes on or ends.
 use Prim.Native.Nat.{ℕ, zero, suc, _+_, _-_, _≤_, _<_}
 use mathlib.Core.Path.{_≡_, refl, sym, ap, _∙_}
 use mathlib.Core.Bool.{Bool, true, false, _||_}

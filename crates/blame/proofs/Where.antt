@@ -1,4 +1,4 @@
--- The counts of specs/ say where a refusal stands: the entries before pass, and with the one named the refusal is that of the whole. Assumes nothing.
+-- The counts of specs/ say where a refusal stands: the entries before pass, and with the one named the refusal is that of the whole.
 use Prim.Native.Nat.{ℕ, zero, suc, _+_, _*_, _≤_, _<_}
 use mathlib.Core.Path.{_≡_, refl, sym, ap, _∙_}
 use mathlib.Core.Bool.{Bool, true, false, _||_}

@@ -1,4 +1,4 @@
--- Which arc breaks refusal 6 or 7 of document 01. Assumes nothing.
+-- Which arc breaks refusal 6 or 7 of document 01.
 use Prim.Native.Nat.{ℕ, zero, suc, _+_, _*_}
 use mathlib.Core.Bool.{_||_}
 use mathlib.Core.List.{List}

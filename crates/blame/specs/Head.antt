@@ -1,4 +1,4 @@
--- The header of a file that may be refused further on, and a count that a test stops. Assumes nothing.
+-- The header of a file that may be refused further on, and a count that a test stops.
 use Prim.Native.Nat.{ℕ, suc}
 use mathlib.Core.Bool.{Bool, true, false}
 use mathlib.Core.List.{List}

@@ -1,4 +1,4 @@
--- Which number of a criterion breaks refusal 10 of document 01, and which of a list 12. Assumes nothing.
+-- Which number of a criterion breaks refusal 10 of document 01, and which of a list 12.
 use Prim.Native.Nat.{ℕ, _+_}
 use mathlib.Core.Bool.{_||_}
 use mathlib.Core.List.{List, [], _∷_}

@@ -1,4 +1,4 @@
--- Which origin of a slice breaks refusal 8 of document 01. Assumes nothing.
+-- Which origin of a slice breaks refusal 8 of document 01.
 use Prim.Native.Nat.{ℕ, zero, suc, _+_, _*_}
 use mathlib.Core.Bool.{Bool, true, false}
 use mathlib.Core.List.{List}

@@ -1,4 +1,4 @@
--- The check's answer, by the way out that the call took. Assumes nothing.
+-- The check's answer, by the way out that the call took.
 use Prim.Native.Nat.{ℕ, zero, suc}
 use mathlib.Core.Path.{_≡_, refl, sym, ap, _∙_}
 use mathlib.Core.Bool.{true}

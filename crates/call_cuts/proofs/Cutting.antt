@@ -1,4 +1,4 @@
--- The answer and the buffer of a cut, by the way out that the call took. Assumes nothing.
+-- The answer and the buffer of a cut, by the way out that the call took.
 use Prim.Native.Nat.{ℕ, zero, suc, _<_}
 use mathlib.Core.Path.{_≡_, refl, sym, ap, ap₂, subst, subst⁻¹, _∙_}
 use mathlib.Core.Logic.{_≢_}

@@ -1,4 +1,4 @@
--- The arc run, by the way out that the call took. Assumes nothing.
+-- The arc run, by the way out that the call took.
 use Prim.Native.Nat.{ℕ, zero, suc}
 use mathlib.Core.Path.{_≡_, refl, sym, ap, _∙_}
 use mathlib.Core.Bool.{Bool, true, false, _&&_}

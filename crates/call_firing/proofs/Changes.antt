@@ -1,4 +1,4 @@
--- The answer of `effect`, by the way out that it took. Assumes nothing.
+-- The answer of `effect`, by the way out that it took.
 use Prim.Native.Nat.{ℕ, zero, suc, _≤_, _<_}
 use mathlib.Core.Path.{_≡_, refl, ap}
 use mathlib.Core.List.{List}

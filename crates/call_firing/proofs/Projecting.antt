@@ -1,4 +1,4 @@
--- The answer of `project` and its output, by the way out that the call took. Assumes nothing.
+-- The answer of `project` and its output, by the way out that the call took.
 use Prim.Native.Nat.{ℕ}
 use mathlib.Core.Path.{_≡_, refl}
 use mathlib.Core.Bool.{Bool, true, false, not}

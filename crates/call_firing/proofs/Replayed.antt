@@ -1,4 +1,4 @@
--- The answer of `replay` and its marking, by the way out that the call took. Assumes nothing.
+-- The answer of `replay` and its marking, by the way out that the call took.
 use Prim.Native.Nat.{ℕ}
 use mathlib.Core.Path.{_≡_, refl}
 use mathlib.Core.List.{List}

@@ -1,4 +1,4 @@
--- The answer of `effect` in document 01's numbers. Assumes nothing.
+-- The answer of `effect` in document 01's numbers.
 use mathlib.Core.Bool.{true, false}
 use mathlib.Core.Path.{_≡_}
 use lib.IntN.{ℤ, pos}

@@ -1,4 +1,4 @@
--- An arc of the plan by what is kept of its ends, as its sum tells it. Assumes nothing.
+-- An arc of the plan by what is kept of its ends, as its sum tells it.
 use Prim.Native.Nat.{ℕ, _+_, _-_, _*_, _/_, _%_, _≤_, _<_}
 use mathlib.Core.Path.{_≡_, refl, ap, _∙_}
 use mathlib.Core.Bool.{Bool, true, false, _&&_}

@@ -1,4 +1,4 @@
--- The tables once they are filled. Assumes nothing.
+-- The tables once they are filled.
 use Prim.Native.Nat.{ℕ, _<_}
 use mathlib.Core.Path.{_≡_, ap, _∙_}
 use mathlib.Core.Bool.{true}

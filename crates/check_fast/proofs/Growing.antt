@@ -1,4 +1,4 @@
--- The two tables while they are filled, origin by origin and place by place. Assumes nothing.
+-- The two tables while they are filled, origin by origin and place by place.
 use Prim.Native.Nat.{ℕ, _+_, _-_, _*_, _<_}
 use mathlib.Core.Path.{_≡_, refl, sym, ap, _∙_, subst}
 use mathlib.Core.Bool.{true, false}

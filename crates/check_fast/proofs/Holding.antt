@@ -1,4 +1,4 @@
--- Arcs that are all gone through: the rules 4 to 8 hold. Assumes nothing.
+-- Arcs that are all gone through: the rules 4 to 8 hold.
 use Prim.Native.Nat.{ℕ, zero, suc, _+_, _*_, _<_}
 use mathlib.Core.Path.{_≡_, refl, sym, ap, _∙_}
 use mathlib.Core.Bool.{Bool, true, false, not, _&&_}

@@ -1,4 +1,4 @@
--- An arc of a transition left out that its effect settles. Assumes nothing.
+-- An arc of a transition left out that its effect settles.
 use Prim.Native.Nat.{ℕ, zero, suc, _+_, _-_, _*_, _/_, _%_, _≤_, _<_}
 use mathlib.Core.Path.{_≡_, refl, sym, ap, _∙_, subst}
 use mathlib.Core.Bool.{Bool, true, false, cond, _&&_, _||_}

@@ -1,4 +1,4 @@
--- What the sum of an arc and its two entries tells, in numbers. Assumes nothing.
+-- What the sum of an arc and its two entries tells, in numbers.
 use Prim.Native.Nat.{ℕ, _+_, _-_, _*_, _/_, _%_, _≤_, _<_}
 use mathlib.Core.Path.{_≡_, sym, ap, _∙_}
 use mathlib.Core.Bool.{true, false, not}

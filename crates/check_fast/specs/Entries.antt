@@ -1,4 +1,4 @@
--- Two tables that turn a plan's arc into the slice's by a sum, and tell what is left out and what is in the criterion. Assumes nothing.
+-- Two tables that turn a plan's arc into the slice's by a sum, and tell what is left out and what is in the criterion.
 use Prim.Native.Nat.{ℕ, _+_, _-_, _*_, _/_, _≤_, _<_}
 use mathlib.Core.Bool.{Bool, true, false}
 use mathlib.Core.List.{List}

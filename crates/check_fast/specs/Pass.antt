@@ -1,4 +1,4 @@
--- One pass over the plan's arcs, against the slice's. Assumes nothing.
+-- One pass over the plan's arcs, against the slice's.
 use Prim.Native.Nat.{ℕ, _+_, _-_, _*_, _/_, _%_, _≤_, _<_}
 use mathlib.Core.Bool.{Bool, true, false, _||_, _&&_, not}
 use mathlib.Core.List.{List}

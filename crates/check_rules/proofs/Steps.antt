@@ -1,4 +1,4 @@
--- "Rules in order": the verdict, one rule at a time. Assumes nothing.
+-- "Rules in order": the verdict, one rule at a time.
 use Prim.Native.Nat.{ℕ, suc, _+_, _≤_, _<_}
 use mathlib.Core.Path.{_≡_, refl, ap, sym}
 use mathlib.Core.Bool.{true, false}

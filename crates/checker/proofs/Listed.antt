@@ -1,4 +1,4 @@
--- The C call's criterion as a list of numbers. Assumes nothing.
+-- The C call's criterion as a list of numbers.
 use Prim.Native.Nat.{ℕ, _/_, _≤_}
 use mathlib.Core.Path.{_≡_, ap, _∙_}
 use mathlib.Core.List.{List}

@@ -1,4 +1,4 @@
--- Rows of arcs by what is told so far. Assumes nothing.
+-- Rows of arcs by what is told so far.
 use Prim.Native.Nat.{ℕ, suc, _+_, _*_, _-_, _/_, _%_, _≤_, _<_}
 use mathlib.Core.Bool.{Bool}
 use mathlib.Core.List.{List}

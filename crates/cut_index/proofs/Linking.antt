@@ -1,4 +1,4 @@
--- One group of parallel arcs more is linked. Assumes nothing.
+-- One group of parallel arcs more is linked.
 use Prim.Native.Nat.{ℕ, suc, _+_, _*_, _-_, _/_, _%_, _≤_, _<_}
 use mathlib.Core.Bool.{Bool, false}
 use mathlib.Core.List.{List}

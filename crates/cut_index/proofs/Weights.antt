@@ -1,4 +1,4 @@
--- What the first arcs of a file tell of each transition, and which arcs can still change it. Assumes nothing.
+-- What the first arcs of a file tell of each transition, and which arcs can still change it.
 use Prim.Native.Nat.{ℕ, zero, suc, _+_, _-_, _*_, _≤_, _<_}
 use mathlib.Core.Bool.{Bool}
 use mathlib.Core.List.{List}

@@ -1,4 +1,4 @@
--- What a group of parallel arcs does to the rows. Assumes nothing.
+-- What a group of parallel arcs does to the rows.
 use Prim.Native.Nat.{ℕ, _+_, _*_, _-_, _/_, _%_, _≤_, _<_}
 use mathlib.Core.List.{List}
 use mathlib.Core.Path.{_≡_}

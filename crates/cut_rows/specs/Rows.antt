@@ -1,4 +1,4 @@
--- The arcs of each place that lower it, and those that raise it, linked by groups of parallel arcs: from the last of them to the one before it. Assumes nothing.
+-- The arcs of each place that lower it, and those that raise it, linked by groups of parallel arcs: from the last of them to the one before it.
 use Prim.Native.Nat.{ℕ, zero, suc, _+_, _*_, _-_, _/_, _%_, _≤_, _<_}
 use mathlib.Core.Bool.{Bool}
 use mathlib.Core.List.{List}

@@ -1,4 +1,4 @@
--- Laws of the loop that takes the lowest pending place: it ends, and then nothing is pending. Assumes nothing.
+-- Laws of the loop that takes the lowest pending place: it ends, and then nothing is pending.
 use Prim.Native.Nat.{ℕ, zero, suc, _+_, _*_, _<_}
 use mathlib.Core.Bool.{Bool, true, false, not, _&&_, _||_, or-false}
 use mathlib.Core.List.{List}

@@ -1,4 +1,4 @@
--- Laws of the steps of a search: the input places of a transition kept arc by arc, and a transition kept with them. Assumes nothing.
+-- Laws of the steps of a search: the input places of a transition kept arc by arc, and a transition kept with them.
 use Prim.Native.Nat.{ℕ, zero, suc, _+_, _*_, _-_, _≤_, _<_}
 use mathlib.Core.Bool.{Bool, true, false, not, _&&_, _||_, or-false, or-assoc}
 use mathlib.Core.List.{List}

@@ -1,4 +1,4 @@
--- Laws of a turn: the two rows of a place are followed, and every transition that it draws in is kept. Assumes nothing.
+-- Laws of a turn: the two rows of a place are followed, and every transition that it draws in is kept.
 use Prim.Native.Nat.{ℕ, zero, suc, _+_, _*_, _-_, _/_, _%_, _≤_, _<_}
 use mathlib.Core.Bool.{Bool, true, false, not, _&&_, _||_}
 use mathlib.Core.List.{List}

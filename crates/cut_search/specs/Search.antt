@@ -1,4 +1,4 @@
--- The steps of a cut: for the contracts of its parts, not for a reader of `kept`. Assumes nothing.
+-- The steps of a cut: for the contracts of its parts, not for a reader of `kept`.
 use Prim.Native.Nat.{ℕ, _≤_, _<_}
 use mathlib.Core.Bool.{Bool, false, not, _&&_, _||_}
 use mathlib.Core.List.{List}

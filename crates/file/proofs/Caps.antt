@@ -1,4 +1,4 @@
--- The net of a file has no caps, so its marking is within them. Assumes nothing.
+-- The net of a file has no caps, so its marking is within them.
 use Prim.Native.Nat.{ℕ}
 use mathlib.Core.List.{List}
 use mathlib.Core.Path.{_≡_, refl}

@@ -1,4 +1,4 @@
--- What the marks of a sweep and its keys say of arcs. Assumes nothing.
+-- What the marks of a sweep and its keys say of arcs.
 use Prim.Native.Nat.{ℕ, zero, suc, _+_, _-_, _*_, _/_, _%_, _^_, _≤_, _<_}
 use mathlib.Core.Path.{_≡_, refl, sym, ap, _∙_}
 use mathlib.Core.Bool.{Bool, true, false, _&&_}

@@ -1,4 +1,4 @@
--- A table of numbers that rises, by neighbours. Assumes nothing.
+-- A table of numbers that rises, by neighbours.
 use Prim.Native.Nat.{ℕ, zero, suc, _+_, _-_, _≤_, _<_}
 use mathlib.Core.Path.{_≡_, refl, sym, ap, _∙_}
 use mathlib.Core.Bool.{Bool, true, false, not, _||_, _&&_}

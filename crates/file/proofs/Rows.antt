@@ -1,4 +1,4 @@
--- Arcs and numbers that stand in a row in a file, by their index. Assumes nothing.
+-- Arcs and numbers that stand in a row in a file, by their index.
 use Prim.Native.Nat.{ℕ, zero, suc, _+_, _-_, _*_, _≤_, _<_}
 use mathlib.Core.Path.{_≡_, refl, sym, ap, _∙_, subst}
 use mathlib.Core.List.{List, [], _∷_, _++_, map}

@@ -1,4 +1,4 @@
--- The fields of the number that the 8 bytes of an arc are. Assumes nothing.
+-- The fields of the number that the 8 bytes of an arc are.
 use Prim.Native.Nat.{ℕ, zero, suc, _+_, _*_, _/_, _%_, _<_}
 use mathlib.Core.Path.{_≡_, refl, sym, ap, _∙_}
 use mathlib.Core.Bool.{Bool, true, false, not, _||_}

@@ -1,4 +1,4 @@
--- What is known of a file that can be read, by its header: for callers of the reader, not for a reader of the contracts. Assumes nothing.
+-- What is known of a file that can be read, by its header: for callers of the reader, not for a reader of the contracts.
 use Prim.Native.Nat.{ℕ, _+_, _*_, _/_, _%_, _≤_, _<_}
 use mathlib.Core.Bool.{Bool, false, _||_}
 use mathlib.Core.Path.{_≡_}

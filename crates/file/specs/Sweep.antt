@@ -1,4 +1,4 @@
--- Arcs gone through in pairs, all limits by one sum and the order by one product: for the reader's own functions, not for a reader of the contracts. Assumes nothing.
+-- Arcs gone through in pairs, all limits by one sum and the order by one product: for the reader's own functions, not for a reader of the contracts.
 use Prim.Native.Nat.{ℕ, _+_, _-_, _*_, _/_, _%_, _^_, _≤_, _<_}
 use mathlib.Core.Bool.{Bool, _&&_}
 use lib.Bits.{bitAnd, bitOr}

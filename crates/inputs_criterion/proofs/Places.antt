@@ -1,4 +1,4 @@
--- Refusal 10 place by place, and what is known of a criterion that passes. Assumes nothing.
+-- Refusal 10 place by place, and what is known of a criterion that passes.
 use Prim.Native.Nat.{ℕ, zero, suc, _+_, _-_, _*_, _/_, _%_, _≤_, _<_}
 use mathlib.Core.Path.{_≡_, refl, sym, ap, _∙_}
 use mathlib.Core.Bool.{true, false, not, _||_}

@@ -1,4 +1,4 @@
--- What is known of a list that is not refused, and a lent buffer after a call that is refused or not. Assumes nothing.
+-- What is known of a list that is not refused, and a lent buffer after a call that is refused or not.
 use Prim.Native.Nat.{ℕ, zero, suc, _<_, _≤_}
 use mathlib.Core.Path.{_≡_, refl, sym, _∙_}
 use mathlib.Core.Bool.{false}

@@ -1,4 +1,4 @@
--- A test over the first entries of a list, one entry at a time. Assumes nothing.
+-- A test over the first entries of a list, one entry at a time.
 use Prim.Native.Nat.{ℕ, zero, suc, _+_, _≤_, _<_}
 use mathlib.Core.Bool.{Bool, true, false, _||_}
 use mathlib.Core.List.{List, [], _∷_}

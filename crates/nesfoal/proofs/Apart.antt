@@ -1,4 +1,4 @@
--- No two answers of a call have the same numbers. Assumes nothing.
+-- No two answers of a call have the same numbers.
 use Rattle.nesfoal.specs.Answers.{Pinned}
 use Rattle.checker.proofs.Apart.{told-apart as verdicts}
 use Rattle.replay.proofs.Apart.{told-apart as outcomes}

@@ -1,4 +1,4 @@
--- The safety cut's promise, as a C program reads the answer. Assumes nothing.
+-- The safety cut's promise, as a C program reads the answer.
 use Prim.Native.Nat.{ℕ, zero, suc}
 use mathlib.Core.Path.{_≡_, refl, sym, subst⁻¹, _∙_}
 use mathlib.Core.List.{List}

@@ -1,4 +1,4 @@
--- The answers of the public calls: an equation of numbers in a contract is one of answers. Assumes nothing.
+-- The answers of the public calls: an equation of numbers in a contract is one of answers.
 use Rattle.checker.specs.Answer.{ToldApart as Verdicts}
 use Rattle.replay.specs.Told.{ToldApart as Outcomes}
 use Rattle.projection.specs.Told.{ToldApart as Projections}

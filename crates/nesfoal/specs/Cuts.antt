@@ -1,4 +1,4 @@
--- The answer of a cut as a C program reads it. Assumes nothing.
+-- The answer of a cut as a C program reads it.
 use Prim.Native.Nat.{ℕ, zero, suc}
 use mathlib.Core.Bool.{true, false}
 use Rattle.promise.specs.Calls.{CutAnswer}

@@ -1,4 +1,4 @@
--- The answer of `replay` as one number, for C. Assumes nothing.
+-- The answer of `replay` as one number, for C.
 use Prim.Native.Nat.{ℕ}
 use mathlib.Core.Bool.{Bool, true, false}
 use Rattle.promise.specs.Firing.{ReplayAnswer}

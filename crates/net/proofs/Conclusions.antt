@@ -1,5 +1,4 @@
 -- What follows from `Guarantee`, `Contains`, `FirstBroken` and `StuckAt`, and from nothing else about a slice or a replay.
--- Assumes nothing.
 use Prim.Native.Nat.{ℕ, zero, suc, _+_, _<_, _≤_}
 use mathlib.Core.List.{List, [], _∷_, _++_, map}
 use mathlib.Core.Path.{_≡_, refl, sym, ap, subst, subst⁻¹}

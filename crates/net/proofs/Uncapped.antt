@@ -1,5 +1,4 @@
 -- A net without caps: the firing rule, the growth of the cuts and the checker's rules are those without caps.
--- Assumes nothing.
 use Prim.Native.Nat.{ℕ}
 use mathlib.Core.Bool.{Bool, true, false, not, _&&_, _||_}
 use mathlib.Core.List.{List, [], _∷_}

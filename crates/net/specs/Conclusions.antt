@@ -1,5 +1,4 @@
 -- What people conclude from the guarantee, from the smallest slice, from the verdict and from a stuck replay. Each promise is used here in its full strength.
--- Assumes nothing.
 use Prim.Native.Nat.{ℕ, zero, suc, _<_}
 use mathlib.Core.Bool.{true, false}
 use mathlib.Core.List.{List, _++_, map}

@@ -1,4 +1,4 @@
--- The entries of a list that grows by one number at its end. Assumes nothing.
+-- The entries of a list that grows by one number at its end.
 use Prim.Native.Nat.{ℕ, suc, _+_, _<_}
 use mathlib.Core.Path.{_≡_, refl, sym, ap, _∙_, subst}
 use mathlib.Core.Bool.{Bool, true, false, _||_}

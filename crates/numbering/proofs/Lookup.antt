@@ -1,4 +1,4 @@
--- What an entry of a table of own numbers says. Assumes nothing.
+-- What an entry of a table of own numbers says.
 use Prim.Native.Nat.{ℕ, suc, _<_}
 use mathlib.Core.Bool.{true, false}
 use mathlib.Core.Path.{_≡_, _∙_}

@@ -1,4 +1,4 @@
--- Rising lists. Assumes nothing.
+-- Rising lists.
 use Prim.Native.Nat.{ℕ, zero, suc, _+_, _≤_, _<_}
 use mathlib.Core.List.{List, [], _∷_}
 use native.Mathlib.Omega.{arith}

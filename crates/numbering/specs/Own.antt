@@ -1,5 +1,4 @@
 -- A table from the plan's numbers to a slice's own: "the slice's number for each .. among the origins" (document 01, "The checker").
--- Assumes nothing.
 use Prim.Native.Nat.{ℕ, suc, _+_, _*_, _<_, _≤_}
 use mathlib.Core.Bool.{true, false}
 use mathlib.Core.List.{List}

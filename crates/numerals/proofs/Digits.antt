@@ -1,4 +1,4 @@
--- Reading digit by digit gives the decimal number. Assumes nothing.
+-- Reading digit by digit gives the decimal number.
 use Prim.Native.Nat.{ℕ, _+_, _*_, _-_, _≤_, _<_}
 use mathlib.Core.Path.{_≡_, refl, sym, ap, _∙_}
 use mathlib.Core.Bool.{Bool, true, false, not, _&&_}

@@ -1,4 +1,4 @@
--- A decimal number as it is read, digit by digit, with 65,536 for all that is no number from 0 to 65,535. Assumes nothing.
+-- A decimal number as it is read, digit by digit, with 65,536 for all that is no number from 0 to 65,535.
 use Prim.Native.Nat.{ℕ, _+_, _*_, _-_}
 use mathlib.Core.Bool.{Bool, true, false}
 use mathlib.Core.List.{List, [], _∷_}

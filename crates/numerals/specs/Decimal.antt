@@ -1,4 +1,4 @@
--- Decimal numbers in text: at least one digit, nothing but digits, and a value of at most 65,535. Assumes nothing.
+-- Decimal numbers in text: at least one digit, nothing but digits, and a value of at most 65,535.
 use Prim.Native.Nat.{ℕ, _+_, _*_, _-_}
 use mathlib.Core.Bool.{Bool, true, false, not, _&&_}
 use mathlib.Core.List.{List, [], _∷_}

@@ -1,4 +1,4 @@
--- Where the origins of a slice stand. Assumes nothing.
+-- Where the origins of a slice stand.
 use Prim.Native.Nat.{ℕ, _+_, _*_}
 use mathlib.Core.Path.{_≡_}
 use mathlib.Core.List.{List}

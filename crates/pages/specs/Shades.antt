@@ -1,4 +1,4 @@
--- A shade for each place, or for each transition. Assumes nothing.
+-- A shade for each place, or for each transition.
 use Prim.Native.Nat.{ℕ}
 use mathlib.Core.List.{List, [], _∷_}
 use lib.ListN.{set}

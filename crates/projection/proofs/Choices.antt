@@ -1,4 +1,4 @@
--- A projection, one listed transition at a time. Assumes nothing.
+-- A projection, one listed transition at a time.
 use Prim.Native.Nat.{ℕ, zero, suc, _+_, _-_, _%_, _<_, _≤_}
 use mathlib.Core.Path.{_≡_, refl, ap, sym, _∙_}
 use mathlib.Core.List.{List, [], _∷_, _++_, append-assoc, append-nil}

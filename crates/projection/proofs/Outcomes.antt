@@ -1,4 +1,4 @@
--- What is known of a slice and a list that are not refused, and the answer by the way out that the call took. Assumes nothing.
+-- What is known of a slice and a list that are not refused, and the answer by the way out that the call took.
 use Prim.Native.Nat.{ℕ, zero, suc, _+_, _*_, _<_, _≤_}
 use mathlib.Core.Path.{_≡_, ap, sym, _∙_}
 use mathlib.Core.Bool.{true, false}

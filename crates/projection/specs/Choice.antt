@@ -1,5 +1,4 @@
 -- A projection by a table of own numbers: entry t is one more than the slice's number of t, or 0 where t is not among the origins.
--- Assumes nothing.
 use Prim.Native.Nat.{ℕ, zero, suc, _-_, _<_, _≤_}
 use mathlib.Core.List.{List, [], _∷_, _++_}
 use mathlib.Core.Path.{_≡_}

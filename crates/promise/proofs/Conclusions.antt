@@ -1,5 +1,4 @@
 -- What people conclude, from the fields of `Demand3`, `WritesSmallest`, `Judges`, `Published` and `Replays`.
--- Assumes nothing.
 use Prim.Native.Nat.{ℕ, _+_, _≤_}
 use mathlib.Core.List.{List, []}
 use mathlib.Core.Bool.{true}

@@ -1,5 +1,4 @@
 -- "Effect then spans -268,431,360 to 268,431,360": a file has at most 4,096 arcs, of weights up to 65,535; and so "a replayed marking stays below 2 to the power 45".
--- Assumes nothing.
 use Prim.Native.Nat.{ℕ, zero, suc, _+_, _-_, _*_, _^_, _≤_, _<_}
 use mathlib.Core.Path.{_≡_}
 use mathlib.Core.Bool.{Bool, true, false}

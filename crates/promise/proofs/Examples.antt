@@ -1,5 +1,4 @@
 -- The starred examples, by computation.
--- Assumes nothing.
 use mathlib.Core.Path.{refl}
 use Rattle.net.specs.Numbers.{among, position, any, selected, first}
 use Rattle.net.specs.Net.{below, weightOn, input, output, effect, changes, raises, takesFrom, addsTo, capped, fire, after, shortPlace, fullPlace, testInputs, testCaps, testFiring, replayFrom, replay, tokens}

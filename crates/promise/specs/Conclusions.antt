@@ -1,5 +1,4 @@
 -- What people conclude from the check's answer and from the published slices.
--- Assumes nothing.
 use Prim.Native.Nat.{ℕ, _+_}
 use mathlib.Core.List.{List}
 use mathlib.Core.Path.{_≡_}

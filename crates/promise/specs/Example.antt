@@ -1,6 +1,5 @@
 -- The starred examples of document 01 ("A small kerb"), over bytes, as one table: the plan's file, its cuts' files, replay, effect, projection, check; and the same kerb with parallel arcs.
 -- Places 0 to 4 are that section's waiting, bay free, in bay, left and bell.
--- Assumes nothing.
 use Prim.Native.Nat.{ℕ, suc}
 use mathlib.Core.List.{List, [], _∷_, _++_}
 use mathlib.Core.Path.{_≡_}

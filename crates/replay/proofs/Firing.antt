@@ -1,4 +1,4 @@
--- One firing: its inputs are taken, then its outputs are given. Assumes nothing.
+-- One firing: its inputs are taken, then its outputs are given.
 use Prim.Native.Nat.{ℕ, _+_, _*_, _-_, _^_, _<_, _≤_}
 use mathlib.Core.Path.{_≡_, refl, ap, sym, subst, _∙_}
 use mathlib.Core.List.{List}

@@ -1,4 +1,4 @@
--- What is known of a list and a marking that are not refused. Assumes nothing.
+-- What is known of a list and a marking that are not refused.
 use Prim.Native.Nat.{ℕ, zero, suc, _≤_}
 use mathlib.Core.Path.{_≡_, sym, ap, _∙_}
 use mathlib.Core.Bool.{true, false}

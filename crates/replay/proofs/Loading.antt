@@ -1,4 +1,4 @@
--- The initial marking, written entry by entry, and the entries of a marking. Assumes nothing.
+-- The initial marking, written entry by entry, and the entries of a marking.
 use Prim.Native.Nat.{ℕ, zero, suc, _+_, _*_, _^_, _<_, _≤_}
 use mathlib.Core.Path.{_≡_, refl, ap, sym, _∙_, fun-ext}
 use mathlib.Core.List.{List, map}

@@ -1,4 +1,4 @@
--- The lowest place that is short, found among the input arcs of a transition in their order. Assumes nothing.
+-- The lowest place that is short, found among the input arcs of a transition in their order.
 use Prim.Native.Nat.{ℕ, _+_, _-_, _*_, _<_, _≤_}
 use mathlib.Core.Path.{_≡_, refl, ap, sym, _∙_, subst}
 use mathlib.Core.List.{List}

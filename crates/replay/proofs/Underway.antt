@@ -1,4 +1,4 @@
--- How a replay goes on, and how it ends: all fired, or stuck at a firing. Assumes nothing.
+-- How a replay goes on, and how it ends: all fired, or stuck at a firing.
 use Prim.Native.Nat.{ℕ, _+_, _-_, _<_, _≤_}
 use mathlib.Core.Path.{_≡_, refl, ap, sym, _∙_}
 use mathlib.Core.List.{List}

@@ -1,5 +1,4 @@
 -- What the steps of a replay ask and ensure: a shortage, one firing.
--- Assumes nothing.
 use Prim.Native.Nat.{ℕ, _+_, _*_, _^_, _≤_, _<_}
 use mathlib.Core.List.{List}
 use mathlib.Core.Path.{_≡_}

@@ -1,5 +1,4 @@
 -- What a replay answers in document 01's numbers, and why it is refused once its file was read.
--- Assumes nothing.
 use Prim.Native.Nat.{ℕ}
 use mathlib.Core.Bool.{true, false}
 use mathlib.Core.List.{List}

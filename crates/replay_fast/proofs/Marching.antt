@@ -1,4 +1,4 @@
--- Firings on entries that stand above their tokens: one that is done, and one that is undone. Assumes nothing.
+-- Firings on entries that stand above their tokens: one that is done, and one that is undone.
 use Prim.Native.Nat.{ℕ, _+_, _*_, _-_, _≤_, _<_}
 use mathlib.Core.List.{List}
 use mathlib.Core.Path.{_≡_, sym, ap, _∙_, subst}

@@ -1,4 +1,4 @@
--- Moves: what one does to the entry of its place, and what those of a run of arcs do to all. Assumes nothing.
+-- Moves: what one does to the entry of its place, and what those of a run of arcs do to all.
 use Prim.Native.Nat.{ℕ, _+_, _*_, _-_, _/_, _%_, _^_, _≤_, _<_}
 use mathlib.Core.List.{List}
 use mathlib.Core.Path.{_≡_, refl, sym, ap, _∙_, subst}

@@ -1,4 +1,4 @@
--- Entries that are put above their tokens, and left with their tokens again. Assumes nothing.
+-- Entries that are put above their tokens, and left with their tokens again.
 use Prim.Native.Nat.{ℕ, _+_, _-_, _%_, _^_, _≤_, _<_}
 use mathlib.Core.List.{List}
 use mathlib.Core.Path.{_≡_, refl, sym, ap, _∙_}

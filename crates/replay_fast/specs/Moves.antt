@@ -1,4 +1,4 @@
--- One number for each arc that says what the arc does to its place, and entries that stand 2^46 above their tokens. Assumes nothing.
+-- One number for each arc that says what the arc does to its place, and entries that stand 2^46 above their tokens.
 use Prim.Native.Nat.{ℕ, _+_, _*_, _-_, _%_, _^_, _≤_, _<_}
 use mathlib.Core.List.{List, map}
 use mathlib.Core.Path.{_≡_}

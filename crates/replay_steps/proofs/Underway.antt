@@ -1,4 +1,4 @@
--- A replay, firing by firing. Assumes nothing.
+-- A replay, firing by firing.
 use Prim.Native.Nat.{ℕ, suc, _+_, _*_, _<_, _≤_}
 use mathlib.Core.Path.{_≡_, refl, ap, sym, _∙_, fun-ext}
 use mathlib.Core.List.{List, _∷_}

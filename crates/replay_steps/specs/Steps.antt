@@ -1,4 +1,4 @@
--- What a list of firings asks, and how far a replay of it has come. Assumes nothing.
+-- What a list of firings asks, and how far a replay of it has come.
 use Prim.Native.Nat.{ℕ, _+_, _*_, _^_, _≤_, _<_}
 use mathlib.Core.List.{List}
 use mathlib.Core.Path.{_≡_}

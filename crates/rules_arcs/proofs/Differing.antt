@@ -1,4 +1,4 @@
--- Rule 4 of one transition: its two runs. Assumes nothing.
+-- Rule 4 of one transition: its two runs.
 use Prim.Native.Nat.{ℕ, suc, _+_, _-_, _*_, _≤_, _<_}
 use mathlib.Core.Bool.{Bool, true, false, not}
 use mathlib.Core.Path.{_≡_, sym, ap, _∙_}

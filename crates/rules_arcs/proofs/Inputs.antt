@@ -1,4 +1,4 @@
--- Rule 7 of one transition: its input arcs tell its input places. Assumes nothing.
+-- Rule 7 of one transition: its input arcs tell its input places.
 use Prim.Native.Nat.{ℕ, _+_, _*_, _≤_, _<_}
 use mathlib.Core.Bool.{Bool, true, false, not, _&&_}
 use mathlib.Core.Path.{_≡_, refl, sym, ap, _∙_}

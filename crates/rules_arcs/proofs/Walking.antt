@@ -1,4 +1,4 @@
--- The plan's run of arcs against the slice's, arc by arc. Assumes nothing.
+-- The plan's run of arcs against the slice's, arc by arc.
 use Prim.Native.Nat.{ℕ, _+_, _-_, _*_, _≤_, _<_}
 use mathlib.Core.Bool.{Bool, true, false, not, _&&_}
 use mathlib.Core.Path.{_≡_, refl, sym, ap, _∙_}

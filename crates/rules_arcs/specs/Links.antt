@@ -1,4 +1,4 @@
--- A kept transition's run of arcs in the plan, walked against its run in the slice. Assumes nothing.
+-- A kept transition's run of arcs in the plan, walked against its run in the slice.
 use Prim.Native.Nat.{ℕ, _+_, _*_, _-_, _≤_, _<_}
 use mathlib.Core.Bool.{Bool, true, false}
 use mathlib.Core.Path.{_≡_}

@@ -1,4 +1,4 @@
--- Columns that are written entry by entry. Assumes nothing.
+-- Columns that are written entry by entry.
 use Prim.Native.Nat.{ℕ, zero, suc, _+_, _≤_, _<_}
 use mathlib.Core.Bool.{Bool, true, false, _||_}
 use mathlib.Core.Path.{_≡_, refl, sym, ap, _∙_}

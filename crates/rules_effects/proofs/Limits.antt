@@ -1,4 +1,4 @@
--- What passes its limit: the changes of the criterion's places, the raises of kept places. Assumes nothing.
+-- What passes its limit: the changes of the criterion's places, the raises of kept places.
 use Prim.Native.Nat.{ℕ, _+_, _-_, _*_, _≤_, _<_}
 use mathlib.Core.Bool.{Bool, true, false, not, _&&_}
 use mathlib.Core.Path.{_≡_, refl, sym, ap, _∙_, subst}

@@ -1,4 +1,4 @@
--- One transition in the column: inputs taken, outputs given, and the places put to rest again. Assumes nothing.
+-- One transition in the column: inputs taken, outputs given, and the places put to rest again.
 use Prim.Native.Nat.{ℕ, zero, suc, _+_, _-_, _*_, _≤_, _<_}
 use mathlib.Core.Bool.{Bool, true, false, not, _&&_, _||_}
 use mathlib.Core.Path.{_≡_, refl, sym, ap, _∙_, subst}

@@ -1,4 +1,4 @@
--- The transitions that move a place past its limit, by one column of numbers. Assumes nothing.
+-- The transitions that move a place past its limit, by one column of numbers.
 use Prim.Native.Nat.{ℕ, _+_, _-_, _≤_, _<_}
 use mathlib.Core.Bool.{Bool, true, false}
 use mathlib.Core.Path.{_≡_}

@@ -1,4 +1,4 @@
--- The lowest number that passes a test, found by going up, or by going through a rising list. Assumes nothing.
+-- The lowest number that passes a test, found by going up, or by going through a rising list.
 use Prim.Native.Nat.{ℕ, zero, suc, _+_, _-_, _≤_, _<_}
 use mathlib.Core.Path.{_≡_, refl, sym, ap, _∙_, subst}
 use mathlib.Core.Bool.{Bool, true, false, not, _&&_}

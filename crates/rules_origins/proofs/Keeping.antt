@@ -1,4 +1,4 @@
--- Rules 1, 2, 3 and 5: the lowest number that breaks them, found in the origins, or in the criterion. Assumes nothing.
+-- Rules 1, 2, 3 and 5: the lowest number that breaks them, found in the origins, or in the criterion.
 use Prim.Native.Nat.{ℕ, _≤_, _<_}
 use mathlib.Core.Path.{_≡_, refl, sym, ap, _∙_, subst}
 use mathlib.Core.Bool.{true, false, not}

@@ -1,4 +1,4 @@
--- From a slice that was read to its two tables of origins. Assumes nothing.
+-- From a slice that was read to its two tables of origins.
 use Prim.Native.Nat.{ℕ, _+_, _*_, _≤_, _<_}
 use mathlib.Core.Path.{_≡_, ap}
 use mathlib.Core.List.{List}

@@ -1,4 +1,4 @@
--- Origins that the plan knows. Assumes nothing.
+-- Origins that the plan knows.
 use Prim.Native.Nat.{ℕ, _<_}
 use mathlib.Core.Bool.{Bool, not}
 use mathlib.Core.List.{List}

@@ -1,4 +1,4 @@
--- The lowest number that passes a test, found by going up. Assumes nothing.
+-- The lowest number that passes a test, found by going up.
 use Prim.Native.Nat.{ℕ, zero, suc, _+_, _<_, _≤_}
 use mathlib.Core.Bool.{Bool, true, false}
 use mathlib.Core.Path.{_≡_, refl, sym, ap, _∙_}

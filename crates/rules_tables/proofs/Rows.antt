@@ -1,4 +1,4 @@
--- Rows of arcs, one by one, and what is kept of them. Assumes nothing.
+-- Rows of arcs, one by one, and what is kept of them.
 use Prim.Native.Nat.{ℕ, _+_, _-_, _*_, _≤_, _<_}
 use mathlib.Core.Path.{_≡_, refl, ap, _∙_}
 use mathlib.Core.Bool.{true, false, _&&_}

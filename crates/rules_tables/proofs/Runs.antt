@@ -1,4 +1,4 @@
--- A transition's arcs stand in a row, between two entries of the table of starts. Assumes nothing.
+-- A transition's arcs stand in a row, between two entries of the table of starts.
 use Prim.Native.Nat.{ℕ, zero, suc, _+_, _-_, _*_, _≤_, _<_}
 use mathlib.Core.Bool.{true, false}
 use mathlib.Core.Path.{_≡_, refl, sym, ap, _∙_}

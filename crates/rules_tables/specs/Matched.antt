@@ -1,5 +1,4 @@
 -- What the checker looks up for a plan and a slice: where each transition's arcs start, and the slice's own numbers.
--- Assumes nothing.
 use Prim.Native.Nat.{ℕ, _*_, _≤_, _<_}
 use mathlib.Core.List.{List}
 use lib.ListN.{length, getD}

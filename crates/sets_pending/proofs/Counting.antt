@@ -1,4 +1,4 @@
--- Counts of numbers that pass a test: a test that fewer pass counts less. Assumes nothing.
+-- Counts of numbers that pass a test: a test that fewer pass counts less.
 use Prim.Native.Nat.{ℕ, zero, suc, _+_, _≤_, _<_}
 use mathlib.Core.Bool.{Bool, true, false}
 use mathlib.Core.Path.{_≡_, refl, ap, subst}

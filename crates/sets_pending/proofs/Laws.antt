@@ -1,4 +1,4 @@
--- Laws of lent sets: a member put in, a place kept whose word is marked, and the lowest pending place by the marks. Assumes nothing.
+-- Laws of lent sets: a member put in, a place kept whose word is marked, and the lowest pending place by the marks.
 use mathlib.Core.Path.{_≡_, refl, sym, ap, ap₂, _∙_, subst}
 use mathlib.Core.Bool.{Bool, true, false, not, _&&_, _||_, or-comm}
 use mathlib.Core.List.{List}

@@ -1,4 +1,4 @@
--- What a step does to the kept places and to the marks, one bit for each of sixteen words. Assumes nothing.
+-- What a step does to the kept places and to the marks, one bit for each of sixteen words.
 use Prim.Native.Nat.{ℕ, _/_, _<_}
 use mathlib.Core.Bool.{Bool, not, _&&_, _||_}
 use mathlib.Core.List.{List}

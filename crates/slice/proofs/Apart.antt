@@ -1,4 +1,4 @@
--- No two answers have the same numbers. Assumes nothing.
+-- No two answers have the same numbers.
 use mathlib.Core.Path.{_≡_, refl, sym, ap, _∙_}
 use mathlib.Core.Bool.{Bool, true, false}
 use Rattle.promise.specs.Calls.{CutAnswer}

@@ -1,4 +1,4 @@
--- From the parts of a slice file to the file, its length and the answer. Assumes nothing.
+-- From the parts of a slice file to the file, its length and the answer.
 use Prim.Native.Nat.{ℕ, _+_, _-_, _*_, _/_, _≤_, _<_}
 use mathlib.Core.Bool.{true, false, _&&_}
 use mathlib.Core.List.{List, [], _∷_, _++_, append-assoc}

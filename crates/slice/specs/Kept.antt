@@ -1,6 +1,5 @@
 -- What writing a slice answers and leaves in the buffer: "The slice has the kept places and transitions renumbered in rising order, their markings, and every plan arc
 -- between them. The cut returns the file's length and how many places and transitions it kept" (document 01, "The two cuts").
--- Assumes nothing.
 use Prim.Native.Nat.{ℕ, _<_}
 use mathlib.Core.Bool.{true, false}
 use mathlib.Core.List.{List}

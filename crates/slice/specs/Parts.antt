@@ -1,4 +1,4 @@
--- What the parts of the writer know of each other: for its own functions, not for a reader of its contract. Assumes nothing.
+-- What the parts of the writer know of each other: for its own functions, not for a reader of its contract.
 use Prim.Native.Nat.{ℕ, _≤_, _<_}
 use mathlib.Core.List.{List}
 use mathlib.Core.Path.{_≡_}

@@ -1,4 +1,4 @@
--- The arcs found by the two tables are "every plan arc between" the kept places and transitions. Assumes nothing.
+-- The arcs found by the two tables are "every plan arc between" the kept places and transitions.
 use Prim.Native.Nat.{ℕ, zero, suc, _+_, _*_, _<_}
 use mathlib.Core.Bool.{true, false}
 use mathlib.Core.List.{List, _∷_, _++_}

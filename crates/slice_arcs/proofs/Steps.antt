@@ -1,4 +1,4 @@
--- One turn of each loop over arcs. Assumes nothing.
+-- One turn of each loop over arcs.
 use Prim.Native.Nat.{ℕ, suc, _+_, _-_, _*_, _≤_, _<_}
 use mathlib.Core.List.{List, [], _∷_, _++_, append-assoc}
 use mathlib.Core.Path.{_≡_, refl, sym, ap, _∙_}

@@ -1,4 +1,4 @@
--- Arcs written one after the other, where one that is not kept is written over. Assumes nothing.
+-- Arcs written one after the other, where one that is not kept is written over.
 use Prim.Native.Nat.{ℕ, zero, suc, _+_, _/_, _%_, _≤_}
 use mathlib.Core.List.{List, [], _∷_, _++_, append-assoc, append-nil}
 use mathlib.Core.Path.{_≡_, refl, sym, ap, _∙_}

@@ -1,6 +1,5 @@
 -- "every plan arc between" kept places and transitions (document 01, "The two cuts"), as a program finds them that goes through the plan's arcs.
 -- `places` and `transitions` are the tables of the new numbers: one more than it at a kept number, 0 elsewhere.
--- Assumes nothing.
 use Prim.Native.Nat.{ℕ, zero, suc, _+_, _*_, _≤_, _<_}
 use mathlib.Core.List.{List, [], _∷_, _++_}
 use mathlib.Core.Path.{_≡_}

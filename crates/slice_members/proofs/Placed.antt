@@ -1,4 +1,4 @@
--- The table of the places of a list's entries, entry by entry. Assumes nothing.
+-- The table of the places of a list's entries, entry by entry.
 use Prim.Native.Nat.{ℕ, suc, _+_, _<_}
 use mathlib.Core.List.{List}
 use mathlib.Core.Path.{_≡_, refl, sym, ap, _∙_}

@@ -1,4 +1,4 @@
--- Selections part by part, and from their lowest number on; the bits of a word as a selection. Assumes nothing.
+-- Selections part by part, and from their lowest number on; the bits of a word as a selection.
 use Prim.Native.Nat.{ℕ, zero, suc, _+_, _-_, _*_, _/_, _%_, _^_, _≤_, _<_, min}
 use mathlib.Core.Bool.{Bool, true, false}
 use mathlib.Core.List.{List, [], _∷_, _++_, append-nil}

@@ -1,5 +1,4 @@
 -- The members of a set as a rising list, and the table of their places in it.
--- Assumes nothing.
 use Prim.Native.Nat.{ℕ, _-_, _≤_, _<_}
 use mathlib.Core.List.{List}
 use mathlib.Core.Path.{_≡_}

@@ -1,4 +1,4 @@
--- One turn of each loop over kept numbers. Assumes nothing.
+-- One turn of each loop over kept numbers.
 use Prim.Native.Nat.{ℕ, zero, suc, _+_, _-_, _*_, _≤_, _<_}
 use mathlib.Core.List.{List, [], _∷_, _++_}
 use mathlib.Core.Path.{_≡_, refl, ap, _∙_}

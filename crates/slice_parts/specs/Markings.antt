@@ -1,4 +1,4 @@
--- The markings of a slice file. Assumes nothing.
+-- The markings of a slice file.
 use Prim.Native.Nat.{ℕ}
 use mathlib.Core.List.{List}
 use lib.ListN.{length, getD}

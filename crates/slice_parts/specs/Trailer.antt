@@ -1,4 +1,4 @@
--- The trailer of a slice file. Assumes nothing.
+-- The trailer of a slice file.
 use Prim.Native.Nat.{ℕ}
 use mathlib.Core.List.{List, [], _∷_, _++_}
 use Rattle.file.specs.Word.{bytes16, bytes32}

@@ -1,4 +1,4 @@
--- Lists that are stored one after the other. Assumes nothing.
+-- Lists that are stored one after the other.
 use Prim.Native.Nat.{ℕ, suc, _+_, _≤_, _<_}
 use mathlib.Core.List.{List, [], _∷_, _++_}
 use mathlib.Core.Path.{_≡_, refl, ap, _∙_}

@@ -1,4 +1,4 @@
--- A list that is being stored: what stands there now, with the rest still to be stored, is the whole list stored. Assumes nothing.
+-- A list that is being stored: what stands there now, with the rest still to be stored, is the whole list stored.
 use Prim.Native.Nat.{ℕ, _+_}
 use mathlib.Core.List.{List, [], _∷_, _++_}
 use mathlib.Core.Path.{_≡_, refl, ap, _∙_}

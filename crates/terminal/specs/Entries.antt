@@ -1,4 +1,4 @@
--- A list as it stands in a file: "two bytes an entry, low byte first". Assumes nothing.
+-- A list as it stands in a file: "two bytes an entry, low byte first".
 use Prim.Native.Nat.{ℕ, _/_, min}
 use mathlib.Core.Path.{_≡_}
 use mathlib.Core.List.{List}

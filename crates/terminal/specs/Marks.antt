@@ -1,4 +1,4 @@
--- Where a text has its next mark, a %. Assumes nothing.
+-- Where a text has its next mark, a %.
 use Prim.Native.Nat.{ℕ, suc, _+_, _≤_}
 use mathlib.Core.Bool.{Bool, true, false}
 use mathlib.Core.Path.{_≡_}

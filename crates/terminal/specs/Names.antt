@@ -1,4 +1,4 @@
--- The name of the file beside, which is written first. Assumes nothing.
+-- The name of the file beside, which is written first.
 use Prim.Native.Nat.{ℕ, _+_}
 use mathlib.Core.Bool.{Bool, true, false, _||_}
 use mathlib.Core.Path.{_≡_}

@@ -8,10 +8,6 @@ use Rattle.net.specs.declared.Arc.{Arc}
 use Rattle.arcs_column.proofs.Looking.{Looked, looked-none, looked-more, looked-end}
 use Rattle.arcs_column.proofs.pulled.Statement.{statement}
 use Rattle.arcs_column.proofs.pulled.Tie as tie
-use Rattle.arcs_column.proofs.pulled.Reads as reads
-use Rattle.arcs_column.proofs.pulled.Lts as lts
-use Rattle.file.proofs.arcs.arc.Reads as arc-reads
-use Rattle.arcs_column.proofs.pulling.Reads as pulling-reads
 
 abbrev Inv-loop : tie.InvT-loop
 Inv-loop file start from to limit column₀ found₀ j₀ column found j = (from ≤ j) × (j ≤ to) × Looked file start from limit column₀ j column found
@@ -19,7 +15,6 @@ Inv-loop file start from to limit column₀ found₀ j₀ column found j = (from
 abbrev μ-loop : tie.MeasureT-loop
 μ-loop file start from to limit column₀ found₀ j₀ column found j = to - j
 
--- src/lib.rt:60:5
 place-is : (c : tie.After-arc Inv-loop μ-loop) → c .arc .result .place ≡ arcAt (c .before .before .before .before .before .before .args .file .now) (c .before .before .before .before .before .before .args .start + 8 * c .before .before .loop .j) .place
 place-is c = ap (λ (a : Arc). a .place) (c .arc .ensures .0)
 
@@ -29,55 +24,42 @@ inside c = omega (arith, place-is c, c .before .before .before .before .before .
 loop-holds : tie.Need-loop-holds Inv-loop μ-loop
 loop-holds c = (omega arith, c .before .before .before .pre .0 .rising, looked-none _ _ _ _ _)
 
--- src/lib.rt:61:49
 mul-arc : tie.Need-mul-arc Inv-loop μ-loop
 mul-arc c = search needs
 
--- src/lib.rt:61:41
 add-arc : tie.Need-add-arc Inv-loop μ-loop
 add-arc c = search needs
 
--- src/lib.rt:61:13
 arc-requires : tie.Need-arc-requires Inv-loop μ-loop
 arc-requires c κs = search needs
 
--- src/lib.rt:63:28
 mul-pulling : tie.Need-mul-pulling Inv-loop μ-loop
 mul-pulling c = search needs
 
--- src/lib.rt:63:28
 shared-slice-read-pulling : tie.Need-shared-slice-read-pulling Inv-loop μ-loop
 shared-slice-read-pulling c = omega (arith, inside (c .before), c .before .before .before .before .before .before .before .pre .1)
 
--- src/lib.rt:63:38
 mul-pulling-2 : tie.Need-mul-pulling-2 Inv-loop μ-loop
 mul-pulling-2 c = search needs
 
--- src/lib.rt:63:38
 slice-read-pulling : tie.Need-slice-read-pulling Inv-loop μ-loop
 slice-read-pulling c = omega (arith, inside (c .before .before), c .before .before .before .before .loop .inv .2 .long)
 
--- src/lib.rt:63:13
 pulling-requires : tie.Need-pulling-requires Inv-loop μ-loop
 pulling-requires c κs = search needs
 
--- src/lib.rt:64:9
 mul-column : tie.Need-mul-column Inv-loop μ-loop
 mul-column c = search needs
 
--- src/lib.rt:64:9
 slice-write-column : tie.Need-slice-write-column Inv-loop μ-loop
 slice-write-column c = omega (arith, inside (c .before .before .before), c .before .before .before .before .before .loop .inv .2 .long)
 
--- src/lib.rt:66:9
 add-j : tie.Need-add-j Inv-loop μ-loop
 add-j c = search needs
 
--- src/lib.rt:60:5
 loop-less : tie.Need-loop-less Inv-loop μ-loop
 loop-less c = search needs
 
--- src/lib.rt:60:5
 loop-again : tie.Need-loop-again Inv-loop μ-loop
 loop-again c =
     let arc = c .before .before .before in
@@ -85,11 +67,9 @@ loop-again c =
     let start = head .before .before .before .before in
     (search needs, search needs, looked-more (start .args .file .now) _ _ (start .args .limit .now) _ _ _ _ (head .loop .inv .2) (head .loop .inv .0) _ (place-is arc) (inside arc) _ (c .pulling .ensures))
 
--- src/lib.rt:45:1
 same-length : tie.Need-same-length Inv-loop μ-loop
 same-length c = search needs
 
--- src/lib.rt:45:1
 returns : tie.Need-returns Inv-loop μ-loop
 returns c =
     let at = c .before .loop in

@@ -4,22 +4,16 @@ use mir.Facts.{toZ-ofZ}
 use Rattle.arcs_effect.proofs.Differences.{difference-is, difference-fits}
 use Rattle.arcs_effect.proofs.difference.Statement.{statement}
 use Rattle.arcs_effect.proofs.difference.Tie as tie
-use Rattle.arcs_effect.proofs.difference.Reads as reads
-use Rattle.arcs_effect.proofs.difference.Lts as lts
 
--- src/lib.rt:41:6
 cast-result : tie.Need-cast-result
 cast-result c = search needs
 
--- src/lib.rt:41:19
 cast-result-2 : tie.Need-cast-result-2
 cast-result-2 c = search needs
 
--- src/lib.rt:41:5
 sub-result : tie.Need-sub-result
 sub-result c = difference-fits (c .args .a) (c .args .b) (c .pre)
 
--- src/lib.rt:37:1
 returns : tie.Need-returns
 returns c = toZ-ofZ (difference-fits (c .args .a) (c .args .b) (c .pre)) ∙ difference-is (c .args .a) (c .args .b) (c .pre)
 

@@ -5,57 +5,40 @@ use Rattle.arcs_starts.proofs.Reached.{ordered}
 use Rattle.arcs_effect.proofs.Parts.{inputs-in, outputs-in, effect-is}
 use Rattle.arcs_effect.proofs.effect.Statement.{statement}
 use Rattle.arcs_effect.proofs.effect.Tie as tie
-use Rattle.arcs_effect.proofs.effect.Reads as reads
-use Rattle.arcs_effect.proofs.effect.Lts as lts
-use Rattle.arcs_effect.proofs.difference.Reads as difference-reads
-use Rattle.arcs_effect.proofs.weight.Reads as weight-reads
-use Rattle.arcs_starts.proofs.first_from.Reads as first-from-reads
 
--- src/lib.rt:50:45
 mul-first-from : tie.Need-mul-first-from
 mul-first-from c = search needs
 
--- src/lib.rt:50:9
 first-from-requires : tie.Need-first-from-requires
 first-from-requires c κs = ordered _ _ (c .before .pre .0)
 
--- src/lib.rt:51:45
 mul-first-from-2 : tie.Need-mul-first-from-2
 mul-first-from-2 c = search needs
 
--- src/lib.rt:51:45
 add-first-from : tie.Need-add-first-from
 add-first-from c = search needs
 
--- src/lib.rt:51:9
 first-from-requires-2 : tie.Need-first-from-requires-2
 first-from-requires-2 c κs = ordered _ _ (c .before .before .pre .0)
 
--- src/lib.rt:52:45
 mul-first-from-3 : tie.Need-mul-first-from-3
 mul-first-from-3 c = search needs
 
--- src/lib.rt:52:45
 add-first-from-2 : tie.Need-add-first-from-2
 add-first-from-2 c = search needs
 
--- src/lib.rt:52:9
 first-from-requires-3 : tie.Need-first-from-requires-3
 first-from-requires-3 c κs = ordered _ _ (c .before .before .before .pre .0)
 
--- src/lib.rt:53:9
 weight-requires : tie.Need-weight-requires
 weight-requires c κs = inputs-in _ _ (c .before .before .before .before .pre .0) _ _ _ _ (c .before .before .first-from .ensures) (c .before .first-from2 .ensures) (c .first-from3 .ensures)
 
--- src/lib.rt:54:9
 weight-requires-2 : tie.Need-weight-requires-2
 weight-requires-2 c κs = outputs-in _ _ (c .before .before .before .before .before .pre .0) _ _ _ _ (c .before .before .before .first-from .ensures) (c .before .before .first-from2 .ensures) (c .before .first-from3 .ensures)
 
--- src/lib.rt:55:5
 difference-requires : tie.Need-difference-requires
 difference-requires c κs = search needs
 
--- src/lib.rt:45:1
 returns : tie.Need-returns
 returns c = toZ-ofZ (record { sfits = c .difference .ok }) ∙ c .difference .ensures ∙ effect-is _ _ (c .before .before .before .before .before .before .before .pre .0) _ _ _ _ (c .before .before .before .before .before .first-from .ensures) (c .before .before .before .before .first-from2 .ensures) (c .before .before .before .first-from3 .ensures) _ _ _ (c .before .before .weight .ensures .0) (c .before .weight2 .ensures .0)
 

@@ -5,31 +5,22 @@ use mathlib.Core.Path.{_≡_, ap, _∙_}
 use lib.ListN.{take, drop}
 use Rattle.arcs_effect.proofs.run.Statement.{statement}
 use Rattle.arcs_effect.proofs.run.Tie as tie
-use Rattle.arcs_effect.proofs.run.Reads as reads
-use Rattle.arcs_effect.proofs.run.Lts as lts
-use Rattle.arcs_effect.proofs.run_part.Reads as run-part-reads
 
--- src/lib.rt:94:9
 run-part-requires : tie.Need-run-part-requires
 run-part-requires c κs = search needs
 
--- src/lib.rt:96:13
 add-e : tie.Need-add-e
 add-e c = search needs
 
--- src/lib.rt:97:5
 sub-result : tie.Need-sub-result
 sub-result c = search needs
 
--- src/lib.rt:97:5
 part-result-start : tie.Need-part-result-start
 part-result-start c = search needs
 
--- src/lib.rt:97:5
 part-result-end : tie.Need-part-result-end
 part-result-end c = search needs
 
--- src/lib.rt:90:1
 returns : tie.Need-returns
 returns c =
     let r = c .before .before .run-part .result in

@@ -4,55 +4,40 @@ use Rattle.arcs_starts.proofs.Reached.{ordered}
 use Rattle.arcs_effect.proofs.Parts.{part-unknown, part-none, part-some}
 use Rattle.arcs_effect.proofs.run_part.Statement.{statement}
 use Rattle.arcs_effect.proofs.run_part.Tie as tie
-use Rattle.arcs_effect.proofs.run_part.Reads as reads
-use Rattle.arcs_effect.proofs.run_part.Lts as lts
-use Rattle.arcs_starts.proofs.first_from.Reads as first-from-reads
 
--- src/lib.rt:70:9
 returns : tie.Need-returns
 returns c = part-unknown _ _ (c .before .before .before .pre) _ (c .if1 .taken)
 
--- src/lib.rt:75:50
 mul-first-from : tie.Need-mul-first-from
 mul-first-from c = search needs
 
--- src/lib.rt:75:9
 first-from-requires : tie.Need-first-from-requires
 first-from-requires c κs = ordered _ _ (c .before .before .before .pre)
 
--- src/lib.rt:76:50
 mul-first-from-2 : tie.Need-mul-first-from-2
 mul-first-from-2 c = search needs
 
--- src/lib.rt:76:50
 add-first-from : tie.Need-add-first-from
 add-first-from c = search needs
 
--- src/lib.rt:76:9
 first-from-requires-2 : tie.Need-first-from-requires-2
 first-from-requires-2 c κs = ordered _ _ (c .before .before .before .before .pre)
 
--- src/lib.rt:78:9
 returns-2 : tie.Need-returns-2
 returns-2 c = part-none _ _ (c .before .before .before .before .before .before .pre) _ _ _ (c .before .before .before .if1 .left) (c .before .before .first-from .ensures) (c .before .first-from2 .ensures) (c .if2 .taken)
 
--- src/lib.rt:84:29
 mul-t8 : tie.Need-mul-t8
 mul-t8 c = search needs
 
--- src/lib.rt:84:16
 add-t7 : tie.Need-add-t7
 add-t7 c = search needs
 
--- src/lib.rt:85:22
 sub-t9 : tie.Need-sub-t9
 sub-t9 c = search needs
 
--- src/lib.rt:85:17
 mul-t10 : tie.Need-mul-t10
 mul-t10 c = search needs
 
--- src/lib.rt:65:1
 returns-3 : tie.Need-returns-3
 returns-3 c = part-some _ _ (c .before .before .before .before .before .before .before .pre) _ _ _ (c .before .before .before .before .if1 .left) (c .before .before .before .first-from .ensures) (c .before .before .first-from2 .ensures) (c .before .if2 .left)
 

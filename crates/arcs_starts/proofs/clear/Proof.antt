@@ -8,8 +8,6 @@ use lib.Seq.{getD-set-same, getD-set-other}
 use borrow.Author.Count.{below-more}
 use Rattle.arcs_starts.proofs.clear.Statement.{statement}
 use Rattle.arcs_starts.proofs.clear.Tie as tie
-use Rattle.arcs_starts.proofs.clear.Reads as reads
-use Rattle.arcs_starts.proofs.clear.Lts as lts
 
 abbrev Inv-loop : tie.InvT-loop
 Inv-loop table₀ k₀ table k = (k ≤ length table₀) × (length table ≡ length table₀) × ((i : ℕ) → i < k → getD table i 0 ≡ 0)
@@ -17,27 +15,21 @@ Inv-loop table₀ k₀ table k = (k ≤ length table₀) × (length table ≡ le
 abbrev μ-loop : tie.MeasureT-loop
 μ-loop table₀ k₀ table k = length table₀ - k
 
--- src/lib.rt:21:5
 loop-holds : tie.Need-loop-holds Inv-loop μ-loop
 loop-holds c = (omega arith, refl, λ i l. absurd (omega arith))
 
--- src/lib.rt:22:9
 mul-table : tie.Need-mul-table Inv-loop μ-loop
 mul-table c = search needs
 
--- src/lib.rt:22:9
 slice-write-table : tie.Need-slice-write-table Inv-loop μ-loop
 slice-write-table c = search needs
 
--- src/lib.rt:23:9
 add-k : tie.Need-add-k Inv-loop μ-loop
 add-k c = search needs
 
--- src/lib.rt:21:5
 loop-less : tie.Need-loop-less Inv-loop μ-loop
 loop-less c = search needs
 
--- src/lib.rt:21:5
 loop-again : tie.Need-loop-again Inv-loop μ-loop
 loop-again c =
     let at = c .before .loop in (
@@ -47,11 +39,9 @@ loop-again c =
           (λ i l. getD-set-other (at .table) (at .k) i 0 0 (λ e. omega arith) ∙ at .inv .2 i l) (getD-set-same (at .table) (at .k) 0 0 (omega arith)),
     )
 
--- src/lib.rt:17:1
 same-length : tie.Need-same-length Inv-loop μ-loop
 same-length c = search needs
 
--- src/lib.rt:17:1
 returns : tie.Need-returns Inv-loop μ-loop
 returns c = (c .before .loop .inv .1, λ i. zero-at i (decLt i (c .before .loop .k)))
   where

@@ -10,10 +10,6 @@ use lib.ListN.{length}
 use Rattle.arcs_starts.proofs.Splits.{Ended, ended-none, ended-more}
 use Rattle.arcs_starts.proofs.ends.Statement.{statement}
 use Rattle.arcs_starts.proofs.ends.Tie as tie
-use Rattle.arcs_starts.proofs.ends.Reads as reads
-use Rattle.arcs_starts.proofs.ends.Lts as lts
-use Rattle.file.proofs.arcs.arc.Reads as arc-reads
-use Rattle.arcs_starts.proofs.slot.Reads as slot-reads
 
 abbrev Inv-loop : tie.InvT-loop
 Inv-loop file start count table₀ j₀ table j = (j ≤ count) × Ended file start j (length table₀) table
@@ -21,7 +17,6 @@ Inv-loop file start count table₀ j₀ table j = (j ≤ count) × Ended file st
 abbrev μ-loop : tie.MeasureT-loop
 μ-loop file start count table₀ j₀ table j = count - j
 
--- src/lib.rt:34:5
 slot-is : (c : tie.After-slot Inv-loop μ-loop) → c .slot .result ≡ slotAt (c .before .before .before .before .before .before .args .file .now) (c .before .before .before .before .before .before .args .start) (c .before .before .before .loop .j)
 unfolding slotAt
 slot-is c = c .slot .ensures .0 ∙ ap slotOf (c .before .arc .ensures .0)
@@ -32,59 +27,45 @@ inside c = omega (arith, slot-is c, c .before .before .before .before .before .b
 loop-holds : tie.Need-loop-holds Inv-loop μ-loop
 loop-holds c = (search needs, ended-none _ _ _ _ refl (c .before .before .pre .1))
 
--- src/lib.rt:35:49
 mul-arc : tie.Need-mul-arc Inv-loop μ-loop
 mul-arc c = search needs
 
--- src/lib.rt:35:41
 add-arc : tie.Need-add-arc Inv-loop μ-loop
 add-arc c = search needs
 
--- src/lib.rt:35:13
 arc-requires : tie.Need-arc-requires Inv-loop μ-loop
 arc-requires c κs = search needs
 
--- src/lib.rt:36:13
 slot-requires : tie.Need-slot-requires Inv-loop μ-loop
 slot-requires c κs = search needs
 
--- src/lib.rt:37:25
 add-table : tie.Need-add-table Inv-loop μ-loop
 add-table c = search needs
 
--- src/lib.rt:37:24
 cast-table : tie.Need-cast-table Inv-loop μ-loop
 cast-table c = search needs
 
--- src/lib.rt:37:15
 add-table-2 : tie.Need-add-table-2 Inv-loop μ-loop
 add-table-2 c = search needs
 
--- src/lib.rt:37:9
 mul-table : tie.Need-mul-table Inv-loop μ-loop
 mul-table c = search needs
 
--- src/lib.rt:37:9
 slice-write-table : tie.Need-slice-write-table Inv-loop μ-loop
 slice-write-table c = omega (arith, inside c, c .before .before .before .loop .inv .1 .long)
 
--- src/lib.rt:38:9
 add-j : tie.Need-add-j Inv-loop μ-loop
 add-j c = search needs
 
--- src/lib.rt:34:5
 loop-less : tie.Need-loop-less Inv-loop μ-loop
 loop-less c = search needs
 
--- src/lib.rt:34:5
 loop-again : tie.Need-loop-again Inv-loop μ-loop
 loop-again c = (search needs, ended-more (c .before .before .before .loop .inv .1) _ (slot-is c) (inside c))
 
--- src/lib.rt:28:1
 same-length : tie.Need-same-length Inv-loop μ-loop
 same-length c = search needs
 
--- src/lib.rt:28:1
 returns : tie.Need-returns Inv-loop μ-loop
 returns c =
     let at = c .before .loop in

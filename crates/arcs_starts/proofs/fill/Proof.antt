@@ -4,9 +4,6 @@ use native.Mathlib.Omega.{arith}
 use Rattle.arcs_starts.proofs.Splits.{Filled, filled-none, filled-more}
 use Rattle.arcs_starts.proofs.fill.Statement.{statement}
 use Rattle.arcs_starts.proofs.fill.Tie as tie
-use Rattle.arcs_starts.proofs.fill.Reads as reads
-use Rattle.arcs_starts.proofs.fill.Lts as lts
-use Rattle.arcs_starts.proofs.larger_of.Reads as larger-of-reads
 
 abbrev Inv-loop : tie.InvT-loop
 Inv-loop last table₀ most₀ k₀ table most k = (k ≤ last) × Filled table₀ most k table
@@ -14,55 +11,42 @@ Inv-loop last table₀ most₀ k₀ table most k = (k ≤ last) × Filled table�
 abbrev μ-loop : tie.MeasureT-loop
 μ-loop last table₀ most₀ k₀ table most k = last - k
 
--- src/lib.rt:56:5
 loop-holds : tie.Need-loop-holds Inv-loop μ-loop
 loop-holds c = (search needs, filled-none _ (c .before .pre .1))
 
--- src/lib.rt:57:38
 add-larger-of : tie.Need-add-larger-of Inv-loop μ-loop
 add-larger-of c = search needs
 
--- src/lib.rt:57:32
 mul-larger-of : tie.Need-mul-larger-of Inv-loop μ-loop
 mul-larger-of c = search needs
 
--- src/lib.rt:57:32
 slice-read-larger-of : tie.Need-slice-read-larger-of Inv-loop μ-loop
 slice-read-larger-of c = search needs
 
--- src/lib.rt:57:9
 larger-of-requires : tie.Need-larger-of-requires Inv-loop μ-loop
 larger-of-requires c κs = search needs
 
--- src/lib.rt:58:15
 add-table : tie.Need-add-table Inv-loop μ-loop
 add-table c = search needs
 
--- src/lib.rt:58:9
 mul-table : tie.Need-mul-table Inv-loop μ-loop
 mul-table c = search needs
 
--- src/lib.rt:58:9
 slice-write-table : tie.Need-slice-write-table Inv-loop μ-loop
 slice-write-table c = search needs
 
--- src/lib.rt:59:9
 add-k : tie.Need-add-k Inv-loop μ-loop
 add-k c = search needs
 
--- src/lib.rt:56:5
 loop-less : tie.Need-loop-less Inv-loop μ-loop
 loop-less c = search needs
 
--- src/lib.rt:56:5
 loop-again : tie.Need-loop-again Inv-loop μ-loop
 loop-again c = (search needs, filled-more (c .before .before .before .loop .inv .1) (omega (arith, c .before .before .before .before .before .pre .0, c .before .before .loop-test .taken)) _ (c .larger-of .ensures))
 
--- src/lib.rt:49:1
 same-length : tie.Need-same-length Inv-loop μ-loop
 same-length c = search needs
 
--- src/lib.rt:49:1
 returns : tie.Need-returns Inv-loop μ-loop
 returns c =
     let at = c .before .loop in (

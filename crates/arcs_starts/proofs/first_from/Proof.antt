@@ -6,10 +6,6 @@ use Rattle.arcs_starts.specs.Table.{slotOf, slotAt, Ordered}
 use Rattle.arcs_starts.proofs.Halving.{Halving, halving-start, halving-up, halving-down}
 use Rattle.arcs_starts.proofs.first_from.Statement.{statement}
 use Rattle.arcs_starts.proofs.first_from.Tie as tie
-use Rattle.arcs_starts.proofs.first_from.Reads as reads
-use Rattle.arcs_starts.proofs.first_from.Lts as lts
-use Rattle.file.proofs.arcs.arc.Reads as arc-reads
-use Rattle.arcs_starts.proofs.slot.Reads as slot-reads
 
 abbrev Inv-loop : tie.InvT-loop
 Inv-loop file start count k low₀ high₀ low high = Halving (Ordered file start count) (slotAt file start) 0 count k low high
@@ -22,51 +18,39 @@ slot-is : (c : tie.After-slot Inv-loop μ-loop)
 unfolding slotAt
 slot-is c = c .slot .ensures .0 ∙ ap slotOf (c .before .arc .ensures .0)
 
--- src/lib.rt:80:5
 loop-holds : tie.Need-loop-holds Inv-loop μ-loop
 loop-holds c = halving-start (c .before .pre) (λ i j f. c .before .pre .order i j) (omega arith)
 
--- src/lib.rt:81:23
 add-middle : tie.Need-add-middle Inv-loop μ-loop
 add-middle c = search needs
 
--- src/lib.rt:82:47
 mul-arc : tie.Need-mul-arc Inv-loop μ-loop
 mul-arc c = search needs
 
--- src/lib.rt:82:39
 add-arc : tie.Need-add-arc Inv-loop μ-loop
 add-arc c = search needs
 
--- src/lib.rt:82:13
 arc-requires : tie.Need-arc-requires Inv-loop μ-loop
 arc-requires c κs = search needs
 
--- src/lib.rt:83:12
 slot-requires : tie.Need-slot-requires Inv-loop μ-loop
 slot-requires c κs = search needs
 
--- src/lib.rt:84:19
 add-low : tie.Need-add-low Inv-loop μ-loop
 add-low c = search needs
 
--- src/lib.rt:80:5
 loop-less : tie.Need-loop-less Inv-loop μ-loop
 loop-less c = search needs
 
--- src/lib.rt:80:5
 loop-again : tie.Need-loop-again Inv-loop μ-loop
 loop-again c = halving-up (c .before .before .before .before .loop .inv) _ (omega (arith, c .before .before .before .loop-test .taken)) (omega (arith, c .before .before .before .loop-test .taken)) (slot-is (c .before)) (c .if1 .taken)
 
--- src/lib.rt:80:5
 loop-less-2 : tie.Need-loop-less-2 Inv-loop μ-loop
 loop-less-2 c = search needs
 
--- src/lib.rt:80:5
 loop-again-2 : tie.Need-loop-again-2 Inv-loop μ-loop
 loop-again-2 c = halving-down (c .before .before .before .before .loop .inv) _ (omega (arith, c .before .before .before .loop-test .taken)) (omega (arith, c .before .before .before .loop-test .taken)) (slot-is (c .before)) (c .if1 .left)
 
--- src/lib.rt:74:1
 returns : tie.Need-returns Inv-loop μ-loop
 returns c =
     let x = c .before .loop .inv in

@@ -5,17 +5,10 @@ use Rattle.arcs_starts.specs.Table.{Split}
 use Rattle.arcs_starts.proofs.Splits.{splits}
 use Rattle.arcs_starts.proofs.starts.Statement.{statement}
 use Rattle.arcs_starts.proofs.starts.Tie as tie
-use Rattle.arcs_starts.proofs.starts.Reads as reads
-use Rattle.arcs_starts.proofs.starts.Lts as lts
-use Rattle.arcs_starts.proofs.clear.Reads as clear-reads
-use Rattle.arcs_starts.proofs.ends.Reads as ends-reads
-use Rattle.arcs_starts.proofs.fill.Reads as fill-reads
 
--- src/lib.rt:68:5
 clear-requires : tie.Need-clear-requires
 clear-requires c κs = search needs
 
--- src/lib.rt:69:5
 ends-requires : tie.Need-ends-requires
 ends-requires c κs =
     let clear = c .before .before .before in
@@ -23,19 +16,15 @@ ends-requires c κs =
     let cleared = clear .clear .ensures in
     (record { fit = pre .fit; few = pre .few; slots = λ i l. omega (arith, pre .slots i l, pre .long, cleared .0) }, cleared .1)
 
--- src/lib.rt:70:10
 mul-fill : tie.Need-mul-fill
 mul-fill c = search needs
 
--- src/lib.rt:70:5
 fill-requires : tie.Need-fill-requires
 fill-requires c κs = search needs
 
--- src/lib.rt:64:1
 same-length : tie.Need-same-length
 same-length c = search needs
 
--- src/lib.rt:64:1
 returns : tie.Need-returns
 returns c =
     let fill = c .before .before in

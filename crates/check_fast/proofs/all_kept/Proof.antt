@@ -7,9 +7,6 @@ use Rattle.check_fast.specs.Entries.{leftPlace}
 use borrow.Author.Needs.{needs}
 use Rattle.check_fast.proofs.all_kept.Statement.{statement}
 use Rattle.check_fast.proofs.all_kept.Tie as tie
-use Rattle.check_fast.proofs.all_kept.Reads as reads
-use Rattle.check_fast.proofs.all_kept.Lts as lts
-use Rattle.check_fast.proofs.wide.Reads as wide-reads
 
 abbrev Inv-loop : tie.InvT-loop
 Inv-loop criterion places i₀ i = (i ≤ length criterion) × ((k : ℕ) → k < i → getD places (getD criterion k 0) 0 ≡ leftPlace → ⊥)
@@ -17,45 +14,35 @@ Inv-loop criterion places i₀ i = (i ≤ length criterion) × ((k : ℕ) → k 
 abbrev μ-loop : tie.MeasureT-loop
 μ-loop criterion places i₀ i = length criterion - i
 
--- src/lib.rt:53:5
 loop-holds : tie.Need-loop-holds Inv-loop μ-loop
 loop-holds c = (omega arith, λ k l. absurd (omega arith))
 
--- src/lib.rt:54:22
 mul-wide : tie.Need-mul-wide Inv-loop μ-loop
 mul-wide c = search needs
 
--- src/lib.rt:54:22
 shared-slice-read-wide : tie.Need-shared-slice-read-wide Inv-loop μ-loop
 shared-slice-read-wide c = search needs
 
--- src/lib.rt:54:13
 wide-requires : tie.Need-wide-requires Inv-loop μ-loop
 wide-requires c κs = search needs
 
--- src/lib.rt:55:12
 mul-if1 : tie.Need-mul-if1 Inv-loop μ-loop
 mul-if1 c = search needs
 
--- src/lib.rt:55:12
 shared-slice-read-if1 : tie.Need-shared-slice-read-if1 Inv-loop μ-loop
 shared-slice-read-if1 c =
     let i = c .before .before .before .before .loop .i in
     omega (arith, c .before .wide .ensures .0, c .before .before .before .before .before .before .before .pre .at i (c .before .before .before .loop-test .taken))
 
--- src/lib.rt:56:13
 returns : tie.Need-returns Inv-loop μ-loop
 returns c = λ e. absurd (let z : _≡_ {A = ℕ} 0 1 = cc in omega arith)
 
--- src/lib.rt:58:9
 add-i : tie.Need-add-i Inv-loop μ-loop
 add-i c = search needs
 
--- src/lib.rt:53:5
 loop-less : tie.Need-loop-less Inv-loop μ-loop
 loop-less c = search needs
 
--- src/lib.rt:53:5
 loop-again : tie.Need-loop-again Inv-loop μ-loop
 loop-again c = (
   omega arith,
@@ -63,7 +50,6 @@ loop-again c = (
       (λ z. c .if1 .left (ap (λ (q : ℕ). getD (c .before .before .before .before .before .before .before .before .args .places .now) q 0) (c .before .before .wide .ensures .0) ∙ z)),
 )
 
--- src/lib.rt:48:1
 returns-2 : tie.Need-returns-2 Inv-loop μ-loop
 returns-2 c = λ e i l. c .before .loop .inv .1 i (omega arith)
 

@@ -9,9 +9,6 @@ use Rattle.check_fast.proofs.Growing.{marked-none, marked-next}
 use borrow.Author.Needs.{needs}
 use Rattle.check_fast.proofs.mark.Statement.{statement}
 use Rattle.check_fast.proofs.mark.Tie as tie
-use Rattle.check_fast.proofs.mark.Reads as reads
-use Rattle.check_fast.proofs.mark.Lts as lts
-use Rattle.check_fast.proofs.wide.Reads as wide-reads
 
 abbrev Inv-loop : tie.InvT-loop
 Inv-loop criterion places₀ i₀ places i = (i ≤ length criterion) × Marked (take i criterion) places₀ places
@@ -19,59 +16,46 @@ Inv-loop criterion places₀ i₀ places i = (i ≤ length criterion) × Marked 
 abbrev μ-loop : tie.MeasureT-loop
 μ-loop criterion places₀ i₀ places i = length criterion - i
 
--- src/lib.rt:69:5
 loop-holds : tie.Need-loop-holds Inv-loop μ-loop
 loop-holds c = (omega arith, marked-none _)
 
--- src/lib.rt:70:22
 mul-wide : tie.Need-mul-wide Inv-loop μ-loop
 mul-wide c = search needs
 
--- src/lib.rt:70:22
 shared-slice-read-wide : tie.Need-shared-slice-read-wide Inv-loop μ-loop
 shared-slice-read-wide c = search needs
 
--- src/lib.rt:70:13
 wide-requires : tie.Need-wide-requires Inv-loop μ-loop
 wide-requires c κs = search needs
 
--- src/lib.rt:71:21
 mul-places : tie.Need-mul-places Inv-loop μ-loop
 mul-places c = search needs
 
--- src/lib.rt:71:21
 slice-read-places : tie.Need-slice-read-places Inv-loop μ-loop
 slice-read-places c =
     let i = c .before .before .before .before .loop .i in
     omega (arith, c .before .wide .ensures .0, c .before .before .before .before .before .before .before .pre .at i (c .before .before .before .loop-test .taken), c .before .before .before .before .loop .inv .1 .long)
 
--- src/lib.rt:71:21
 mul-places-2 : tie.Need-mul-places-2 Inv-loop μ-loop
 mul-places-2 c = omega (arith, c .slice-known2 .given (c .before .wide .result))
 
--- src/lib.rt:71:21
 add-places : tie.Need-add-places Inv-loop μ-loop
 add-places c = omega (arith, c .slice-known2 .given (c .before .wide .result))
 
--- src/lib.rt:71:9
 mul-places-3 : tie.Need-mul-places-3 Inv-loop μ-loop
 mul-places-3 c = search needs
 
--- src/lib.rt:71:9
 slice-write-places : tie.Need-slice-write-places Inv-loop μ-loop
 slice-write-places c =
     let i = c .before .before .before .before .loop .i in
     omega (arith, c .before .wide .ensures .0, c .before .before .before .before .before .before .before .pre .at i (c .before .before .before .loop-test .taken), c .before .before .before .before .loop .inv .1 .long)
 
--- src/lib.rt:72:9
 add-i : tie.Need-add-i Inv-loop μ-loop
 add-i c = search needs
 
--- src/lib.rt:69:5
 loop-less : tie.Need-loop-less Inv-loop μ-loop
 loop-less c = search needs
 
--- src/lib.rt:69:5
 loop-again : tie.Need-loop-again Inv-loop μ-loop
 loop-again c =
     let at = c .before .before .before .before .loop in (
@@ -79,11 +63,9 @@ loop-again c =
       marked-next _ (at .i) (c .before .before .before .loop-test .taken) (at .inv .1) (c .before .wide .ensures .0) refl,
     )
 
--- src/lib.rt:64:1
 same-length : tie.Need-same-length Inv-loop μ-loop
 same-length c = search needs
 
--- src/lib.rt:64:1
 returns : tie.Need-returns Inv-loop μ-loop
 returns c =
     let Q = c .before .before .before .before .args .criterion .now in

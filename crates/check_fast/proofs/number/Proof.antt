@@ -12,9 +12,6 @@ use Rattle.check_fast.proofs.Growing.{numbered-none, numbered-next}
 use borrow.Author.Needs.{needs}
 use Rattle.check_fast.proofs.number.Statement.{statement}
 use Rattle.check_fast.proofs.number.Tie as tie
-use Rattle.check_fast.proofs.number.Reads as reads
-use Rattle.check_fast.proofs.number.Lts as lts
-use Rattle.file.proofs.word.get16.Reads as get16-reads
 
 abbrev Inv-loop : tie.InvT-loop
 Inv-loop file start count unit table₀ i₀ table i = (i ≤ count) × Numbered unit (take i (wordsFrom file start count)) table₀ table
@@ -22,27 +19,21 @@ Inv-loop file start count unit table₀ i₀ table i = (i ≤ count) × Numbered
 abbrev μ-loop : tie.MeasureT-loop
 μ-loop file start count unit table₀ i₀ table i = count - i
 
--- src/lib.rt:34:5
 loop-holds : tie.Need-loop-holds Inv-loop μ-loop
 loop-holds c = (omega arith, numbered-none _ _)
 
--- src/lib.rt:35:42
 mul-get16 : tie.Need-mul-get16 Inv-loop μ-loop
 mul-get16 c = search needs
 
--- src/lib.rt:35:34
 add-get16 : tie.Need-add-get16 Inv-loop μ-loop
 add-get16 c = search needs
 
--- src/lib.rt:35:13
 get16-requires : tie.Need-get16-requires Inv-loop μ-loop
 get16-requires c κs = search needs
 
--- src/lib.rt:36:33
 add-table : tie.Need-add-table Inv-loop μ-loop
 add-table c = search needs
 
--- src/lib.rt:36:33
 sub-table : tie.Need-sub-table Inv-loop μ-loop
 sub-table c =
     let a = c .before .before .before .before .before .args in
@@ -51,17 +42,14 @@ sub-table c =
     let e = words-at (a .file .now) (a .start) (a .count) i (c .before .loop-test .taken) in
     omega (arith, e, c .get16 .ensures .0, c .before .before .before .before .before .pre .1 .0 .at i l, c .before .before .before .before .before .pre .1 .0 .few)
 
--- src/lib.rt:36:25
 mul-table : tie.Need-mul-table Inv-loop μ-loop
 mul-table c =
     let small : 1024 + c .before .before .loop .i - c .get16 .result ≤ 2048 = omega (arith, c .before .before .before .before .before .pre .0 .few, c .before .loop-test .taken) in
     omega (arith, mul-le-mul (c .before .before .before .before .before .pre .1 .1) small)
 
--- src/lib.rt:36:9
 mul-table-2 : tie.Need-mul-table-2 Inv-loop μ-loop
 mul-table-2 c = search needs
 
--- src/lib.rt:36:9
 slice-write-table : tie.Need-slice-write-table Inv-loop μ-loop
 slice-write-table c =
     let a = c .before .before .before .before .before .args in
@@ -70,15 +58,12 @@ slice-write-table c =
     let e = words-at (a .file .now) (a .start) (a .count) i (c .before .loop-test .taken) in
     omega (arith, e, c .get16 .ensures .0, c .before .before .before .before .before .pre .1 .0 .at i l, c .before .before .loop .inv .1 .long)
 
--- src/lib.rt:37:9
 add-i : tie.Need-add-i Inv-loop μ-loop
 add-i c = search needs
 
--- src/lib.rt:34:5
 loop-less : tie.Need-loop-less Inv-loop μ-loop
 loop-less c = search needs
 
--- src/lib.rt:34:5
 loop-again : tie.Need-loop-again Inv-loop μ-loop
 loop-again c =
     let at = c .before .before .loop in
@@ -89,11 +74,9 @@ loop-again c =
           (c .get16 .ensures .0 ∙ sym (words-at _ _ _ _ (c .before .loop-test .taken))) refl,
     )
 
--- src/lib.rt:27:1
 same-length : tie.Need-same-length Inv-loop μ-loop
 same-length c = search needs
 
--- src/lib.rt:27:1
 returns : tie.Need-returns Inv-loop μ-loop
 returns c =
     let a = c .before .before .before .before .args in

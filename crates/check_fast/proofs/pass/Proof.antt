@@ -9,10 +9,6 @@ use borrow.Author.Needs.{needs}
 use borrow.Author.Tests.{not-false}
 use Rattle.check_fast.proofs.pass.Statement.{statement}
 use Rattle.check_fast.proofs.pass.Tie as tie
-use Rattle.check_fast.proofs.pass.Reads as reads
-use Rattle.check_fast.proofs.pass.Lts as lts
-use Rattle.check_fast.proofs.settled.Reads as settled-reads
-use Rattle.check_fast.proofs.stretch.Reads as stretch-reads
 
 abbrev Inv-loop : tie.InvT-loop
 Inv-loop plan hp slice hs criterion places transitions at₀ looks₀ at looks = Walked plan hp slice hs criterion (at .arc) (at .own) (at .differs)
@@ -20,54 +16,42 @@ Inv-loop plan hp slice hs criterion places transitions at₀ looks₀ at looks =
 abbrev μ-loop : tie.MeasureT-loop
 μ-loop plan hp slice hs criterion places transitions at₀ looks₀ at looks = looks
 
--- src/lib.rt:239:9
 stretch-requires : tie.Need-stretch-requires Inv-loop μ-loop
 stretch-requires c κs = (c .before .before .before .before .before .pre, walked-start _ _ _ _ _)
 
--- src/lib.rt:241:5
 loop-holds : tie.Need-loop-holds Inv-loop μ-loop
 loop-holds c = c .stretch .ensures
 
--- src/lib.rt:243:13
 returns : tie.Need-returns Inv-loop μ-loop
 returns c = λ e. apart e refl
 
--- src/lib.rt:246:13
 returns-2 : tie.Need-returns-2 Inv-loop μ-loop
 returns-2 c = λ e. apart e refl
 
--- src/lib.rt:248:13
 settled-requires : tie.Need-settled-requires Inv-loop μ-loop
 settled-requires c κs = (c .before .before .before .before .before .before .before .before .before .before .before .before .before .before .pre, c .before .before .before .before .if1 .taken)
 
--- src/lib.rt:249:13
 returns-3 : tie.Need-returns-3 Inv-loop μ-loop
 returns-3 c = λ e. apart e refl
 
--- src/lib.rt:252:18
 add-t15 : tie.Need-add-t15 Inv-loop μ-loop
 add-t15 c = search needs
 
--- src/lib.rt:256:13
 stretch-requires-2 : tie.Need-stretch-requires-2 Inv-loop μ-loop
 stretch-requires-2 c κs = (c .before .before .before .before .before .before .before .before .before .before .before .before .before .before .before .before .before .pre, walked-past _ _ _ _ _ _ _ _ (c .before .before .before .before .before .before .before .before .before .before .loop .inv) (c .before .before .before .before .before .before .before .if1 .taken) (c .before .before .settled .ensures (not-false _ (c .before .if4 .left))))
 
--- src/lib.rt:258:9
 sub-looks : tie.Need-sub-looks Inv-loop μ-loop
 sub-looks c = search needs
 
--- src/lib.rt:241:5
 loop-less : tie.Need-loop-less Inv-loop μ-loop
 loop-less c = search needs
 
--- src/lib.rt:241:5
 loop-again : tie.Need-loop-again Inv-loop μ-loop
 loop-again c = c .stretch2 .ensures
 
 quiet-requires : tie.Need-quiet-requires Inv-loop μ-loop
 quiet-requires c κs = search needs
 
--- src/lib.rt:222:1
 returns-4 : tie.Need-returns-4 Inv-loop μ-loop
 returns-4 c = λ e.
     let at = c .before .before .before .before .before .before .loop .at in

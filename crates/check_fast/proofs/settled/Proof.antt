@@ -8,64 +8,44 @@ use Rattle.check_fast.proofs.Settling.{settled-raise, settled-change, n
 use borrow.Author.Needs.{needs}
 use Rattle.check_fast.proofs.settled.Statement.{statement}
 use Rattle.check_fast.proofs.settled.Tie as tie
-use Rattle.check_fast.proofs.settled.Reads as reads
-use Rattle.check_fast.proofs.settled.Lts as lts
-use Rattle.check_fast.proofs.balances.Reads as balances-reads
-use Rattle.check_fast.proofs.joined.Reads as joined-reads
-use Rattle.check_fast.proofs.lowers.Reads as lowers-reads
-use Rattle.file.proofs.arcs.arc_of.Reads as arc-of-reads
-use Rattle.file.proofs.arcs.word.Reads as word-reads
-use Rattle.arcs_effect.proofs.effect.Reads as effect-reads
 
--- src/lib.rt:160:38
 mul-word : tie.Need-mul-word
 mul-word c = search needs
 
--- src/lib.rt:160:24
 add-word : tie.Need-add-word
 add-word c = search needs
 
--- src/lib.rt:160:9
 word-requires : tie.Need-word-requires
 word-requires c κs = search needs
 
--- src/lib.rt:161:9
 joined-requires : tie.Need-joined-requires
 joined-requires c κs =
     let f = joined-fits _ _ _ _ _ _ _ (c .before .before .before .before .before .before .before .pre .0) _ (c .before .before .before .before .before .before .before .pre .1) _ (c .word .ensures) (omega arith) in
     ((f .0, f .1), f .2)
 
--- src/lib.rt:162:9
 arc-of-requires : tie.Need-arc-of-requires
 arc-of-requires c κs = search needs
 
--- src/lib.rt:165:23
 effect-requires : tie.Need-effect-requires
 effect-requires c κs = (c .before .before .before .before .before .before .before .before .before .before .pre .0 .planned, omega (arith, good-word _ _ _ _ _ _ _ (c .before .before .before .before .before .before .before .before .before .before .pre .0) _ (c .before .before .before .before .before .before .before .before .before .before .pre .1) _ (c .before .before .before .word .ensures) (omega arith) .transition, ap (λ (a : Arc). a .transition) (c .before .arc-of .ensures .0)))
 
--- src/lib.rt:165:9
 lowers-requires : tie.Need-lowers-requires
 lowers-requires c κs = search needs
 
--- src/lib.rt:165:9
 returns : tie.Need-returns
 returns c = λ h. settled-raise _ _ _ _ _ _ _ (c .before .before .before .before .before .before .before .before .before .before .before .before .pre .0) _ (c .before .before .before .before .before .before .before .before .before .before .before .before .pre .1) _ (c .before .before .before .before .before .word .ensures) (omega arith) _ (c .before .before .before .before .joined .ensures) _ (c .before .before .before .arc-of .ensures .0) _ (toZ-ofZ (record { sfits = c .before .effect .ok }) ∙ c .before .effect .ensures) (c .before .before .if1 .taken) (sym (c .lowers .ensures) ∙ h)
 
--- src/lib.rt:168:25
 effect-requires-2 : tie.Need-effect-requires-2
 effect-requires-2 c κs = (c .before .before .before .before .before .before .before .before .before .before .before .pre .0 .planned, omega (arith, good-word _ _ _ _ _ _ _ (c .before .before .before .before .before .before .before .before .before .before .before .pre .0) _ (c .before .before .before .before .before .before .before .before .before .before .before .pre .1) _ (c .before .before .before .before .word .ensures) (omega arith) .transition, ap (λ (a : Arc). a .transition) (c .before .before .arc-of .ensures .0)))
 
--- src/lib.rt:168:9
 balances-requires : tie.Need-balances-requires
 balances-requires c κs = search needs
 
--- src/lib.rt:168:9
 returns-2 : tie.Need-returns-2
 returns-2 c = λ h.
     let f = nine-ten _ (c .before .before .if2 .taken) in
     settled-change _ _ _ _ _ _ _ (c .before .before .before .before .before .before .before .before .before .before .before .before .before .pre .0) _ (c .before .before .before .before .before .before .before .before .before .before .before .before .before .pre .1) _ (c .before .before .before .before .before .before .word .ensures) (omega arith) _ (c .before .before .before .before .before .joined .ensures) _ (c .before .before .before .before .arc-of .ensures .0) _ (toZ-ofZ (record { sfits = c .before .effect2 .ok }) ∙ c .before .effect2 .ensures) (f .0) (f .1) (sym (c .balances .ensures) ∙ h)
 
--- src/lib.rt:146:1
 returns-3 : tie.Need-returns-3
 returns-3 c = λ e. apart e refl
 

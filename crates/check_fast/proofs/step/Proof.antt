@@ -4,20 +4,13 @@ use Rattle.net.specs.Net.{counted}
 use borrow.Author.Needs.{needs}
 use Rattle.check_fast.proofs.step.Statement.{statement}
 use Rattle.check_fast.proofs.step.Tie as tie
-use Rattle.check_fast.proofs.step.Reads as reads
-use Rattle.check_fast.proofs.step.Lts as lts
-use Rattle.check_fast.proofs.chosen.Reads as chosen-reads
-use Rattle.check_fast.proofs.kept.Reads as kept-reads
 
--- src/lib.rt:126:12
 kept-requires : tie.Need-kept-requires
 kept-requires c κs = search needs
 
--- src/lib.rt:126:5
 chosen-requires : tie.Need-chosen-requires
 chosen-requires c κs = search needs
 
--- src/lib.rt:123:1
 returns : tie.Need-returns
 returns c = c .chosen .ensures ∙ ap (λ (b : Bool). counted b 1) (c .before .kept .ensures)
 

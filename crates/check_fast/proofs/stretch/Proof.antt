@@ -7,13 +7,6 @@ use native.Mathlib.Omega.{arith}
 use borrow.Author.Needs.{needs}
 use Rattle.check_fast.proofs.stretch.Statement.{statement}
 use Rattle.check_fast.proofs.stretch.Tie as tie
-use Rattle.check_fast.proofs.stretch.Reads as reads
-use Rattle.check_fast.proofs.stretch.Lts as lts
-use Rattle.check_fast.proofs.joined.Reads as joined-reads
-use Rattle.check_fast.proofs.odd.Reads as odd-reads
-use Rattle.check_fast.proofs.step.Reads as step-reads
-use Rattle.check_fast.proofs.unlike.Reads as unlike-reads
-use Rattle.file.proofs.arcs.word.Reads as word-reads
 
 abbrev Inv-loop : tie.InvT-loop
 Inv-loop plan hp slice hs criterion places transitions start first j₀ k₀ differs₀ j k differs = Walked plan hp slice hs criterion j k differs
@@ -21,77 +14,59 @@ Inv-loop plan hp slice hs criterion places transitions start first j₀ k₀ dif
 abbrev μ-loop : tie.MeasureT-loop
 μ-loop plan hp slice hs criterion places transitions start first j₀ k₀ differs₀ j k differs = hp .arcs - j
 
--- src/lib.rt:177:5
 loop-holds : tie.Need-loop-holds Inv-loop μ-loop
 loop-holds c = c .before .before .before .before .before .pre .1
 
--- src/lib.rt:179:13
 returns : tie.Need-returns Inv-loop μ-loop
 returns c = c .before .before .before .before .loop .inv
 
--- src/lib.rt:185:36
 mul-word : tie.Need-mul-word Inv-loop μ-loop
 mul-word c = search needs
 
--- src/lib.rt:185:28
 add-word : tie.Need-add-word Inv-loop μ-loop
 add-word c = search needs
 
--- src/lib.rt:185:13
 word-requires : tie.Need-word-requires Inv-loop μ-loop
 word-requires c κs = search needs
 
--- src/lib.rt:186:13
 joined-requires : tie.Need-joined-requires Inv-loop μ-loop
 joined-requires c κs =
     let f = joined-fits _ _ _ _ _ _ _ (c .before .before .before .before .before .before .before .before .before .before .before .pre .0) _ (c .before .before .before .if1 .taken) _ (c .word .ensures) (omega arith) in
     ((f .0, f .1), f .2)
 
--- src/lib.rt:187:12
 odd-requires : tie.Need-odd-requires Inv-loop μ-loop
 odd-requires c κs = search needs
 
--- src/lib.rt:188:13
 returns-2 : tie.Need-returns-2 Inv-loop μ-loop
 returns-2 c = c .before .before .before .before .before .before .before .before .loop .inv
 
--- src/lib.rt:194:59
 mul-word-2 : tie.Need-mul-word-2 Inv-loop μ-loop
 mul-word-2 c = search needs
 
--- src/lib.rt:194:51
 add-word-2 : tie.Need-add-word-2 Inv-loop μ-loop
 add-word-2 c = search needs
 
--- src/lib.rt:194:39
 word-requires-2 : tie.Need-word-requires-2 Inv-loop μ-loop
 word-requires-2 c κs = search needs
 
--- src/lib.rt:194:29
 unlike-requires : tie.Need-unlike-requires Inv-loop μ-loop
 unlike-requires c κs = search needs
 
--- src/lib.rt:195:14
 step-requires : tie.Need-step-requires Inv-loop μ-loop
 step-requires c κs = search needs
 
--- src/lib.rt:195:9
 add-k : tie.Need-add-k Inv-loop μ-loop
 add-k c = omega (arith, c .step .ensures, counted-one (keptOf (c .before .before .before .before .before .joined .result)), c .before .before .before .before .before .before .before .before .before .before .before .loop .inv .behind, c .before .before .before .before .before .before .before .before .before .before .before .loop .inv .within, c .before .before .before .before .before .before .before .before .before .before .before .before .before .before .before .before .before .pre .0 .planned .placed .arcs)
 
--- src/lib.rt:196:9
 add-j : tie.Need-add-j Inv-loop μ-loop
 add-j c = search needs
 
--- src/lib.rt:177:5
 loop-less : tie.Need-loop-less Inv-loop μ-loop
 loop-less c = search needs
 
--- src/lib.rt:177:5
 loop-again : tie.Need-loop-again Inv-loop μ-loop
 loop-again c = walked-next _ _ _ _ _ _ _ (c .before .before .before .before .before .before .before .before .before .before .before .before .before .before .before .before .before .pre .0) _ (c .before .before .before .before .before .before .before .before .before .if1 .taken) _ (c .before .before .before .before .before .before .word .ensures) (omega arith) _ _ (c .before .before .before .before .before .before .before .before .before .before .before .loop .inv) _ (c .before .before .before .before .before .joined .ensures) (sym (c .before .before .before .before .odd .ensures) ∙ c .before .before .before .if3 .left) _ (c .before .before .word2 .ensures) _ (ap (bitOr (c .before .before .before .before .before .before .before .before .before .before .before .loop .differs)) (c .before .unlike .ensures)) _ (ap (λ (n : ℕ). c .before .before .before .before .before .before .before .before .before .before .before .loop .k + n) (c .step .ensures))
 
--- src/lib.rt:158:1
 returns-3 : tie.Need-returns-3 Inv-loop μ-loop
 returns-3 c = c .before .before .loop .inv
 

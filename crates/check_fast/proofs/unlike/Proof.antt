@@ -5,20 +5,13 @@ use Rattle.net.specs.Net.{counted}
 use borrow.Author.Needs.{needs}
 use Rattle.check_fast.proofs.unlike.Statement.{statement}
 use Rattle.check_fast.proofs.unlike.Tie as tie
-use Rattle.check_fast.proofs.unlike.Reads as reads
-use Rattle.check_fast.proofs.unlike.Lts as lts
-use Rattle.check_fast.proofs.chosen.Reads as chosen-reads
-use Rattle.check_fast.proofs.kept.Reads as kept-reads
 
--- src/lib.rt:122:12
 kept-requires : tie.Need-kept-requires
 kept-requires c κs = search needs
 
--- src/lib.rt:122:5
 chosen-requires : tie.Need-chosen-requires
 chosen-requires c κs = search needs
 
--- src/lib.rt:119:1
 returns : tie.Need-returns
 returns c = c .chosen .ensures ∙ ap (λ (b : Bool). counted b (bitXor (c .before .before .args .z) (c .before .before .args .own))) (c .before .kept .ensures)
 

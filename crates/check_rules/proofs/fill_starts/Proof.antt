@@ -3,27 +3,19 @@ use native.Mathlib.Omega.{arith}
 use Rattle.arcs_starts.proofs.Reached.{tabled}
 use Rattle.check_rules.proofs.fill_starts.Statement.{statement}
 use Rattle.check_rules.proofs.fill_starts.Tie as tie
-use Rattle.check_rules.proofs.fill_starts.Reads as reads
-use Rattle.check_rules.proofs.fill_starts.Lts as lts
-use Rattle.arcs_starts.proofs.starts.Reads as starts-reads
 
--- src/lib.rt:144:5
 starts-requires : tie.Need-starts-requires
 starts-requires c κs = tabled _ _ _ (c .before .before .before .before .before .pre .0) (c .before .before .before .before .before .pre .1 .1 .0)
 
--- src/lib.rt:145:5
 starts-requires-2 : tie.Need-starts-requires-2
 starts-requires-2 c κs = tabled _ _ _ (c .before .before .before .before .before .before .before .before .before .pre .1 .0) (c .before .before .before .before .before .before .before .before .before .pre .1 .1 .1)
 
--- src/lib.rt:129:1
 same-length : tie.Need-same-length
 same-length c = search needs
 
--- src/lib.rt:129:1
 same-length-2 : tie.Need-same-length-2
 same-length-2 c = search needs
 
--- src/lib.rt:129:1
 returns : tie.Need-returns
 returns c =
     let plan = c .before .before .before .before .before .before .starts .ensures in

@@ -2,21 +2,13 @@ use borrow.Author.Needs.{needs}
 use native.Mathlib.Omega.{arith}
 use Rattle.check_rules.proofs.lent_outcome.Statement.{statement}
 use Rattle.check_rules.proofs.lent_outcome.Tie as tie
-use Rattle.check_rules.proofs.lent_outcome.Reads as reads
-use Rattle.check_rules.proofs.lent_outcome.Lts as lts
-use Rattle.check_rules.proofs.fill_own.Reads as fill-own-reads
-use Rattle.check_rules.proofs.fill_starts.Reads as fill-starts-reads
-use Rattle.check_rules.proofs.links_outcome.Reads as links-outcome-reads
 
--- src/lib.rt:183:5
 fill-starts-requires : tie.Need-fill-starts-requires
 fill-starts-requires c κs = search needs
 
--- src/lib.rt:184:5
 fill-own-requires : tie.Need-fill-own-requires
 fill-own-requires c κs = search needs
 
--- src/lib.rt:185:5
 links-outcome-requires : tie.Need-links-outcome-requires
 links-outcome-requires c κs =
     let pre = c .before .before .before .before .before .before .before .before .before .before .before .before .before .before .before .before .before .before .before .before .before .before .before .before .before .before .before .before .before .pre in
@@ -34,31 +26,24 @@ links-outcome-requires c κs =
       (starts .1, (pre .0 .criterion, (pre .1 .1 .0, pre .1 .1 .1))),
     )
 
--- src/lib.rt:164:1
 same-length : tie.Need-same-length
 same-length c = search needs
 
--- src/lib.rt:164:1
 same-length-2 : tie.Need-same-length-2
 same-length-2 c = search needs
 
--- src/lib.rt:164:1
 same-length-3 : tie.Need-same-length-3
 same-length-3 c = search needs
 
--- src/lib.rt:164:1
 same-length-4 : tie.Need-same-length-4
 same-length-4 c = search needs
 
--- src/lib.rt:164:1
 same-length-5 : tie.Need-same-length-5
 same-length-5 c = search needs
 
--- src/lib.rt:164:1
 same-length-6 : tie.Need-same-length-6
 same-length-6 c = search needs
 
--- src/lib.rt:164:1
 returns : tie.Need-returns
 returns c = search needs
 

@@ -3,51 +3,36 @@ use mathlib.Core.Path.{refl, _∙_}
 use Rattle.check_rules.proofs.Steps.{broken-here, holds-here, range4, range5}
 use Rattle.check_rules.proofs.links_outcome.Statement.{statement}
 use Rattle.check_rules.proofs.links_outcome.Tie as tie
-use Rattle.check_rules.proofs.links_outcome.Reads as reads
-use Rattle.check_rules.proofs.links_outcome.Lts as lts
-use Rattle.check_rules.proofs.movers_outcome.Reads as movers-outcome-reads
-use Rattle.rules_origins.proofs.criterion_missing.Reads as criterion-missing-reads
-use Rattle.rules_arcs.proofs.other_arcs.Reads as other-arcs-reads
 
--- src/lib.rt:117:9
 other-arcs-requires : tie.Need-other-arcs-requires
 other-arcs-requires c κs = search needs
 
--- src/lib.rt:119:35
 cast-t17 : tie.Need-cast-t17
 cast-t17 c = search needs
 
--- src/lib.rt:119:9
 returns : tie.Need-returns
 returns c = broken-here 4 _ _ _ _ (range4 _ _) (c .before .other-arcs .ensures) (c .if1 .taken)
 
--- src/lib.rt:121:9
 criterion-missing-requires : tie.Need-criterion-missing-requires
 criterion-missing-requires c κs = (c .before .before .before .before .before .before .before .before .before .before .before .pre .1 .1 .0, c .before .before .before .before .before .before .before .before .before .before .before .pre .0 .placesReached)
 
--- src/lib.rt:123:42
 cast-t18 : tie.Need-cast-t18
 cast-t18 c = search needs
 
--- src/lib.rt:123:9
 returns-2 : tie.Need-returns-2
 returns-2 c =
     broken-here 5 _ _ _ _ (range5 _ _ _) (c .before .criterion-missing .ensures _ _ refl (c .before .before .before .before .before .before .before .before .before .before .before .before .before .pre .0 .places)) (c .if2 .taken)
     ∙ holds-here 4 _ _ _ _ (range4 _ _) (c .before .before .before .other-arcs .ensures) (c .before .before .if1 .left)
 
--- src/lib.rt:125:5
 movers-outcome-requires : tie.Need-movers-outcome-requires
 movers-outcome-requires c κs = search needs
 
--- src/lib.rt:95:1
 same-length : tie.Need-same-length
 same-length c = search needs
 
--- src/lib.rt:95:1
 same-length-2 : tie.Need-same-length-2
 same-length-2 c = search needs
 
--- src/lib.rt:95:1
 returns-3 : tie.Need-returns-3
 returns-3 c =
     c .before .before .before .before .movers-outcome .ensures

@@ -1,42 +1,28 @@
 use borrow.Author.Needs.{needs}
 use Rattle.check_sizes.proofs.agreeing.Statement.{statement}
 use Rattle.check_sizes.proofs.agreeing.Tie as tie
-use Rattle.check_sizes.proofs.agreeing.Reads as reads
-use Rattle.check_sizes.proofs.agreeing.Lts as lts
-use Rattle.check_sizes.proofs.large_agrees.Reads as large-agrees-reads
-use Rattle.check_sizes.proofs.small_agrees.Reads as small-agrees-reads
-use Rattle.check_sizes.proofs.tiny_agrees.Reads as tiny-agrees-reads
-use Rattle.check_sizes.proofs.within.Reads as within-reads
 
--- src/lib.rt:410:8
 within-requires : tie.Need-within-requires
 within-requires c κs = search needs
 
--- src/lib.rt:411:9
 tiny-agrees-requires : tie.Need-tiny-agrees-requires
 tiny-agrees-requires c κs = (c .before .before .before .before .before .pre .0, (c .before .before .before .before .before .pre .1, c .before .within .ensures (c .if1 .taken)))
 
--- src/lib.rt:411:9
 returns : tie.Need-returns
 returns c = search needs
 
--- src/lib.rt:413:8
 within-requires-2 : tie.Need-within-requires-2
 within-requires-2 c κs = search needs
 
--- src/lib.rt:414:9
 small-agrees-requires : tie.Need-small-agrees-requires
 small-agrees-requires c κs = (c .before .before .before .before .before .before .before .pre .0, (c .before .before .before .before .before .before .before .pre .1, c .before .within2 .ensures (c .if2 .taken)))
 
--- src/lib.rt:414:9
 returns-2 : tie.Need-returns-2
 returns-2 c = search needs
 
--- src/lib.rt:416:5
 large-agrees-requires : tie.Need-large-agrees-requires
 large-agrees-requires c κs = search needs
 
--- src/lib.rt:405:1
 returns-3 : tie.Need-returns-3
 returns-3 c = search needs
 

@@ -4,35 +4,25 @@ use mathlib.Core.Path.{refl}
 use lib.ListN.{getD-replicate}
 use Rattle.check_sizes.proofs.large_outcome.Statement.{statement}
 use Rattle.check_sizes.proofs.large_outcome.Tie as tie
-use Rattle.check_sizes.proofs.large_outcome.Reads as reads
-use Rattle.check_sizes.proofs.large_outcome.Lts as lts
-use Rattle.check_rules.proofs.lent_outcome.Reads as lent-outcome-reads
 
--- src/lib.rt:232:9
 slice-aggregate-lent-outcome : tie.Need-slice-aggregate-lent-outcome
 slice-aggregate-lent-outcome c = search needs
 
--- src/lib.rt:233:9
 slice-aggregate-lent-outcome-2 : tie.Need-slice-aggregate-lent-outcome-2
 slice-aggregate-lent-outcome-2 c = search needs
 
--- src/lib.rt:234:9
 slice-aggregate-lent-outcome-3 : tie.Need-slice-aggregate-lent-outcome-3
 slice-aggregate-lent-outcome-3 c = search needs
 
--- src/lib.rt:235:9
 slice-aggregate-lent-outcome-4 : tie.Need-slice-aggregate-lent-outcome-4
 slice-aggregate-lent-outcome-4 c = search needs
 
--- src/lib.rt:236:9
 slice-aggregate-lent-outcome-5 : tie.Need-slice-aggregate-lent-outcome-5
 slice-aggregate-lent-outcome-5 c = search needs
 
--- src/lib.rt:237:9
 slice-aggregate-lent-outcome-6 : tie.Need-slice-aggregate-lent-outcome-6
 slice-aggregate-lent-outcome-6 c = search needs
 
--- src/lib.rt:226:5
 lent-outcome-requires : tie.Need-lent-outcome-requires
 lent-outcome-requires c κs =
     let pre = c .before .before .before .before .before .before .before .before .before .pre in (
@@ -51,7 +41,6 @@ lent-outcome-requires c κs =
       ),
     )
 
--- src/lib.rt:216:1
 returns : tie.Need-returns
 returns c = search needs
 

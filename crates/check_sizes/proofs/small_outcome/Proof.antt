@@ -4,35 +4,25 @@ use mathlib.Core.Path.{refl}
 use lib.ListN.{getD-replicate}
 use Rattle.check_sizes.proofs.small_outcome.Statement.{statement}
 use Rattle.check_sizes.proofs.small_outcome.Tie as tie
-use Rattle.check_sizes.proofs.small_outcome.Reads as reads
-use Rattle.check_sizes.proofs.small_outcome.Lts as lts
-use Rattle.check_rules.proofs.lent_outcome.Reads as lent-outcome-reads
 
--- src/lib.rt:206:9
 slice-aggregate-lent-outcome : tie.Need-slice-aggregate-lent-outcome
 slice-aggregate-lent-outcome c = search needs
 
--- src/lib.rt:207:9
 slice-aggregate-lent-outcome-2 : tie.Need-slice-aggregate-lent-outcome-2
 slice-aggregate-lent-outcome-2 c = search needs
 
--- src/lib.rt:208:9
 slice-aggregate-lent-outcome-3 : tie.Need-slice-aggregate-lent-outcome-3
 slice-aggregate-lent-outcome-3 c = search needs
 
--- src/lib.rt:209:9
 slice-aggregate-lent-outcome-4 : tie.Need-slice-aggregate-lent-outcome-4
 slice-aggregate-lent-outcome-4 c = search needs
 
--- src/lib.rt:210:9
 slice-aggregate-lent-outcome-5 : tie.Need-slice-aggregate-lent-outcome-5
 slice-aggregate-lent-outcome-5 c = search needs
 
--- src/lib.rt:211:9
 slice-aggregate-lent-outcome-6 : tie.Need-slice-aggregate-lent-outcome-6
 slice-aggregate-lent-outcome-6 c = search needs
 
--- src/lib.rt:200:5
 lent-outcome-requires : tie.Need-lent-outcome-requires
 lent-outcome-requires c κs =
     let pre = c .before .before .before .before .before .before .before .before .before .pre in (
@@ -46,7 +36,6 @@ lent-outcome-requires c κs =
       ),
     )
 
--- src/lib.rt:189:1
 returns : tie.Need-returns
 returns c = search needs
 

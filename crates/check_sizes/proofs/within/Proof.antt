@@ -3,8 +3,6 @@ use mathlib.Core.Bool.{_&&_}
 use Rattle.net.proofs.Numbers.{holds, and-left, and-right}
 use Rattle.check_sizes.proofs.within.Statement.{statement}
 use Rattle.check_sizes.proofs.within.Tie as tie
-use Rattle.check_sizes.proofs.within.Reads as reads
-use Rattle.check_sizes.proofs.within.Lts as lts
 
 returns : tie.Need-returns
 returns c = λ e.

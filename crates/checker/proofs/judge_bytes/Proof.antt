@@ -6,37 +6,28 @@ use Rattle.checker.proofs.Listed.{few-bytes}
 use borrow.Author.Needs.{needs}
 use Rattle.checker.proofs.judge_bytes.Statement.{statement}
 use Rattle.checker.proofs.judge_bytes.Tie as tie
-use Rattle.checker.proofs.judge_bytes.Reads as reads
-use Rattle.checker.proofs.judge_bytes.Lts as lts
-use Rattle.checker.proofs.judge_in.Reads as judge-in-reads
 
--- src/lib.rt:478:49
 slice-aggregate-judge-in : tie.Need-slice-aggregate-judge-in
 slice-aggregate-judge-in c = search needs
 
--- src/lib.rt:478:9
 judge-in-requires : tie.Need-judge-in-requires
 judge-in-requires c κs =
     let pre = c .before .before .before .before .before .pre in
     let short : length (now (c .before .before .before .before .before .args .q)) / 2 ≤ 16 = omega (arith, c .before .if1 .taken) in
     (pre .0, (pre .1 .0, (pre .1 .1 .0, (pre .1 .1 .1, short))))
 
--- src/lib.rt:478:9
 returns : tie.Need-returns
 returns c = c .before .judge-in .ensures
 
--- src/lib.rt:481:38
 slice-aggregate-judge-in-2 : tie.Need-slice-aggregate-judge-in-2
 slice-aggregate-judge-in-2 c = search needs
 
--- src/lib.rt:481:5
 judge-in-requires-2 : tie.Need-judge-in-requires-2
 judge-in-requires-2 c κs =
     let pre = c .before .before .before .before .before .pre in
     let short : length (now (c .before .before .before .before .before .args .q)) / 2 ≤ 1024 = omega (arith, few-bytes _ _ (pre .1 .1 .1), pre .0 .placed .places) in
     (pre .0, (pre .1 .0, (pre .1 .1 .0, (pre .1 .1 .1, short))))
 
--- src/lib.rt:469:1
 returns-2 : tie.Need-returns-2
 returns-2 c = c .before .judge-in2 .ensures
 

@@ -11,39 +11,27 @@ use Rattle.checker.proofs.Listed.{list-passed, list-is}
 use borrow.Author.Needs.{needs}
 use Rattle.checker.proofs.judge_in.Statement.{statement}
 use Rattle.checker.proofs.judge_in.Tie as tie
-use Rattle.checker.proofs.judge_in.Reads as reads
-use Rattle.checker.proofs.judge_in.Lts as lts
-use Rattle.checker.proofs.code.Reads as code-reads
-use Rattle.checker.proofs.judge.Reads as judge-reads
-use Rattle.inputs_criterion.proofs.decode.Reads as decode-reads
 
--- src/lib.rt:464:5
 decode-requires : tie.Need-decode-requires
 decode-requires c κs = search needs
 
--- src/lib.rt:465:37
 slice-reshare-prefix-judge : tie.Need-slice-reshare-prefix-judge
 slice-reshare-prefix-judge c = omega (arith, c .before .before .decode .kept .1 .1 .0, c .before .before .before .before .before .before .before .before .pre .1 .1 .1 .1)
 
--- src/lib.rt:465:37
 slice-aggregate-judge : tie.Need-slice-aggregate-judge
 slice-aggregate-judge c = sym (length-take-le _ _ (omega (arith, c .before .before .before .decode .kept .1 .1 .0, c .before .before .before .before .before .before .before .before .before .pre .1 .1 .1 .1)))
 
--- src/lib.rt:465:10
 judge-requires : tie.Need-judge-requires
 judge-requires c κs =
     let pre = c .before .before .before .before .before .before .before .before .before .pre in
     record { planned = pre .0; sliced = pre .1 .0; kind = pre .1 .1 .0; criterion = list-passed _ _ (pre .1 .1 .1 .0) _ (c .before .before .before .decode .ensures) }
 
--- src/lib.rt:465:5
 code-requires : tie.Need-code-requires
 code-requires c κs = search needs
 
--- src/lib.rt:455:1
 same-length : tie.Need-same-length
 same-length c = search needs
 
--- src/lib.rt:455:1
 returns : tie.Need-returns
 returns c =
     let a = c .before .before .before .before .before .before .before .before .before .before .before .args in

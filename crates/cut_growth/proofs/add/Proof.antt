@@ -1,5 +1,5 @@
 -- `add::add` meets its contract: a walk of its MIR, by hand. The borrow is opened, its two sets are lent to `step` for two lifetimes that are made for the
--- call, and come back, and the borrow is closed at the sets that `step` left. All that the proof knows of `step` is that it meets its contract. Assumes nothing.
+-- call, and come back, and the borrow is closed at the sets that `step` left. All that the proof knows of `step` is that it meets its contract.
 use mathlib.Core.Path.{refl}
 use mathlib.Core.Bool.{Bool}
 use Prim.Native.Nat.{ℕ, _+_, _<_, _^_}

@@ -1,5 +1,5 @@
 -- `add::grow` meets its contract: a walk of its MIR, by hand, with its loop. In a turn the sets in a local, and `gone`, are lent to `add` for two lifetimes that
--- are made for the call, and come back as it left them. All that the proof knows of `add` is that it meets its contract. Assumes nothing.
+-- are made for the call, and come back as it left them. All that the proof knows of `add` is that it meets its contract.
 use mathlib.Core.Path.{_≡_, refl, sym, ap, subst}
 use mathlib.Core.Bool.{Bool, true, false, not}
 use lib.Dec.{T as Holds, eqb, eqb→eq, T-not}

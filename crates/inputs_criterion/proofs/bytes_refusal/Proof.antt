@@ -3,23 +3,16 @@ use mathlib.Core.Path.{sym, _∙_}
 use Rattle.inputs_criterion.proofs.Places.{odd-9, no-bytes-9, bytes-rest}
 use Rattle.inputs_criterion.proofs.bytes_refusal.Statement.{statement}
 use Rattle.inputs_criterion.proofs.bytes_refusal.Tie as tie
-use Rattle.inputs_criterion.proofs.bytes_refusal.Reads as reads
-use Rattle.inputs_criterion.proofs.bytes_refusal.Lts as lts
-use Rattle.inputs_criterion.proofs.places_refusal.Reads as places-refusal-reads
 
--- src/lib.rt:69:9
 returns : tie.Need-returns
 returns c = odd-9 _ _ (c .if1 .taken)
 
--- src/lib.rt:72:9
 returns-2 : tie.Need-returns-2
 returns-2 c = no-bytes-9 _ _ (c .before .if1 .left) (c .if2 .taken)
 
--- src/lib.rt:74:5
 places-refusal-requires : tie.Need-places-refusal-requires
 places-refusal-requires c κs = search needs
 
--- src/lib.rt:64:1
 returns-3 : tie.Need-returns-3
 returns-3 c = c .places-refusal .ensures ∙ sym (bytes-rest _ _ (c .before .before .if1 .left) (c .before .if2 .left))
 

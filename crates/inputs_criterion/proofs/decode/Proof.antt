@@ -11,9 +11,6 @@ use Rattle.file.specs.Layout.{wordsFrom}
 use Rattle.inputs_criterion.proofs.Places.{words-more, words-none}
 use Rattle.inputs_criterion.proofs.decode.Statement.{statement}
 use Rattle.inputs_criterion.proofs.decode.Tie as tie
-use Rattle.inputs_criterion.proofs.decode.Reads as reads
-use Rattle.inputs_criterion.proofs.decode.Lts as lts
-use Rattle.inputs_criterion.proofs.place.Reads as place-reads
 
 abbrev Inv-loop : tie.InvT-loop
 Inv-loop q count list₀ i₀ list i = (i ≤ count) × (length list ≡ length list₀) × (take i list ≡ wordsFrom q 0 i)
@@ -21,39 +18,30 @@ Inv-loop q count list₀ i₀ list i = (i ≤ count) × (length list ≡ length 
 abbrev μ-loop : tie.MeasureT-loop
 μ-loop q count list₀ i₀ list i = count - i
 
--- src/lib.rt:83:5
 loop-holds : tie.Need-loop-holds Inv-loop μ-loop
 loop-holds c = (omega arith, refl, words-none _ _)
 
--- src/lib.rt:84:40
 mul-place : tie.Need-mul-place Inv-loop μ-loop
 mul-place c = search needs
 
--- src/lib.rt:84:19
 place-requires : tie.Need-place-requires Inv-loop μ-loop
 place-requires c κs = search needs
 
--- src/lib.rt:84:19
 cast-list : tie.Need-cast-list Inv-loop μ-loop
 cast-list c = search needs
 
--- src/lib.rt:84:9
 mul-list : tie.Need-mul-list Inv-loop μ-loop
 mul-list c = search needs
 
--- src/lib.rt:84:9
 slice-write-list : tie.Need-slice-write-list Inv-loop μ-loop
 slice-write-list c = search needs
 
--- src/lib.rt:85:9
 add-i : tie.Need-add-i Inv-loop μ-loop
 add-i c = search needs
 
--- src/lib.rt:83:5
 loop-less : tie.Need-loop-less Inv-loop μ-loop
 loop-less c = search needs
 
--- src/lib.rt:83:5
 loop-again : tie.Need-loop-again Inv-loop μ-loop
 loop-again c =
     let at = c .before .before .loop in
@@ -66,11 +54,9 @@ loop-again c =
           ∙ sym (words-more _ _ _),
     )
 
--- src/lib.rt:78:1
 same-length : tie.Need-same-length Inv-loop μ-loop
 same-length c = search needs
 
--- src/lib.rt:78:1
 returns : tie.Need-returns Inv-loop μ-loop
 returns c =
     let at = c .before .loop in

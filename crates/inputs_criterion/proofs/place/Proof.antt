@@ -2,9 +2,6 @@ use Rattle.file.specs.Word.{le16}
 use borrow.Author.Needs.{needs}
 use Rattle.inputs_criterion.proofs.place.Statement.{statement}
 use Rattle.inputs_criterion.proofs.place.Tie as tie
-use Rattle.inputs_criterion.proofs.place.Reads as reads
-use Rattle.inputs_criterion.proofs.place.Lts as lts
-use Rattle.file.proofs.word.get8.Reads as get8-reads
 
 get8-requires : tie.Need-get8-requires
 get8-requires c κs = search needs

@@ -8,10 +8,6 @@ use Rattle.file.specs.Criterion.{placesRefusal}
 use Rattle.inputs_criterion.proofs.Places.{bytes-10, bytes-on, bytes-end}
 use Rattle.inputs_criterion.proofs.places_refusal.Statement.{statement}
 use Rattle.inputs_criterion.proofs.places_refusal.Tie as tie
-use Rattle.inputs_criterion.proofs.places_refusal.Reads as reads
-use Rattle.inputs_criterion.proofs.places_refusal.Lts as lts
-use Rattle.inputs_criterion.proofs.misplaced.Reads as misplaced-reads
-use Rattle.inputs_criterion.proofs.place.Reads as place-reads
 
 abbrev Inv-loop : tie.InvT-loop
 Inv-loop q count places at₀ least₀ left₀ at least left =
@@ -20,49 +16,39 @@ Inv-loop q count places at₀ least₀ left₀ at least left =
 abbrev μ-loop : tie.MeasureT-loop
 μ-loop q count places at₀ least₀ left₀ at least left = left
 
--- src/lib.rt:51:5
 loop-holds : tie.Need-loop-holds Inv-loop μ-loop
 loop-holds c = (search needs, refl)
 
--- src/lib.rt:52:13
 place-requires : tie.Need-place-requires Inv-loop μ-loop
 place-requires c κs = search needs
 
--- src/lib.rt:53:12
 misplaced-requires : tie.Need-misplaced-requires Inv-loop μ-loop
 misplaced-requires c κs = search needs
 
--- src/lib.rt:54:13
 returns : tie.Need-returns Inv-loop μ-loop
 returns c =
     sym
     (c .before .before .before .before .loop .inv .1
     ∙ bytes-10 _ _ _ _ _ (c .before .before .before .loop-test .taken) _ (c .before .before .place .ensures .0) (sym (c .before .misplaced .ensures) ∙ c .if1 .taken))
 
--- src/lib.rt:56:17
 add-least : tie.Need-add-least Inv-loop μ-loop
 add-least c = search needs
 
--- src/lib.rt:57:9
 add-at : tie.Need-add-at Inv-loop μ-loop
 add-at c = search needs
 
--- src/lib.rt:58:9
 sub-left : tie.Need-sub-left Inv-loop μ-loop
 sub-left c = search needs
 
--- src/lib.rt:51:5
 loop-less : tie.Need-loop-less Inv-loop μ-loop
 loop-less c = search needs
 
--- src/lib.rt:51:5
 loop-again : tie.Need-loop-again Inv-loop μ-loop
 loop-again c = (
   search needs,
   c .before .before .before .before .loop .inv .1 ∙ bytes-on _ _ _ _ _ (c .before .before .before .loop-test .taken) _ (c .before .before .place .ensures .0) (sym (c .before .misplaced .ensures) ∙ c .if1 .left),
 )
 
--- src/lib.rt:44:1
 returns-2 : tie.Need-returns-2 Inv-loop μ-loop
 returns-2 c = sym (c .before .loop .inv .1 ∙ bytes-end _ _ _ _ _ (c .loop-test .left))
 

@@ -7,10 +7,6 @@ use Rattle.file.specs.Criterion.{placesRefusal}
 use Rattle.inputs_criterion.proofs.Places.{empty-9, some-places, list-10, list-on, list-end}
 use Rattle.inputs_criterion.proofs.refusal.Statement.{statement}
 use Rattle.inputs_criterion.proofs.refusal.Tie as tie
-use Rattle.inputs_criterion.proofs.refusal.Reads as reads
-use Rattle.inputs_criterion.proofs.refusal.Lts as lts
-use Rattle.inputs_criterion.proofs.misplaced.Reads as misplaced-reads
-use Rattle.inputs_criterion.proofs.wide.Reads as wide-reads
 
 abbrev Inv-loop : tie.InvT-loop
 Inv-loop q places least₀ i₀ least i = (i ≤ length q) × (least ≤ 65536) × (placesRefusal places 0 q ≡ placesRefusal places least (drop i q))
@@ -18,31 +14,24 @@ Inv-loop q places least₀ i₀ least i = (i ≤ length q) × (least ≤ 65536) 
 abbrev μ-loop : tie.MeasureT-loop
 μ-loop q places least₀ i₀ least i = length q - i
 
--- src/lib.rt:28:9
 returns : tie.Need-returns Inv-loop μ-loop
 returns c = empty-9 _ _ (c .if1 .taken)
 
--- src/lib.rt:32:5
 loop-holds : tie.Need-loop-holds Inv-loop μ-loop
 loop-holds c = (omega arith, omega arith, refl)
 
--- src/lib.rt:33:22
 mul-wide : tie.Need-mul-wide Inv-loop μ-loop
 mul-wide c = search needs
 
--- src/lib.rt:33:22
 shared-slice-read-wide : tie.Need-shared-slice-read-wide Inv-loop μ-loop
 shared-slice-read-wide c = search needs
 
--- src/lib.rt:33:13
 wide-requires : tie.Need-wide-requires Inv-loop μ-loop
 wide-requires c κs = search needs
 
--- src/lib.rt:34:12
 misplaced-requires : tie.Need-misplaced-requires Inv-loop μ-loop
 misplaced-requires c κs = search needs
 
--- src/lib.rt:35:13
 returns-2 : tie.Need-returns-2 Inv-loop μ-loop
 returns-2 c =
     sym
@@ -50,19 +39,15 @@ returns-2 c =
     ∙ c .before .before .before .before .before .loop .inv .2
     ∙ list-10 _ _ _ _ (c .before .before .before .before .loop-test .taken) _ (c .before .before .wide .ensures .0) (sym (c .before .misplaced .ensures) ∙ c .if2 .taken))
 
--- src/lib.rt:37:17
 add-least : tie.Need-add-least Inv-loop μ-loop
 add-least c = search needs
 
--- src/lib.rt:38:9
 add-i : tie.Need-add-i Inv-loop μ-loop
 add-i c = search needs
 
--- src/lib.rt:32:5
 loop-less : tie.Need-loop-less Inv-loop μ-loop
 loop-less c = search needs
 
--- src/lib.rt:32:5
 loop-again : tie.Need-loop-again Inv-loop μ-loop
 loop-again c = (
   search needs,
@@ -70,7 +55,6 @@ loop-again c = (
   c .before .before .before .before .before .loop .inv .2 ∙ list-on _ _ _ _ (c .before .before .before .before .loop-test .taken) _ (c .before .before .wide .ensures .0) (sym (c .before .misplaced .ensures) ∙ c .if2 .left),
 )
 
--- src/lib.rt:24:1
 returns-3 : tie.Need-returns-3 Inv-loop μ-loop
 returns-3 c = sym (some-places _ _ (c .before .before .if1 .left) ∙ c .before .loop .inv .2 ∙ list-end _ _ _ _ (c .loop-test .left))
 

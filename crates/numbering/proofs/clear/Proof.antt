@@ -8,8 +8,6 @@ use lib.Seq.{getD-set-same, getD-set-other}
 use borrow.Author.Count.{below-more}
 use Rattle.numbering.proofs.clear.Statement.{statement}
 use Rattle.numbering.proofs.clear.Tie as tie
-use Rattle.numbering.proofs.clear.Reads as reads
-use Rattle.numbering.proofs.clear.Lts as lts
 
 abbrev Inv-loop : tie.InvT-loop
 Inv-loop table₀ k₀ table k = (k ≤ length table₀) × (length table ≡ length table₀) × ((i : ℕ) → i < k → getD table i 0 ≡ 0)

@@ -12,11 +12,6 @@ use Rattle.file.proofs.Rows.{length-words, words-at}
 use Rattle.numbering.proofs.Entries.{own-none, own-next}
 use Rattle.numbering.proofs.own.Statement.{statement}
 use Rattle.numbering.proofs.own.Tie as tie
-use Rattle.numbering.proofs.own.Reads as reads
-use Rattle.numbering.proofs.own.Lts as lts
-use Rattle.file.proofs.word.get16.Reads as get16-reads
-use Rattle.numbering.proofs.clear.Reads as clear-reads
-use Rattle.numbering.proofs.put.Reads as put-reads
 
 abbrev Inv-loop : tie.InvT-loop
 Inv-loop file start count table₀ i₀ table i = (i ≤ count) × (length table ≡ length table₀) × Own (take i (wordsFrom file start count)) table
@@ -24,47 +19,36 @@ Inv-loop file start count table₀ i₀ table i = (i ≤ count) × (length table
 abbrev μ-loop : tie.MeasureT-loop
 μ-loop file start count table₀ i₀ table i = count - i
 
--- src/lib.rt:33:5
 clear-requires : tie.Need-clear-requires Inv-loop μ-loop
 clear-requires c κs = search needs
 
--- src/lib.rt:35:5
 loop-holds : tie.Need-loop-holds Inv-loop μ-loop
 loop-holds c = (omega arith, refl, own-none _ (c .before .before .clear .ensures .1))
 
--- src/lib.rt:36:54
 mul-get16 : tie.Need-mul-get16 Inv-loop μ-loop
 mul-get16 c = search needs
 
--- src/lib.rt:36:46
 add-get16 : tie.Need-add-get16 Inv-loop μ-loop
 add-get16 c = search needs
 
--- src/lib.rt:36:13
 get16-requires : tie.Need-get16-requires Inv-loop μ-loop
 get16-requires c κs = search needs
 
--- src/lib.rt:37:29
 add-put : tie.Need-add-put Inv-loop μ-loop
 add-put c = search needs
 
--- src/lib.rt:37:28
 cast-put : tie.Need-cast-put Inv-loop μ-loop
 cast-put c = search needs
 
--- src/lib.rt:37:9
 put-requires : tie.Need-put-requires Inv-loop μ-loop
 put-requires c κs = search needs
 
--- src/lib.rt:38:9
 add-i : tie.Need-add-i Inv-loop μ-loop
 add-i c = search needs
 
--- src/lib.rt:35:5
 loop-less : tie.Need-loop-less Inv-loop μ-loop
 loop-less c = search needs
 
--- src/lib.rt:35:5
 loop-again : tie.Need-loop-again Inv-loop μ-loop
 loop-again c =
     let at = c .before .before .before .before .before .before .loop in
@@ -77,11 +61,9 @@ loop-again c =
           (c .before .before .before .before .get16 .ensures .0 ∙ sym (words-at _ _ _ _ (c .before .before .before .before .before .loop-test .taken))) (c .before .before .put .ensures),
     )
 
--- src/lib.rt:29:1
 same-length : tie.Need-same-length Inv-loop μ-loop
 same-length c = search needs
 
--- src/lib.rt:29:1
 returns : tie.Need-returns Inv-loop μ-loop
 returns c =
     let at = c .before .loop in

@@ -1,4 +1,4 @@
--- The loop keeps the value that the digits left would make of the sum so far. Assumes nothing.
+-- The loop keeps the value that the digits left would make of the sum so far.
 use Prim.Native.Nat.{ℕ, _+_, _-_, _≤_, _<_}
 use mathlib.Core.Path.{_≡_, refl}
 use mathlib.Core.List.{List}

@@ -9,21 +9,15 @@ use Rattle.projection.proofs.Choices.{chosen-few}
 use borrow.Author.Needs.{needs}
 use Rattle.projection.proofs.lacks.Statement.{statement}
 use Rattle.projection.proofs.lacks.Tie as tie
-use Rattle.projection.proofs.lacks.Reads as reads
-use Rattle.projection.proofs.lacks.Lts as lts
-use Rattle.projection.proofs.count.Reads as count-reads
 
--- src/lib.rt:53:9
 returns : tie.Need-returns
 returns c =
     let start = c .before .before .before in
     sym (le-ltb (start .args .room) (length (chosenBy (start .args .table .now) (start .args .list .now))) (omega (arith, c .if1 .taken, chosen-few (start .args .table .now) (start .args .list .now))))
 
--- src/lib.rt:55:12
 count-requires : tie.Need-count-requires
 count-requires c κs = search needs
 
--- src/lib.rt:48:1
 returns-2 : tie.Need-returns-2
 returns-2 c = ap (λ (x : ℕ). ltb (c .before .before .before .before .args .room) x) (c .count .ensures)
 

@@ -4,8 +4,6 @@ use Rattle.projection.proofs.Choices.{Dropped, dropped-none, dropped-ne
 use borrow.Author.Needs.{needs}
 use Rattle.projection.proofs.last_chosen.Statement.{statement}
 use Rattle.projection.proofs.last_chosen.Tie as tie
-use Rattle.projection.proofs.last_chosen.Reads as reads
-use Rattle.projection.proofs.last_chosen.Lts as lts
 
 abbrev Inv-loop : tie.InvT-loop
 Inv-loop table list end₀ end = Dropped table list end
@@ -13,51 +11,39 @@ Inv-loop table list end₀ end = Dropped table list end
 abbrev μ-loop : tie.MeasureT-loop
 μ-loop table list end₀ end = end
 
--- src/lib.rt:64:5
 loop-holds : tie.Need-loop-holds Inv-loop μ-loop
 loop-holds c = dropped-none (c .pre)
 
--- src/lib.rt:65:22
 sub-t : tie.Need-sub-t Inv-loop μ-loop
 sub-t c = search needs
 
--- src/lib.rt:65:17
 mul-t : tie.Need-mul-t Inv-loop μ-loop
 mul-t c = omega (arith, c .before .loop .inv .within, c .before .loop .inv .reached .short)
 
--- src/lib.rt:65:17
 shared-slice-read-t : tie.Need-shared-slice-read-t Inv-loop μ-loop
 shared-slice-read-t c = omega (arith, c .before .before .loop .inv .within, c .before .loop-test .taken)
 
--- src/lib.rt:65:17
 cast-t : tie.Need-cast-t Inv-loop μ-loop
 cast-t c = omega (arith, c .shared-slice-known .given (c .before .before .loop .end - 1))
 
--- src/lib.rt:66:12
 mul-if1 : tie.Need-mul-if1 Inv-loop μ-loop
 mul-if1 c = omega (arith, c .shared-slice-known .given (c .before .before .loop .end - 1))
 
--- src/lib.rt:66:12
 shared-slice-read-if1 : tie.Need-shared-slice-read-if1 Inv-loop μ-loop
 shared-slice-read-if1 c = c .before .before .before .loop .inv .reached .known (c .before .before .before .loop .end - 1) (omega (arith, c .before .before .before .loop .inv .within, c .before .before .loop-test .taken))
 
--- src/lib.rt:67:13
 returns : tie.Need-returns Inv-loop μ-loop
 returns c = last-at (c .before .before .before .before .loop .inv) (c .if1 .taken)
 
--- src/lib.rt:69:9
 sub-end : tie.Need-sub-end Inv-loop μ-loop
 sub-end c = search needs
 
--- src/lib.rt:64:5
 loop-less : tie.Need-loop-less Inv-loop μ-loop
 loop-less c = search needs
 
--- src/lib.rt:64:5
 loop-again : tie.Need-loop-again Inv-loop μ-loop
 loop-again c = dropped-next (c .before .before .before .before .loop .inv) (c .before .before .before .loop-test .taken) (c .if1 .left)
 
--- src/lib.rt:59:1
 returns-2 : tie.Need-returns-2 Inv-loop μ-loop
 returns-2 c = last-none (c .before .loop .inv) (c .loop-test .left)
 

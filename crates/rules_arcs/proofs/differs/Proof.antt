@@ -3,10 +3,6 @@ use native.Mathlib.Omega.{arith}
 use Rattle.rules_arcs.proofs.Differing.{Ready, ready, differs-not, own-low}
 use Rattle.rules_arcs.proofs.differs.Statement.{statement}
 use Rattle.rules_arcs.proofs.differs.Tie as tie
-use Rattle.rules_arcs.proofs.differs.Reads as reads
-use Rattle.rules_arcs.proofs.differs.Lts as lts
-use Rattle.rules_arcs.proofs.other_run.Reads as other-run-reads
-use Rattle.rules_tables.proofs.entry.Reads as entry-reads
 
 -- where the two runs stand
 ready-at : (c : tie.After-entry5) → let s = c .before .before .before .before .before .before .before .before .before .before .before .before in Ready (s .args .plan .now) (s .args .hp) (s .args .slice .now) (s .args .hs) (s .args .ownp .now) (s .args .t) (c .before .before .before .before .before .entry .result) (c .before .before .before .entry2 .result) (c .before .before .entry3 .result) (c .before .entry4 .result) (c .entry5 .result)
@@ -15,63 +11,48 @@ ready-at c =
     ready _ _ _ _ _ _ _ _ (s .pre .0) (s .pre .1 .0) _ (s .pre .1 .1) _ (c .before .before .before .before .before .entry .ensures .0) (c .before .before .before .before .if1 .left) _ _ _ _
     (c .before .before .before .entry2 .ensures .0) (c .before .before .entry3 .ensures .0) (c .before .entry4 .ensures .0) (c .entry5 .ensures .0)
 
--- src/lib.rt:162:9
 entry-requires : tie.Need-entry-requires
 entry-requires c κs = search needs
 
--- src/lib.rt:164:9
 returns : tie.Need-returns
 returns c = let s = c .before .before .before .before .before .before .before .before in differs-not _ _ _ _ _ _ _ _ (s .pre .0) (s .pre .1 .0) _ (s .pre .1 .1) _ (c .before .entry .ensures .0) (c .if1 .taken)
 
--- src/lib.rt:166:29
 mul-entry : tie.Need-mul-entry
 mul-entry c = search needs
 
--- src/lib.rt:166:9
 entry-requires-2 : tie.Need-entry-requires-2
 entry-requires-2 c κs = search needs
 
--- src/lib.rt:167:27
 mul-entry-2 : tie.Need-mul-entry-2
 mul-entry-2 c = search needs
 
--- src/lib.rt:167:27
 add-entry : tie.Need-add-entry
 add-entry c = search needs
 
--- src/lib.rt:167:9
 entry-requires-3 : tie.Need-entry-requires-3
 entry-requires-3 c κs = search needs
 
--- src/lib.rt:168:29
 mul-entry-3 : tie.Need-mul-entry-3
 mul-entry-3 c = search needs
 
--- src/lib.rt:168:29
 sub-entry : tie.Need-sub-entry
 sub-entry c = search needs
 
--- src/lib.rt:168:9
 entry-requires-4 : tie.Need-entry-requires-4
 entry-requires-4 c κs = let s = c .before .before .before .before .before .before .before .before .before .before in omega (arith, own-low _ _ _ _ _ _ _ _ (s .pre .0) (s .pre .1 .0) _ (s .pre .1 .1) _ (c .before .before .before .entry .ensures .0) (c .before .before .if1 .left), s .pre .1 .0 .long)
 
--- src/lib.rt:169:28
 mul-entry-4 : tie.Need-mul-entry-4
 mul-entry-4 c = search needs
 
--- src/lib.rt:169:9
 entry-requires-5 : tie.Need-entry-requires-5
 entry-requires-5 c κs = let s = c .before .before .before .before .before .before .before .before .before .before .before in omega (arith, own-low _ _ _ _ _ _ _ _ (s .pre .0) (s .pre .1 .0) _ (s .pre .1 .1) _ (c .before .before .before .before .entry .ensures .0) (c .before .before .before .if1 .left), s .pre .1 .0 .long)
 
--- src/lib.rt:180:9
 sub-other-run : tie.Need-sub-other-run
 sub-other-run c = search needs
 
--- src/lib.rt:170:5
 other-run-requires : tie.Need-other-run-requires
 other-run-requires c κs = let k = ready-at c in (k .run, (k .walk, k .against))
 
--- src/lib.rt:146:1
 returns-2 : tie.Need-returns-2
 returns-2 c = ready-at (c .before) .answer _ (c .other-run .ensures)
 

@@ -2,44 +2,31 @@ use borrow.Author.Needs.{needs}
 use Rattle.rules_arcs.proofs.Inputs.{lacks-not, inputs-run, lacks}
 use Rattle.rules_arcs.proofs.lacks_input.Statement.{statement}
 use Rattle.rules_arcs.proofs.lacks_input.Tie as tie
-use Rattle.rules_arcs.proofs.lacks_input.Reads as reads
-use Rattle.rules_arcs.proofs.lacks_input.Lts as lts
-use Rattle.rules_arcs.proofs.unkept.Reads as unkept-reads
-use Rattle.rules_tables.proofs.entry.Reads as entry-reads
 
--- src/lib.rt:45:8
 entry-requires : tie.Need-entry-requires
 entry-requires c κs = search needs
 
--- src/lib.rt:46:9
 returns : tie.Need-returns
 returns c = let s = c .before .before .before .before .before .before .before in lacks-not _ _ _ _ _ _ _ (s .pre .0) _ (s .pre .1) _ (c .before .entry .ensures .0) (c .if1 .taken)
 
--- src/lib.rt:48:29
 mul-entry : tie.Need-mul-entry
 mul-entry c = search needs
 
--- src/lib.rt:48:9
 entry-requires-2 : tie.Need-entry-requires-2
 entry-requires-2 c κs = search needs
 
--- src/lib.rt:49:27
 mul-entry-2 : tie.Need-mul-entry-2
 mul-entry-2 c = search needs
 
--- src/lib.rt:49:27
 add-entry : tie.Need-add-entry
 add-entry c = search needs
 
--- src/lib.rt:49:9
 entry-requires-3 : tie.Need-entry-requires-3
 entry-requires-3 c κs = search needs
 
--- src/lib.rt:50:5
 unkept-requires : tie.Need-unkept-requires
 unkept-requires c κs = let s = c .before .before .before .before .before .before .before .before .before in inputs-run _ _ _ _ _ _ _ (s .pre .0) _ (s .pre .1) _ _ (c .before .entry2 .ensures .0) (c .entry3 .ensures .0)
 
--- src/lib.rt:31:1
 returns-2 : tie.Need-returns-2
 returns-2 c = let s = c .before .before .before .before .before .before .before .before .before .before in lacks _ _ _ _ _ _ _ (s .pre .0) _ (s .pre .1) _ _ (c .before .before .entry2 .ensures .0) (c .before .entry3 .ensures .0) _ (c .before .before .before .before .entry .ensures .0) (c .before .before .before .if1 .left) _ (c .unkept .ensures)
 

@@ -3,9 +3,6 @@ use Prim.Native.Nat.{_-_}
 use Rattle.rules_arcs.proofs.Walking.{Walked, walked-start, walked-next, walked-differs, walked-end}
 use Rattle.rules_arcs.proofs.other_run.Statement.{statement}
 use Rattle.rules_arcs.proofs.other_run.Tie as tie
-use Rattle.rules_arcs.proofs.other_run.Reads as reads
-use Rattle.rules_arcs.proofs.other_run.Lts as lts
-use Rattle.rules_arcs.proofs.step.Reads as step-reads
 
 abbrev Inv-loop : tie.InvT-loop
 Inv-loop plan start from to slice hs first upto ownp own j₀ k₀ j k = Walked plan start from to slice hs first upto j k
@@ -13,39 +10,30 @@ Inv-loop plan start from to slice hs first upto ownp own j₀ k₀ j k = Walked 
 abbrev μ-loop : tie.MeasureT-loop
 μ-loop plan start from to slice hs first upto ownp own j₀ k₀ j k = to - j
 
--- src/lib.rt:134:5
 loop-holds : tie.Need-loop-holds Inv-loop μ-loop
 loop-holds c = walked-start _ _ _ _ _ _ _ _ (c .before .before .before .pre .0 .rising) (c .before .before .before .pre .1 .1 .rising)
 
--- src/lib.rt:135:39
 mul-step : tie.Need-mul-step Inv-loop μ-loop
 mul-step c = search needs
 
--- src/lib.rt:135:31
 add-step : tie.Need-add-step Inv-loop μ-loop
 add-step c = search needs
 
--- src/lib.rt:135:13
 step-requires : tie.Need-step-requires Inv-loop μ-loop
 step-requires c κs = (c .before .before .before .before .before .pre .1 .0 (c .before .loop .j) (c .before .loop .inv .after) (c .loop-test .taken), record { sliced = c .before .before .before .before .before .pre .1 .1 .sliced; places = c .before .before .before .before .before .pre .1 .1 .places; rising = c .before .loop .inv .rising; within = c .before .before .before .before .before .pre .1 .1 .within })
 
--- src/lib.rt:137:13
 returns : tie.Need-returns Inv-loop μ-loop
 returns c = walked-differs (c .before .before .before .before .before .before .before .args .plan .now) _ _ _ (c .before .before .before .before .before .before .before .args .slice .now) _ _ _ _ _ (c .before .before .before .loop .inv) _ (c .before .before .loop-test .taken) (c .before .step .ensures) (c .if1 .taken)
 
--- src/lib.rt:140:9
 add-j : tie.Need-add-j Inv-loop μ-loop
 add-j c = search needs
 
--- src/lib.rt:134:5
 loop-less : tie.Need-loop-less Inv-loop μ-loop
 loop-less c = search needs
 
--- src/lib.rt:134:5
 loop-again : tie.Need-loop-again Inv-loop μ-loop
 loop-again c = walked-next (c .before .before .before .before .before .before .before .args .plan .now) _ _ _ (c .before .before .before .before .before .before .before .args .slice .now) _ _ _ _ _ (c .before .before .before .loop .inv) _ (c .before .before .loop-test .taken) (c .before .step .ensures) (c .if1 .left)
 
--- src/lib.rt:115:1
 returns-2 : tie.Need-returns-2 Inv-loop μ-loop
 returns-2 c = walked-end (c .before .before .before .before .before .args .plan .now) _ _ _ (c .before .before .before .before .before .args .slice .now) _ _ _ _ _ (c .before .loop .inv) (c .loop-test .left)
 

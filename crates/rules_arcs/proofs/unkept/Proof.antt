@@ -8,10 +8,6 @@ use Rattle.net.proofs.Numbers.{by-order}
 use Rattle.file.specs.Layout.{arcAt}
 use Rattle.rules_arcs.proofs.unkept.Statement.{statement}
 use Rattle.rules_arcs.proofs.unkept.Tie as tie
-use Rattle.rules_arcs.proofs.unkept.Reads as reads
-use Rattle.rules_arcs.proofs.unkept.Lts as lts
-use Rattle.file.proofs.arcs.arc.Reads as arc-reads
-use Rattle.rules_tables.proofs.entry.Reads as entry-reads
 
 abbrev Inv-loop : tie.InvT-loop
 Inv-loop plan start from to ownp j₀ j = (from ≤ j) × (j ≤ to) × ((i : ℕ) → from ≤ i → i < j → getD ownp (arcAt plan (start + 8 * i) .place) 0 ≡ 0 → ⊥)
@@ -19,27 +15,21 @@ Inv-loop plan start from to ownp j₀ j = (from ≤ j) × (j ≤ to) × ((i : �
 abbrev μ-loop : tie.MeasureT-loop
 μ-loop plan start from to ownp j₀ j = to - j
 
--- src/lib.rt:20:5
 loop-holds : tie.Need-loop-holds Inv-loop μ-loop
 loop-holds c = (omega arith, c .before .before .pre .rising, λ i a b. absurd (omega arith))
 
--- src/lib.rt:21:47
 mul-arc : tie.Need-mul-arc Inv-loop μ-loop
 mul-arc c = search needs
 
--- src/lib.rt:21:39
 add-arc : tie.Need-add-arc Inv-loop μ-loop
 add-arc c = search needs
 
--- src/lib.rt:21:13
 arc-requires : tie.Need-arc-requires Inv-loop μ-loop
 arc-requires c κs = search needs
 
--- src/lib.rt:22:12
 entry-requires : tie.Need-entry-requires Inv-loop μ-loop
 entry-requires c κs = omega (arith, ap (λ (a : Arc). a .place) (c .arc .ensures .0), c .before .before .before .before .before .pre .reached (c .before .before .loop .j) (c .before .loop-test .taken))
 
--- src/lib.rt:23:13
 returns : tie.Need-returns Inv-loop μ-loop
 returns c = record {
   found = λ e. (
@@ -51,15 +41,12 @@ returns c = record {
   none = λ e. absurd (let z : _≡_ {A = ℕ} 0 1 = cc in omega arith);
 }
 
--- src/lib.rt:25:9
 add-j : tie.Need-add-j Inv-loop μ-loop
 add-j c = search needs
 
--- src/lib.rt:20:5
 loop-less : tie.Need-loop-less Inv-loop μ-loop
 loop-less c = search needs
 
--- src/lib.rt:20:5
 loop-again : tie.Need-loop-again Inv-loop μ-loop
 loop-again c = (
   omega arith,
@@ -71,7 +58,6 @@ loop-again c = (
       (λ d. absurd (omega arith)),
 )
 
--- src/lib.rt:15:1
 returns-2 : tie.Need-returns-2 Inv-loop μ-loop
 returns-2 c = record {
   found = λ e. absurd (let z : _≡_ {A = ℕ} 0 1 = cc in omega arith);

@@ -8,33 +8,22 @@ use Rattle.rules_effects.specs.Movers.{limitOn}
 use Rattle.rules_effects.proofs.Limits.{criterion-fits, first-changer}
 use Rattle.rules_effects.proofs.changer_missing.Statement.{statement}
 use Rattle.rules_effects.proofs.changer_missing.Tie as tie
-use Rattle.rules_effects.proofs.changer_missing.Reads as reads
-use Rattle.rules_effects.proofs.changer_missing.Lts as lts
-use Rattle.rules_effects.proofs.first_mover.Reads as first-mover-reads
-use Rattle.rules_effects.proofs.limit_criterion.Reads as limit-criterion-reads
-use Rattle.rules_effects.proofs.unlimited.Reads as unlimited-reads
 
--- src/lib.rt:161:5
 unlimited-requires : tie.Need-unlimited-requires
 unlimited-requires c κs = search needs
 
--- src/lib.rt:162:5
 limit-criterion-requires : tie.Need-limit-criterion-requires
 limit-criterion-requires c κs = let s = c .before .before .before .before .before .before .before .before .before .before .before .before .before in criterion-fits _ _ (s .pre .1 .0) _ (omega (arith, s .pre .1 .1 .0 .reached, s .pre .1 .1 .1, c .before .before .before .unlimited .kept .0))
 
--- src/lib.rt:163:5
 first-mover-requires : tie.Need-first-mover-requires
 first-mover-requires c κs = let s = c .before .before .before .before .before .before .before .before .before .before .before .before .before .before .before .before .before .before in (s .pre .0, (s .pre .1 .1 .0, c .before .before .before .before .limit-criterion .kept .1 .0 ∙ c .before .before .before .before .before .before .before .before .unlimited .kept .0 ∙ s .pre .1 .1 .1))
 
--- src/lib.rt:142:1
 same-length : tie.Need-same-length
 same-length c = search needs
 
--- src/lib.rt:142:1
 same-length-2 : tie.Need-same-length-2
 same-length-2 c = search needs
 
--- src/lib.rt:142:1
 returns : tie.Need-returns
 returns c =
     let s = c .before .before .before .before .before .before .before .before .before .before .before .before .before .before .before .before .before .before .before .before .before in

@@ -9,9 +9,6 @@ use Rattle.rules_tables.proofs.Lowest.{NoneBelow, none-start, none-next, lowest
 use Rattle.rules_effects.specs.Movers.{moved, Resting}
 use Rattle.rules_effects.proofs.first_mover.Statement.{statement}
 use Rattle.rules_effects.proofs.first_mover.Tie as tie
-use Rattle.rules_effects.proofs.first_mover.Reads as reads
-use Rattle.rules_effects.proofs.first_mover.Lts as lts
-use Rattle.rules_effects.proofs.left_out_moves.Reads as left-out-moves-reads
 
 abbrev Inv-loop : tie.InvT-loop
 Inv-loop plan hp table slice hs ownp ownt limit column₀ t₀ column t = NoneBelow (λ t. moved (netFrom plan hp) limit t && not (among t (sliceFrom slice hs .transitionOrigins))) (hp .transitions) t × Resting (hp .places) column × (length column ≡ length column₀)
@@ -19,39 +16,30 @@ Inv-loop plan hp table slice hs ownp ownt limit column₀ t₀ column t = NoneBe
 abbrev μ-loop : tie.MeasureT-loop
 μ-loop plan hp table slice hs ownp ownt limit column₀ t₀ column t = hp .transitions - t
 
--- src/lib.rt:87:5
 loop-holds : tie.Need-loop-holds Inv-loop μ-loop
 loop-holds c = (none-start _ _, c .before .before .before .before .before .before .before .pre .1 .0, refl)
 
--- src/lib.rt:88:12
 left-out-moves-requires : tie.Need-left-out-moves-requires Inv-loop μ-loop
 left-out-moves-requires c κs = (c .before .before .before .before .before .before .before .before .before .before .before .pre .0, (c .before .before .before .loop .inv .1, (c .before .before .before .before .before .before .before .before .before .before .before .pre .1 .1 ∙ sym (c .before .before .before .loop .inv .2), c .before .if1 .taken)))
 
--- src/lib.rt:89:13
 same-length : tie.Need-same-length Inv-loop μ-loop
 same-length c = c .before .before .before .left-out-moves .kept .1 .1 .1 .1 .1 .1 .1 .1 .1 .0 ∙ c .before .before .before .before .before .before .before .loop .inv .2
 
--- src/lib.rt:89:13
 returns : tie.Need-returns Inv-loop μ-loop
 returns c = (lowest-found _ _ _ (c .before .before .before .before .before .before .before .loop .inv .0) (c .before .before .before .before .before .if1 .taken) (sym (c .before .before .before .left-out-moves .ensures .0) ∙ c .if2 .taken), c .before .before .before .left-out-moves .ensures .1)
 
--- src/lib.rt:91:9
 add-t : tie.Need-add-t Inv-loop μ-loop
 add-t c = search needs
 
--- src/lib.rt:87:5
 loop-less : tie.Need-loop-less Inv-loop μ-loop
 loop-less c = search needs
 
--- src/lib.rt:87:5
 loop-again : tie.Need-loop-again Inv-loop μ-loop
 loop-again c = (none-next _ _ _ (c .before .before .before .before .before .before .before .loop .inv .0) (c .before .before .before .before .before .if1 .taken) (sym (c .before .before .before .left-out-moves .ensures .0) ∙ c .if2 .left), c .before .before .before .left-out-moves .ensures .1, c .before .before .before .left-out-moves .kept .1 .1 .1 .1 .1 .1 .1 .1 .1 .0 ∙ c .before .before .before .before .before .before .before .loop .inv .2)
 
--- src/lib.rt:69:1
 same-length-2 : tie.Need-same-length-2 Inv-loop μ-loop
 same-length-2 c = c .before .before .loop .inv .2
 
--- src/lib.rt:69:1
 returns-2 : tie.Need-returns-2 Inv-loop μ-loop
 returns-2 c = (lowest-none _ _ _ (c .before .before .loop .inv .0) (c .if1 .left), c .before .before .loop .inv .1)
 

@@ -5,31 +5,22 @@ use Rattle.rules_effects.specs.Movers.{moved}
 use Rattle.rules_effects.proofs.Limits.{when-kept, when-left-out}
 use Rattle.rules_effects.proofs.left_out_moves.Statement.{statement}
 use Rattle.rules_effects.proofs.left_out_moves.Tie as tie
-use Rattle.rules_effects.proofs.left_out_moves.Reads as reads
-use Rattle.rules_effects.proofs.left_out_moves.Lts as lts
-use Rattle.rules_effects.proofs.moves.Reads as moves-reads
-use Rattle.rules_tables.proofs.entry.Reads as entry-reads
 
--- src/lib.rt:62:8
 entry-requires : tie.Need-entry-requires
 entry-requires c κs = search needs
 
--- src/lib.rt:63:9
 returns : tie.Need-returns
 returns c = let s = c .before .before .before .before .before .before .before .before .before in (
   when-kept _ _ (s .pre .0 .transitions) _ (omega (arith, s .pre .0 .transitionsReached, s .pre .1 .1 .1)) _ (c .before .entry .ensures .0) (c .if1 .taken) (moved (netFrom (s .args .plan .now) (s .args .hp)) (s .args .limit .now) (s .args .t)),
   s .pre .1 .0,
 )
 
--- src/lib.rt:65:5
 moves-requires : tie.Need-moves-requires
 moves-requires c κs = let s = c .before .before .before .before .before .before .before .before .before .before in (s .pre .0 .planned, (s .pre .0 .starts, (s .pre .1 .0, (s .pre .1 .1 .0, s .pre .1 .1 .1))))
 
--- src/lib.rt:43:1
 same-length : tie.Need-same-length
 same-length c = search needs
 
--- src/lib.rt:43:1
 returns-2 : tie.Need-returns-2
 returns-2 c = let s = c .before .before .before .before .before .before .before .before .before .before .before .before .before in (
   when-left-out _ _ (s .pre .0 .transitions) _ (omega (arith, s .pre .0 .transitionsReached, s .pre .1 .1 .1)) _ (c .before .before .before .before .before .entry .ensures .0) (c .before .before .before .before .if1 .left) _ _ (c .before .before .moves .ensures .0),

@@ -5,9 +5,6 @@ use lib.ListN.{length}
 use Rattle.rules_effects.proofs.Columns.{Marked, marked-none, marked-more, marked-all}
 use Rattle.rules_effects.proofs.limit_criterion.Statement.{statement}
 use Rattle.rules_effects.proofs.limit_criterion.Tie as tie
-use Rattle.rules_effects.proofs.limit_criterion.Reads as reads
-use Rattle.rules_effects.proofs.limit_criterion.Lts as lts
-use Rattle.rules_tables.proofs.entry.Reads as entry-reads
 
 abbrev Inv-loop : tie.InvT-loop
 Inv-loop criterion limit₀ i₀ limit i = Marked criterion limit₀ i limit
@@ -15,39 +12,30 @@ Inv-loop criterion limit₀ i₀ limit i = Marked criterion limit₀ i limit
 abbrev μ-loop : tie.MeasureT-loop
 μ-loop criterion limit₀ i₀ limit i = length criterion - i
 
--- src/lib.rt:113:5
 loop-holds : tie.Need-loop-holds Inv-loop μ-loop
 loop-holds c = marked-none _ _
 
--- src/lib.rt:114:13
 entry-requires : tie.Need-entry-requires Inv-loop μ-loop
 entry-requires c κs = c .loop-test .taken
 
--- src/lib.rt:115:9
 mul-limit : tie.Need-mul-limit Inv-loop μ-loop
 mul-limit c = search needs
 
--- src/lib.rt:115:9
 slice-write-limit : tie.Need-slice-write-limit Inv-loop μ-loop
 slice-write-limit c = omega (arith, c .entry .ensures .0, c .before .before .before .before .before .pre (c .before .before .loop .i) (c .before .loop-test .taken), c .before .before .loop .inv .long)
 
--- src/lib.rt:116:9
 add-i : tie.Need-add-i Inv-loop μ-loop
 add-i c = search needs
 
--- src/lib.rt:113:5
 loop-less : tie.Need-loop-less Inv-loop μ-loop
 loop-less c = search needs
 
--- src/lib.rt:113:5
 loop-again : tie.Need-loop-again Inv-loop μ-loop
 loop-again c = marked-more _ _ _ _ (c .before .before .loop .inv) (c .before .loop-test .taken) _ (c .entry .ensures .0) (omega (arith, c .entry .ensures .0, c .before .before .before .before .before .pre (c .before .before .loop .i) (c .before .loop-test .taken)))
 
--- src/lib.rt:108:1
 same-length : tie.Need-same-length Inv-loop μ-loop
 same-length c = c .before .loop .inv .long
 
--- src/lib.rt:108:1
 returns : tie.Need-returns Inv-loop μ-loop
 returns c = marked-all _ _ _ _ (c .before .loop .inv) (c .loop-test .left)
 

@@ -8,10 +8,6 @@ use Rattle.rules_effects.specs.Movers.{limitOn}
 use Rattle.rules_effects.proofs.Columns.{still-long, written}
 use Rattle.rules_effects.proofs.limit_kept.Statement.{statement}
 use Rattle.rules_effects.proofs.limit_kept.Tie as tie
-use Rattle.rules_effects.proofs.limit_kept.Reads as reads
-use Rattle.rules_effects.proofs.limit_kept.Lts as lts
-use Rattle.rules_effects.proofs.raise_limit.Reads as raise-limit-reads
-use Rattle.rules_tables.proofs.entry.Reads as entry-reads
 
 abbrev Inv-loop : tie.InvT-loop
 Inv-loop places ownp limit₀ p₀ limit p = (p ≤ places) × (length limit ≡ length limit₀) × ((q : ℕ) → q < p → getD limit q 0 ≡ limitOn (eqb (getD ownp q 0) 0) 4294967295 1073741824)
@@ -19,43 +15,33 @@ Inv-loop places ownp limit₀ p₀ limit p = (p ≤ places) × (length limit ≡
 abbrev μ-loop : tie.MeasureT-loop
 μ-loop places ownp limit₀ p₀ limit p = places - p
 
--- src/lib.rt:134:5
 loop-holds : tie.Need-loop-holds Inv-loop μ-loop
 loop-holds c = (omega arith, refl, λ q l. absurd (omega arith))
 
--- src/lib.rt:135:32
 entry-requires : tie.Need-entry-requires Inv-loop μ-loop
 entry-requires c κs = search needs
 
--- src/lib.rt:135:20
 raise-limit-requires : tie.Need-raise-limit-requires Inv-loop μ-loop
 raise-limit-requires c κs = search needs
 
--- src/lib.rt:135:9
 mul-limit : tie.Need-mul-limit Inv-loop μ-loop
 mul-limit c = search needs
 
--- src/lib.rt:135:9
 slice-write-limit : tie.Need-slice-write-limit Inv-loop μ-loop
 slice-write-limit c = omega (arith, c .before .before .loop-test .taken, c .before .before .before .loop .inv .1, c .before .before .before .before .before .before .pre .1)
 
--- src/lib.rt:136:9
 add-p : tie.Need-add-p Inv-loop μ-loop
 add-p c = search needs
 
--- src/lib.rt:134:5
 loop-less : tie.Need-loop-less Inv-loop μ-loop
 loop-less c = search needs
 
--- src/lib.rt:134:5
 loop-again : tie.Need-loop-again Inv-loop μ-loop
 loop-again c = (omega arith, still-long (c .before .before .before .loop .limit) (c .before .before .before .loop .p) (c .raise-limit .result) _ (c .before .before .before .loop .inv .1), written (λ q. limitOn (eqb (getD (c .before .before .before .before .before .before .args .ownp .now) q 0) 0) 4294967295 1073741824) (c .before .before .before .loop .limit) (c .before .before .before .loop .p) (c .raise-limit .result) (omega (arith, c .before .before .loop-test .taken, c .before .before .before .loop .inv .1, c .before .before .before .before .before .before .pre .1)) (c .before .before .before .loop .inv .2) (c .raise-limit .ensures ∙ ap (λ (n : ℕ). limitOn (eqb n 0) 4294967295 1073741824) (c .before .entry .ensures .0)))
 
--- src/lib.rt:128:1
 same-length : tie.Need-same-length Inv-loop μ-loop
 same-length c = c .before .loop .inv .1
 
--- src/lib.rt:128:1
 returns : tie.Need-returns Inv-loop μ-loop
 returns c = λ q l. c .before .loop .inv .2 q (omega arith)
 

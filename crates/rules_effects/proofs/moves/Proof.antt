@@ -3,12 +3,6 @@ use native.Mathlib.Omega.{arith}
 use Rattle.rules_effects.proofs.Moving.{Turn, turn}
 use Rattle.rules_effects.proofs.moves.Statement.{statement}
 use Rattle.rules_effects.proofs.moves.Tie as tie
-use Rattle.rules_effects.proofs.moves.Reads as reads
-use Rattle.rules_effects.proofs.moves.Lts as lts
-use Rattle.arcs_column.proofs.give.Reads as give-reads
-use Rattle.arcs_column.proofs.pulled.Reads as pulled-reads
-use Rattle.arcs_column.proofs.take.Reads as take-reads
-use Rattle.rules_tables.proofs.entry.Reads as entry-reads
 
 -- where the arcs of t stand
 turn-at : (c : tie.After-entry3) → let s = c .before .before .before .before .before .before .before in Turn (s .args .plan .now) (s .args .hp) (s .args .t) (c .before .before .entry .result) (c .before .entry2 .result) (c .entry3 .result) (s .args .limit .now) (s .args .column .now)
@@ -17,55 +11,42 @@ turn-at c =
     turn _ _ _ (s .pre .0) (s .pre .1 .0) (λ i. omega (arith, c .before .before .before .before .before .before .shared-slice-known .given i)) _ (s .pre .1 .1 .1 .1) _ _ _
     (c .before .before .entry .ensures .0) (c .before .entry2 .ensures .0) (c .entry3 .ensures .0) _ (s .pre .1 .1 .0) _ (s .pre .1 .1 .1 .0)
 
--- src/lib.rt:34:29
 mul-entry : tie.Need-mul-entry
 mul-entry c = search needs
 
--- src/lib.rt:34:9
 entry-requires : tie.Need-entry-requires
 entry-requires c κs = search needs
 
--- src/lib.rt:35:31
 mul-entry-2 : tie.Need-mul-entry-2
 mul-entry-2 c = search needs
 
--- src/lib.rt:35:31
 add-entry : tie.Need-add-entry
 add-entry c = search needs
 
--- src/lib.rt:35:9
 entry-requires-2 : tie.Need-entry-requires-2
 entry-requires-2 c κs = search needs
 
--- src/lib.rt:36:27
 mul-entry-3 : tie.Need-mul-entry-3
 mul-entry-3 c = search needs
 
--- src/lib.rt:36:27
 add-entry-2 : tie.Need-add-entry-2
 add-entry-2 c = search needs
 
--- src/lib.rt:36:9
 entry-requires-3 : tie.Need-entry-requires-3
 entry-requires-3 c κs = search needs
 
--- src/lib.rt:37:5
 take-requires : tie.Need-take-requires
 take-requires c κs = turn-at (c .before) .taking
 
--- src/lib.rt:38:5
 give-requires : tie.Need-give-requires
 give-requires c κs = turn-at (c .before .before .before .before .before) .giving _ (c .before .before .before .take .ensures)
 
--- src/lib.rt:39:5
 pulled-requires : tie.Need-pulled-requires
 pulled-requires c κs = turn-at (c .before .before .before .before .before .before .before .before .before) .pulling _ (c .before .before .before .before .before .before .before .take .ensures) _ (c .before .before .before .give .ensures)
 
--- src/lib.rt:18:1
 same-length : tie.Need-same-length
 same-length c = search needs
 
--- src/lib.rt:18:1
 returns : tie.Need-returns
 returns c = turn-at (c .before .before .before .before .before .before .before .before .before .before .before .before) .answer _ (c .before .before .before .before .before .before .before .before .before .before .take .ensures) _ (c .before .before .before .before .before .before .give .ensures) _ _ (c .before .before .pulled .ensures .0) (c .before .before .pulled .ensures .1)
 

@@ -2,14 +2,10 @@ use borrow.Author.Needs.{needs}
 use borrow.Author.Tests.{eq-eqb, ne-eqb}
 use Rattle.rules_effects.proofs.raise_limit.Statement.{statement}
 use Rattle.rules_effects.proofs.raise_limit.Tie as tie
-use Rattle.rules_effects.proofs.raise_limit.Reads as reads
-use Rattle.rules_effects.proofs.raise_limit.Lts as lts
 
--- src/lib.rt:121:1
 returns : tie.Need-returns
 returns c = rw (eq-eqb _ _ (c .if1 .taken))
 
--- src/lib.rt:121:1
 returns-2 : tie.Need-returns-2
 returns-2 c = rw (ne-eqb _ _ (c .if1 .left))
 

@@ -4,28 +4,19 @@ use native.Mathlib.Omega.{arith}
 use Rattle.rules_effects.proofs.Limits.{first-raiser}
 use Rattle.rules_effects.proofs.raiser_missing.Statement.{statement}
 use Rattle.rules_effects.proofs.raiser_missing.Tie as tie
-use Rattle.rules_effects.proofs.raiser_missing.Reads as reads
-use Rattle.rules_effects.proofs.raiser_missing.Lts as lts
-use Rattle.rules_effects.proofs.first_mover.Reads as first-mover-reads
-use Rattle.rules_effects.proofs.limit_kept.Reads as limit-kept-reads
 
--- src/lib.rt:185:5
 limit-kept-requires : tie.Need-limit-kept-requires
 limit-kept-requires c κs = let s = c .before .before .before .before .before .before .before .before in (s .pre .0 .placesReached, omega (arith, s .pre .1 .0 .reached, s .pre .1 .1))
 
--- src/lib.rt:186:5
 first-mover-requires : tie.Need-first-mover-requires
 first-mover-requires c κs = let s = c .before .before .before .before .before .before .before .before .before .before .before .before .before in (s .pre .0, (s .pre .1 .0, c .before .before .before .before .limit-kept .kept .1 .1 .0 ∙ s .pre .1 .1))
 
--- src/lib.rt:168:1
 same-length : tie.Need-same-length
 same-length c = search needs
 
--- src/lib.rt:168:1
 same-length-2 : tie.Need-same-length-2
 same-length-2 c = search needs
 
--- src/lib.rt:168:1
 returns : tie.Need-returns
 returns c = let s = c .before .before .before .before .before .before .before .before .before .before .before .before .before .before .before .before in (first-raiser _ _ _ _ _ _ _ (s .pre .0) (λ i. omega (arith, c .before .before .before .before .before .before .before .before .before .before .before .before .before .before .before .shared-slice-known .given i)) _ (c .before .before .before .before .before .before .before .limit-kept .ensures) _ (c .before .before .first-mover .ensures .0), c .before .before .first-mover .ensures .1)
 

@@ -6,8 +6,6 @@ use lib.ListN.{length, getD}
 use Rattle.rules_effects.proofs.Columns.{still-long, written}
 use Rattle.rules_effects.proofs.unlimited.Statement.{statement}
 use Rattle.rules_effects.proofs.unlimited.Tie as tie
-use Rattle.rules_effects.proofs.unlimited.Reads as reads
-use Rattle.rules_effects.proofs.unlimited.Lts as lts
 
 abbrev Inv-loop : tie.InvT-loop
 Inv-loop limit₀ i₀ limit i = (i ≤ length limit₀) × (length limit ≡ length limit₀) × ((p : ℕ) → p < i → getD limit p 0 ≡ 4294967295)
@@ -15,35 +13,27 @@ Inv-loop limit₀ i₀ limit i = (i ≤ length limit₀) × (length limit ≡ le
 abbrev μ-loop : tie.MeasureT-loop
 μ-loop limit₀ i₀ limit i = length limit₀ - i
 
--- src/lib.rt:101:5
 loop-holds : tie.Need-loop-holds Inv-loop μ-loop
 loop-holds c = (omega arith, refl, λ p l. absurd (omega arith))
 
--- src/lib.rt:102:9
 mul-limit : tie.Need-mul-limit Inv-loop μ-loop
 mul-limit c = search needs
 
--- src/lib.rt:102:9
 slice-write-limit : tie.Need-slice-write-limit Inv-loop μ-loop
 slice-write-limit c = search needs
 
--- src/lib.rt:103:9
 add-i : tie.Need-add-i Inv-loop μ-loop
 add-i c = search needs
 
--- src/lib.rt:101:5
 loop-less : tie.Need-loop-less Inv-loop μ-loop
 loop-less c = search needs
 
--- src/lib.rt:101:5
 loop-again : tie.Need-loop-again Inv-loop μ-loop
 loop-again c = (omega (arith, c .before .loop .inv .1), still-long (c .before .loop .limit) (c .before .loop .i) 4294967295 _ (c .before .loop .inv .1), written (λ p. 4294967295) (c .before .loop .limit) (c .before .loop .i) 4294967295 (c .loop-test .taken) (c .before .loop .inv .2) refl)
 
--- src/lib.rt:97:1
 same-length : tie.Need-same-length Inv-loop μ-loop
 same-length c = c .before .loop .inv .1
 
--- src/lib.rt:97:1
 returns : tie.Need-returns Inv-loop μ-loop
 returns c = λ p l. c .before .loop .inv .2 p (omega arith)
 

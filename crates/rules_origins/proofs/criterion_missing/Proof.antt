@@ -10,9 +10,6 @@ use Rattle.numbering.proofs.Lookup.{left-out, is-kept}
 use Rattle.rules_origins.proofs.Keeping.{missing-found, missing-none}
 use Rattle.rules_origins.proofs.criterion_missing.Statement.{statement}
 use Rattle.rules_origins.proofs.criterion_missing.Tie as tie
-use Rattle.rules_origins.proofs.criterion_missing.Reads as reads
-use Rattle.rules_origins.proofs.criterion_missing.Lts as lts
-use Rattle.rules_origins.proofs.wide.Reads as wide-reads
 
 abbrev Inv-loop : tie.InvT-loop
 Inv-loop criterion places ownp k₀ k = (k ≤ length criterion) × ((i : ℕ) → i < k → getD ownp (getD criterion i 0) 0 ≡ 0 → ⊥)
@@ -24,31 +21,24 @@ abbrev μ-loop : tie.MeasureT-loop
 inside : (c : tie.After-wide Inv-loop μ-loop) → c .wide .result < length (now (c .before .before .before .before .before .before .args .ownp))
 inside c = omega (arith, c .wide .ensures, c .before .before .before .before .before .before .pre .1, passed _ _ (c .before .before .before .before .before .before .pre .0) .known-at (c .before .before .before .loop .k) (c .before .before .loop-test .taken))
 
--- src/lib.rt:102:5
 loop-holds : tie.Need-loop-holds Inv-loop μ-loop
 loop-holds c = (omega arith, λ k l. absurd (omega arith))
 
--- src/lib.rt:103:22
 mul-wide : tie.Need-mul-wide Inv-loop μ-loop
 mul-wide c = search needs
 
--- src/lib.rt:103:22
 shared-slice-read-wide : tie.Need-shared-slice-read-wide Inv-loop μ-loop
 shared-slice-read-wide c = search needs
 
--- src/lib.rt:103:13
 wide-requires : tie.Need-wide-requires Inv-loop μ-loop
 wide-requires c κs = search needs
 
--- src/lib.rt:104:12
 mul-if1 : tie.Need-mul-if1 Inv-loop μ-loop
 mul-if1 c = omega (arith, inside c)
 
--- src/lib.rt:104:12
 shared-slice-read-if1 : tie.Need-shared-slice-read-if1 Inv-loop μ-loop
 shared-slice-read-if1 c = omega (arith, inside (c .before))
 
--- src/lib.rt:105:13
 returns : tie.Need-returns Inv-loop μ-loop
 returns c = λ N S e o.
     let pre = c .before .before .before .before .before .before .before .before .pre in
@@ -59,22 +49,18 @@ returns c = λ N S e o.
     (λ k l. is-kept _ _ o _ (omega (arith, pre .1, w .known-at k (omega (arith, c .before .before .before .before .loop-test .taken)))) (c .before .before .before .before .before .loop .inv .1 k l))
     (left-out _ _ o _ (omega (arith, pre .1, w .known-at i (c .before .before .before .before .loop-test .taken))) (rw (← c .before .before .wide .ensures) (c .if1 .taken)))
 
--- src/lib.rt:107:9
 add-k : tie.Need-add-k Inv-loop μ-loop
 add-k c = search needs
 
--- src/lib.rt:102:5
 loop-less : tie.Need-loop-less Inv-loop μ-loop
 loop-less c = search needs
 
--- src/lib.rt:102:5
 loop-again : tie.Need-loop-again Inv-loop μ-loop
 loop-again c = (
   search needs,
   below-more _ _ (c .before .before .before .before .before .loop .inv .1) (λ z. c .if1 .left (rw (c .before .before .wide .ensures) z)),
 )
 
--- src/lib.rt:96:1
 returns-2 : tie.Need-returns-2 Inv-loop μ-loop
 returns-2 c = λ N S e o.
     let pre = c .before .before .before .before .pre in

@@ -8,32 +8,22 @@ use Rattle.file.proofs.Rows.{length-words, words-at}
 use Rattle.rules_origins.proofs.Firsts.{unknown-none, last-decides}
 use Rattle.rules_origins.proofs.first_unknown.Statement.{statement}
 use Rattle.rules_origins.proofs.first_unknown.Tie as tie
-use Rattle.rules_origins.proofs.first_unknown.Reads as reads
-use Rattle.rules_origins.proofs.first_unknown.Lts as lts
-use Rattle.file.proofs.word.get16.Reads as get16-reads
-use Rattle.rules_origins.proofs.scan.Reads as scan-reads
 
--- src/lib.rt:37:9
 returns : tie.Need-returns
 returns c = let z : c .before .before .args .count ≡ 0 = c .if1 .taken in sym z ∙ unknown-none _ _ _ (λ k l. absurd (omega arith))
 
--- src/lib.rt:39:34
 sub-get16 : tie.Need-sub-get16
 sub-get16 c = search needs
 
--- src/lib.rt:39:29
 mul-get16 : tie.Need-mul-get16
 mul-get16 c = search needs
 
--- src/lib.rt:39:21
 add-get16 : tie.Need-add-get16
 add-get16 c = search needs
 
--- src/lib.rt:39:8
 get16-requires : tie.Need-get16-requires
 get16-requires c κs = search needs
 
--- src/lib.rt:40:9
 returns-2 : tie.Need-returns-2
 returns-2 c =
     let a = c .before .before .before .before .args in
@@ -42,11 +32,9 @@ returns-2 c =
     let some : 0 < a .count = omega (arith, c .before .before .if1 .left) in
     unknown-none _ _ _ (λ k l. last-decides (a .limit) (wordsFrom (now (a .slice)) (a .start) (a .count)) (c .before .before .before .before .pre .rise) m (omega arith) (omega (arith, c .if2 .taken, c .before .get16 .ensures .0, words-at (now (a .slice)) (a .start) (a .count) m (omega arith))) k (omega arith))
 
--- src/lib.rt:42:5
 scan-requires : tie.Need-scan-requires
 scan-requires c κs = search needs
 
--- src/lib.rt:32:1
 returns-3 : tie.Need-returns-3
 returns-3 c = search needs
 

@@ -12,10 +12,6 @@ use Rattle.file.proofs.Caps.{no-caps}
 use Rattle.rules_origins.proofs.Keeping.{Alike, marking-found, marking-none}
 use Rattle.rules_origins.proofs.other_marking.Statement.{statement}
 use Rattle.rules_origins.proofs.other_marking.Tie as tie
-use Rattle.rules_origins.proofs.other_marking.Reads as reads
-use Rattle.rules_origins.proofs.other_marking.Lts as lts
-use Rattle.file.proofs.marking.Reads as marking-reads
-use Rattle.file.proofs.word.get16.Reads as get16-reads
 
 abbrev Inv-loop : tie.InvT-loop
 Inv-loop plan hp slice hs start count i₀ i = (i ≤ hs .places) × ((k : ℕ) → k < i → Alike (netFrom plan hp) (sliceFrom slice hs) k)
@@ -23,7 +19,6 @@ Inv-loop plan hp slice hs start count i₀ i = (i ≤ hs .places) × ((k : ℕ) 
 abbrev μ-loop : tie.MeasureT-loop
 μ-loop plan hp slice hs start count i₀ i = hs .places - i
 
--- src/lib.rt:79:5
 loop-holds : tie.Need-loop-holds Inv-loop μ-loop
 loop-holds c = (omega arith, λ k l. absurd (omega arith))
 
@@ -36,31 +31,25 @@ origin-is c =
 inside : (c : tie.In-loop Inv-loop μ-loop) → c .before .loop .i < length (sliceFrom (now (c .before .before .before .before .args .slice)) (c .before .before .before .before .args .hs) .placeOrigins)
 inside c = let a = c .before .before .before .before .args in omega (arith, length-words (now (a .slice)) (a .hs .originstart) (a .hs .places), c .loop-test .taken)
 
--- src/lib.rt:80:38
 mul-get16 : tie.Need-mul-get16 Inv-loop μ-loop
 mul-get16 c = search needs
 
--- src/lib.rt:80:30
 add-get16 : tie.Need-add-get16 Inv-loop μ-loop
 add-get16 c = search needs
 
--- src/lib.rt:80:13
 get16-requires : tie.Need-get16-requires Inv-loop μ-loop
 get16-requires c κs =
     let w = place-origins _ _ (c .before .before .before .before .pre .1 .0) (c .before .before .before .before .pre .1 .1 .0) .fit in
     omega (arith, c .loop-test .taken)
 
--- src/lib.rt:81:13
 marking-requires : tie.Need-marking-requires Inv-loop μ-loop
 marking-requires c κs =
     let known = c .before .before .before .before .before .pre .1 .1 .1 .at (c .before .before .loop .i) (inside (c .before)) in
     (c .before .before .before .before .before .pre .0 .placed, rw (origin-is c) known)
 
--- src/lib.rt:82:12
 marking-requires-2 : tie.Need-marking-requires-2 Inv-loop μ-loop
 marking-requires-2 c κs = (c .before .before .before .before .before .before .pre .1 .0 .placed, c .before .before .loop-test .taken)
 
--- src/lib.rt:83:13
 returns : tie.Need-returns Inv-loop μ-loop
 returns c =
     let pre = c .before .before .before .before .before .before .before .before .pre in
@@ -70,15 +59,12 @@ returns c =
     ∙ marking-found _ _ (no-caps (now (a .plan)) (a .hp)) (no-caps (now (a .slice)) (a .hs)) (pre .1 .0 .placeOrigins (pre .1 .1 .0)) (pre .1 .1 .1) (c .before .before .before .before .before .loop .i) (inside (c .before .before .before .before)) (c .before .before .before .before .before .loop .inv .1)
     (λ e. c .if1 .taken (c .before .marking2 .ensures .0 ∙ e ∙ ap (netFrom (now (c .before .before .before .before .before .before .before .before .args .plan)) (c .before .before .before .before .before .before .before .before .args .hp) .marking) (sym p) ∙ sym (c .before .before .marking .ensures .0)))
 
--- src/lib.rt:85:9
 add-i : tie.Need-add-i Inv-loop μ-loop
 add-i c = search needs
 
--- src/lib.rt:79:5
 loop-less : tie.Need-loop-less Inv-loop μ-loop
 loop-less c = search needs
 
--- src/lib.rt:79:5
 loop-again : tie.Need-loop-again Inv-loop μ-loop
 loop-again c = (
   omega (arith, c .before .before .before .before .loop-test .taken),
@@ -86,7 +72,6 @@ loop-again c = (
       (record { tokens = sym (c .before .marking2 .ensures .0) ∙ c .if1 .left ∙ c .before .before .marking .ensures .0 ∙ ap (netFrom (now (c .before .before .before .before .before .before .before .before .args .plan)) (c .before .before .before .before .before .before .before .before .args .hp) .marking) (origin-is (c .before .before .before)) }),
 )
 
--- src/lib.rt:69:1
 returns-2 : tie.Need-returns-2 Inv-loop μ-loop
 returns-2 c =
     let pre = c .before .before .before .before .pre in

@@ -4,15 +4,10 @@ use Rattle.rules_origins.proofs.Reached.{place-origins}
 use Rattle.rules_origins.proofs.Keeping.{unknown-place}
 use Rattle.rules_origins.proofs.unknown_place.Statement.{statement}
 use Rattle.rules_origins.proofs.unknown_place.Tie as tie
-use Rattle.rules_origins.proofs.unknown_place.Reads as reads
-use Rattle.rules_origins.proofs.unknown_place.Lts as lts
-use Rattle.rules_origins.proofs.first_unknown.Reads as first-unknown-reads
 
--- src/lib.rt:51:5
 first-unknown-requires : tie.Need-first-unknown-requires
 first-unknown-requires c κs = place-origins _ _ (c .before .pre .0) (c .before .pre .1)
 
--- src/lib.rt:46:1
 returns : tie.Need-returns
 returns c = λ N e. c .first-unknown .ensures ∙ unknown-place N _ _ e
 

@@ -4,23 +4,16 @@ use Rattle.rules_origins.proofs.Reached.{transition-origins}
 use Rattle.rules_origins.proofs.Keeping.{unknown-transition}
 use Rattle.rules_origins.proofs.unknown_transition.Statement.{statement}
 use Rattle.rules_origins.proofs.unknown_transition.Tie as tie
-use Rattle.rules_origins.proofs.unknown_transition.Reads as reads
-use Rattle.rules_origins.proofs.unknown_transition.Lts as lts
-use Rattle.rules_origins.proofs.first_unknown.Reads as first-unknown-reads
 
--- src/lib.rt:62:26
 mul-first-unknown : tie.Need-mul-first-unknown
 mul-first-unknown c = search needs
 
--- src/lib.rt:62:9
 add-first-unknown : tie.Need-add-first-unknown
 add-first-unknown c = search needs
 
--- src/lib.rt:60:5
 first-unknown-requires : tie.Need-first-unknown-requires
 first-unknown-requires c κs = transition-origins _ _ (c .before .before .before .pre .0) (c .before .before .before .pre .1)
 
--- src/lib.rt:55:1
 returns : tie.Need-returns
 returns c = λ N e. c .first-unknown .ensures ∙ unknown-transition N _ _ e
 

@@ -9,12 +9,6 @@ use Rattle.promise.proofs.Demands.{when-accepted}
 use Rattle.call_check.proofs.Checks.{plan-turned, slice-turned, criterion-turned, slice-kind, judged}
 use Rattle.call_check.proofs.verdicts.check.Statement.{statement}
 use Rattle.call_check.proofs.verdicts.check.Tie as tie
-use Rattle.call_check.proofs.verdicts.check.Reads as reads
-use Rattle.call_check.proofs.verdicts.check.Lts as lts
-use Rattle.checker.proofs.judge.Reads as judge-reads
-use Rattle.inputs_criterion.proofs.refusal.Reads as refusal-reads
-use Rattle.file.proofs.number.Reads as number-reads
-use Rattle.file.proofs.read.Reads as read-reads
 
 -- what is known of the two files from here on
 plan-at : (c : tie.After-first) → Opened due.Plan (c .before .before .before .before .before .before .args .plan .now) (c .first .given .0 .0)
@@ -23,68 +17,54 @@ plan-at c = opened due.Plan _ (c .before .before .read .ensures) (c .first .give
 slice-at : (c : tie.After-second) → Opened due.Slice (c .before .before .before .before .before .before .before .before .before .before .args .slice .now) (c .second .given .0 .0)
 slice-at c = opened due.Slice _ (c .before .before .read2 .ensures) (c .second .given .1)
 
--- src/verdict.rt:18:9
 read-requires : tie.Need-read-requires
 read-requires c κs = search needs
 
--- src/verdict.rt:19:24
 enum-known-first : tie.Need-enum-known-first
 enum-known-first c = search needs
 
--- src/verdict.rt:20:52
 enum-told : tie.Need-enum-told
 enum-told c = search needs
 
--- src/verdict.rt:20:52
 number-requires : tie.Need-number-requires
 number-requires c κs = search needs
 
--- src/verdict.rt:20:9
 returns : tie.Need-returns
 returns c =
     let e = plan-turned _ _ _ _ (turned-back due.Plan _ (c .before .before .before .read .ensures) (c .before .enum-told .given .1) (c .number .ensures)) in
     (e, when-accepted _ _ _ e)
 
--- src/verdict.rt:22:9
 read-requires-2 : tie.Need-read-requires-2
 read-requires-2 c κs = search needs
 
--- src/verdict.rt:23:24
 enum-known-second : tie.Need-enum-known-second
 enum-known-second c = search needs
 
--- src/verdict.rt:24:52
 enum-told-2 : tie.Need-enum-told-2
 enum-told-2 c = search needs
 
--- src/verdict.rt:24:52
 number-requires-2 : tie.Need-number-requires-2
 number-requires-2 c κs = search needs
 
--- src/verdict.rt:24:9
 returns-2 : tie.Need-returns-2
 returns-2 c =
     let e = slice-turned _ _ _ _ (plan-at (c .before .before .before .before .before)) _ (turned-back due.Slice _ (c .before .before .before .read2 .ensures) (c .before .enum-told2 .given .1) (c .number2 .ensures)) in
     (e, when-accepted _ _ _ e)
 
--- src/verdict.rt:26:9
 refusal-requires : tie.Need-refusal-requires
 refusal-requires c κs = search needs
 
--- src/verdict.rt:28:9
 returns-3 : tie.Need-returns-3
 returns-3 c =
     let e = criterion-turned _ _ _ _ (plan-at (c .before .before .before .before .before .before .before)) _ (slice-at (c .before .before .before)) _ (c .before .refusal .ensures) (c .if1 .taken) in
     (e, when-accepted _ _ _ e)
 
--- src/verdict.rt:30:5
 judge-requires : tie.Need-judge-requires
 judge-requires c κs =
     let p = plan-at (c .before .before .before .before .before .before .before) in
     let s = slice-at (c .before .before .before) in
     record { planned = p .good; sliced = s .good; kind = slice-kind _ _ [] _ p _ s; criterion = sym (c .before .refusal .ensures) ∙ c .if1 .left }
 
--- src/verdict.rt:14:1
 returns-4 : tie.Need-returns-4
 returns-4 c =
     let e = c .judge .ensures ∙ judged _ _ _ _ (plan-at (c .before .before .before .before .before .before .before .before)) _ (slice-at (c .before .before .before .before)) (sym (c .before .before .refusal .ensures) ∙ c .before .if1 .left) in

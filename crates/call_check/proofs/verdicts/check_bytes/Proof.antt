@@ -9,12 +9,6 @@ use Rattle.promise.proofs.Demands.{when-0}
 use Rattle.call_check.proofs.Checks.{plan-turned-bytes, slice-turned-bytes, criterion-turned-bytes, slice-kind, judged-bytes}
 use Rattle.call_check.proofs.verdicts.check_bytes.Statement.{statement}
 use Rattle.call_check.proofs.verdicts.check_bytes.Tie as tie
-use Rattle.call_check.proofs.verdicts.check_bytes.Reads as reads
-use Rattle.call_check.proofs.verdicts.check_bytes.Lts as lts
-use Rattle.checker.proofs.judge_bytes.Reads as judge-bytes-reads
-use Rattle.inputs_criterion.proofs.bytes_refusal.Reads as bytes-refusal-reads
-use Rattle.file.proofs.number.Reads as number-reads
-use Rattle.file.proofs.read.Reads as read-reads
 
 -- what is known of the two files from here on
 plan-at : (c : tie.After-first) → Opened due.Plan (c .before .before .before .before .before .before .args .plan .now) (c .first .given .0 .0)
@@ -23,55 +17,43 @@ plan-at c = opened due.Plan _ (c .before .before .read .ensures) (c .first .give
 slice-at : (c : tie.After-second) → Opened due.Slice (c .before .before .before .before .before .before .before .before .before .before .args .slice .now) (c .second .given .0 .0)
 slice-at c = opened due.Slice _ (c .before .before .read2 .ensures) (c .second .given .1)
 
--- src/verdict.rt:39:9
 read-requires : tie.Need-read-requires
 read-requires c κs = search needs
 
--- src/verdict.rt:40:24
 enum-known-first : tie.Need-enum-known-first
 enum-known-first c = search needs
 
--- src/verdict.rt:41:9
 enum-told : tie.Need-enum-told
 enum-told c = search needs
 
--- src/verdict.rt:41:9
 number-requires : tie.Need-number-requires
 number-requires c κs = search needs
 
--- src/verdict.rt:41:9
 returns : tie.Need-returns
 returns c =
     let e = plan-turned-bytes _ _ _ _ (turned-back due.Plan _ (c .before .before .before .read .ensures) (c .before .enum-told .given .1) (c .number .ensures)) in
     (e, when-0 _ _ _ e)
 
--- src/verdict.rt:43:9
 read-requires-2 : tie.Need-read-requires-2
 read-requires-2 c κs = search needs
 
--- src/verdict.rt:44:24
 enum-known-second : tie.Need-enum-known-second
 enum-known-second c = search needs
 
--- src/verdict.rt:45:9
 enum-told-2 : tie.Need-enum-told-2
 enum-told-2 c = search needs
 
--- src/verdict.rt:45:9
 number-requires-2 : tie.Need-number-requires-2
 number-requires-2 c κs = search needs
 
--- src/verdict.rt:45:9
 returns-2 : tie.Need-returns-2
 returns-2 c =
     let e = slice-turned-bytes _ _ _ _ (plan-at (c .before .before .before .before .before)) _ (turned-back due.Slice _ (c .before .before .before .read2 .ensures) (c .before .enum-told2 .given .1) (c .number2 .ensures)) in
     (e, when-0 _ _ _ e)
 
--- src/verdict.rt:47:9
 bytes-refusal-requires : tie.Need-bytes-refusal-requires
 bytes-refusal-requires c κs = search needs
 
--- src/verdict.rt:49:9
 returns-3 : tie.Need-returns-3
 returns-3 c =
     let e = criterion-turned-bytes _ _ _ _ (plan-at (c .before .before .before .before .before .before .before)) _ (slice-at (c .before .before .before)) _ (c .before .bytes-refusal .ensures) (c .if1 .taken) in

@@ -9,13 +9,6 @@ use Rattle.file.proofs.Opening.{opened, turned-back}
 use Rattle.call_cuts.proofs.Cutting.{by-file, by-criterion, safety-refused, safety-untouched, safety-within, safety-written, safety-all}
 use Rattle.call_cuts.proofs.cuts.safety.Statement.{statement}
 use Rattle.call_cuts.proofs.cuts.safety.Tie as tie
-use Rattle.call_cuts.proofs.cuts.safety.Reads as reads
-use Rattle.call_cuts.proofs.cuts.safety.Lts as lts
-use Rattle.inputs_criterion.proofs.refusal.Reads as refusal-reads
-use Rattle.cut.proofs.kept.Reads as kept-reads
-use Rattle.file.proofs.number.Reads as number-reads
-use Rattle.file.proofs.read.Reads as read-reads
-use Rattle.slice.proofs.write.Reads as write-reads
 
 -- what is known of the plan from here on, and of the criterion
 open-at : (c : tie.After-whole) → Opened due.Plan (c .before .before .before .before .before .before .args .plan .now) (c .whole .given .0 .0)
@@ -24,52 +17,41 @@ open-at c = opened due.Plan _ (c .before .before .read .ensures) (c .whole .give
 passes : (c : tie.Else1) → criterionRefusal (c .before .before .before .whole .given .0 .0 .places) (c .before .before .before .before .before .before .before .before .before .args .criterion .now) ≡ 0
 passes c = sym (c .before .refusal .ensures) ∙ c .if1 .left
 
--- src/cuts.rt:17:9
 read-requires : tie.Need-read-requires
 read-requires c κs = search needs
 
--- src/cuts.rt:18:24
 enum-known-whole : tie.Need-enum-known-whole
 enum-known-whole c = search needs
 
--- src/cuts.rt:19:29
 enum-told : tie.Need-enum-told
 enum-told c = search needs
 
--- src/cuts.rt:19:29
 number-requires : tie.Need-number-requires
 number-requires c κs = search needs
 
--- src/cuts.rt:19:9
 returns : tie.Need-returns
 returns c =
     let t = turned-back due.Plan _ (c .before .before .before .read .ensures) (c .before .enum-told .given .1) (c .number .ensures) in
     let e = by-file _ (c .before .before .before .before .before .before .before .args .criterion .now) (t .0) (t .1) in
     safety-all (c .before .before .before .before .before .before .before .args .plan .now) (c .before .before .before .before .before .before .before .args .criterion .now) (c .before .before .before .before .before .before .before .args .buffer .now) (λ i. omega (arith, c .before .before .before .before .before .before .shared-slice-known .given i)) (safety-refused _ _ _ e (t .1) _, safety-untouched _ _ _ e (t .1) _)
 
--- src/cuts.rt:21:9
 refusal-requires : tie.Need-refusal-requires
 refusal-requires c κs = search needs
 
--- src/cuts.rt:23:9
 returns-2 : tie.Need-returns-2
 returns-2 c =
     let e = by-criterion _ _ _ (open-at (c .before .before .before)) (c .before .refusal .ensures) in
     safety-all (c .before .before .before .before .before .before .before .before .before .args .plan .now) (c .before .before .before .before .before .before .before .before .before .args .criterion .now) (c .before .before .before .before .before .before .before .before .before .args .buffer .now) (λ i. omega (arith, c .before .before .before .before .before .before .before .before .shared-slice-known .given i)) (safety-refused _ _ _ e (c .if1 .taken) _, safety-untouched _ _ _ e (c .if1 .taken) _)
 
--- src/cuts.rt:25:9
 kept-requires : tie.Need-kept-requires
 kept-requires c κs = (open-at (c .before .before .before) .good, passes c)
 
--- src/cuts.rt:26:5
 write-requires : tie.Need-write-requires
 write-requires c κs = (open-at (c .before .before .before .before .before) .good, safety-within _ _ _ (open-at (c .before .before .before .before .before)) (passes (c .before .before)) _ (c .before .kept .ensures))
 
--- src/cuts.rt:12:1
 same-length : tie.Need-same-length
 same-length c = search needs
 
--- src/cuts.rt:12:1
 returns-3 : tie.Need-returns-3
 returns-3 c =
     let w = c .before .before .write .ensures in

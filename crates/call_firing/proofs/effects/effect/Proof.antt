@@ -7,49 +7,35 @@ use Rattle.file.proofs.Opening.{opened, turned-back}
 use Rattle.call_firing.proofs.Changes.{effect-file, effect-10, effect-12, effect-by}
 use Rattle.call_firing.proofs.effects.effect.Statement.{statement}
 use Rattle.call_firing.proofs.effects.effect.Tie as tie
-use Rattle.call_firing.proofs.effects.effect.Reads as reads
-use Rattle.call_firing.proofs.effects.effect.Lts as lts
-use Rattle.file.proofs.number.Reads as number-reads
-use Rattle.file.proofs.read.Reads as read-reads
-use Rattle.arcs_effect.proofs.effect.Reads as effect-reads
 
 -- what is known of the file from here on
 open-at : (c : tie.After-whole) → Opened Either (c .before .before .before .before .args .file .now) (c .whole .given .0 .0)
 open-at c = opened Either _ (c .before .before .read .ensures) (c .whole .given .1)
 
--- src/effect.rt:18:9
 read-requires : tie.Need-read-requires
 read-requires c κs = search needs
 
--- src/effect.rt:19:24
 enum-known-whole : tie.Need-enum-known-whole
 enum-known-whole c = search needs
 
--- src/effect.rt:20:32
 enum-told : tie.Need-enum-told
 enum-told c = search needs
 
--- src/effect.rt:20:32
 number-requires : tie.Need-number-requires
 number-requires c κs = search needs
 
--- src/effect.rt:20:9
 returns : tie.Need-returns
 returns c = effect-file _ _ _ _ (turned-back Either _ (c .before .before .before .read .ensures) (c .before .enum-told .given .1) (c .number .ensures))
 
--- src/effect.rt:25:9
 returns-2 : tie.Need-returns-2
 returns-2 c = effect-10 _ _ (open-at (c .before .before .before)) _ _ (c .if1 .taken)
 
--- src/effect.rt:28:9
 returns-3 : tie.Need-returns-3
 returns-3 c = effect-12 _ _ (open-at (c .before .before .before .before .before)) _ _ (c .before .before .if1 .left) (c .if2 .taken)
 
--- src/effect.rt:30:16
 effect-requires : tie.Need-effect-requires
 effect-requires c κs = (open-at (c .before .before .before .before .before) .good, c .if2 .left)
 
--- src/effect.rt:15:1
 returns-4 : tie.Need-returns-4
 returns-4 c = effect-by _ _ (open-at (c .before .before .before .before .before .before)) _ _ _ (c .before .before .before .if1 .left) (c .before .if2 .left) (toZ-ofZ (record { sfits = c .effect .ok }) ∙ c .effect .ensures)
 

@@ -8,10 +8,6 @@ use Rattle.file.proofs.Opening.{opened}
 use Rattle.call_firing.proofs.ArcRuns.{not-read, plan-refused, slice-refused, no-start, of-slice, of-plan, start-of-slice, start-of-plan}
 use Rattle.call_firing.proofs.runs.arc_part.Statement.{statement}
 use Rattle.call_firing.proofs.runs.arc_part.Tie as tie
-use Rattle.call_firing.proofs.runs.arc_part.Reads as reads
-use Rattle.call_firing.proofs.runs.arc_part.Lts as lts
-use Rattle.file.proofs.read.Reads as read-reads
-use Rattle.arcs_effect.proofs.run_part.Reads as run-part-reads
 
 -- what is known of the two files from here on
 plan-at : (c : tie.After-first) → Opened due.Plan (c .before .before .before .before .before .args .plan .now) (c .first .given .0 .0)
@@ -20,55 +16,43 @@ plan-at c = opened due.Plan _ (c .before .before .read .ensures) (c .first .give
 slice-at : (c : tie.After-second) → Opened due.Slice (c .before .before .before .before .before .before .before .before .before .args .slice .now) (c .second .given .0 .0)
 slice-at c = opened due.Slice _ (c .before .before .read2 .ensures) (c .second .given .1)
 
--- src/arcs.rt:40:9
 read-requires : tie.Need-read-requires
 read-requires c κs = search needs
 
--- src/arcs.rt:41:24
 enum-known-first : tie.Need-enum-known-first
 enum-known-first c = search needs
 
--- src/arcs.rt:42:9
 enum-told : tie.Need-enum-told
 enum-told c = search needs
 
--- src/arcs.rt:43:9
 returns : tie.Need-returns
 returns c =
     let e = plan-refused _ _ _ _ (not-read due.Plan _ (c .before .before .read .ensures) (c .enum-told .given .1)) in
     (sym (no-start _ _ _ _ e), sym (ap length e))
 
--- src/arcs.rt:45:9
 read-requires-2 : tie.Need-read-requires-2
 read-requires-2 c κs = search needs
 
--- src/arcs.rt:46:24
 enum-known-second : tie.Need-enum-known-second
 enum-known-second c = search needs
 
--- src/arcs.rt:47:9
 enum-told-2 : tie.Need-enum-told-2
 enum-told-2 c = search needs
 
--- src/arcs.rt:48:9
 returns-2 : tie.Need-returns-2
 returns-2 c =
     let e = slice-refused _ _ _ _ (plan-at (c .before .before .before .before) .read) (not-read due.Slice _ (c .before .before .read2 .ensures) (c .enum-told2 .given .1)) in
     (sym (no-start _ _ _ _ e), sym (ap length e))
 
--- src/arcs.rt:52:13
 run-part-requires : tie.Need-run-part-requires
 run-part-requires c κs = slice-at (c .before .before) .good
 
--- src/arcs.rt:53:18
 cast-start : tie.Need-cast-start
 cast-start c = search needs
 
--- src/arcs.rt:54:16
 cast-length : tie.Need-cast-length
 cast-length c = search needs
 
--- src/arcs.rt:54:9
 returns-3 : tie.Need-returns-3
 returns-3 c =
     let p = plan-at (c .before .before .before .before .before .before .before .before .before) in
@@ -76,19 +60,15 @@ returns-3 c =
     let r = c .before .before .run-part .ensures in
     rw (c .before .before .before .if1 .taken) (r .start ∙ sym (start-of-slice _ _ _ _ p q _), r .long ∙ sym (ap length (of-slice _ _ _ _ p q _)))
 
--- src/arcs.rt:56:9
 run-part-requires-2 : tie.Need-run-part-requires-2
 run-part-requires-2 c κs = plan-at (c .before .before .before .before .before .before) .good
 
--- src/arcs.rt:57:14
 cast-start-2 : tie.Need-cast-start-2
 cast-start-2 c = search needs
 
--- src/arcs.rt:58:5
 cast-length-2 : tie.Need-cast-length-2
 cast-length-2 c = search needs
 
--- src/arcs.rt:29:1
 returns-4 : tie.Need-returns-4
 returns-4 c =
     let p = plan-at (c .before .before .before .before .before .before .before .before .before) in

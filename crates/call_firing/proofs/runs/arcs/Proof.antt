@@ -7,10 +7,6 @@ use Rattle.file.proofs.Opening.{opened}
 use Rattle.call_firing.proofs.ArcRuns.{not-read, plan-refused, slice-refused, of-slice, of-plan}
 use Rattle.call_firing.proofs.runs.arcs.Statement.{statement}
 use Rattle.call_firing.proofs.runs.arcs.Tie as tie
-use Rattle.call_firing.proofs.runs.arcs.Reads as reads
-use Rattle.call_firing.proofs.runs.arcs.Lts as lts
-use Rattle.file.proofs.read.Reads as read-reads
-use Rattle.arcs_effect.proofs.run.Reads as run-reads
 
 -- what is known of the two files from here on
 plan-at : (c : tie.After-first) → Opened due.Plan (c .before .before .before .before .before .args .plan .now) (c .first .given .0 .0)
@@ -19,59 +15,45 @@ plan-at c = opened due.Plan _ (c .before .before .read .ensures) (c .first .give
 slice-at : (c : tie.After-second) → Opened due.Slice (c .before .before .before .before .before .before .before .before .before .args .slice .now) (c .second .given .0 .0)
 slice-at c = opened due.Slice _ (c .before .before .read2 .ensures) (c .second .given .1)
 
--- src/arcs.rt:13:9
 read-requires : tie.Need-read-requires
 read-requires c κs = search needs
 
--- src/arcs.rt:14:24
 enum-known-first : tie.Need-enum-known-first
 enum-known-first c = search needs
 
--- src/arcs.rt:15:16
 enum-told : tie.Need-enum-told
 enum-told c = search needs
 
--- src/arcs.rt:15:9
 slice-aggregate-result : tie.Need-slice-aggregate-result
 slice-aggregate-result c = search needs
 
--- src/arcs.rt:15:9
 returns : tie.Need-returns
 returns c = sym (plan-refused _ _ _ _ (not-read due.Plan _ (c .before .before .before .read .ensures) (c .before .enum-told .given .1)))
 
--- src/arcs.rt:17:9
 read-requires-2 : tie.Need-read-requires-2
 read-requires-2 c κs = search needs
 
--- src/arcs.rt:18:24
 enum-known-second : tie.Need-enum-known-second
 enum-known-second c = search needs
 
--- src/arcs.rt:19:16
 enum-told-2 : tie.Need-enum-told-2
 enum-told-2 c = search needs
 
--- src/arcs.rt:19:9
 slice-aggregate-result-2 : tie.Need-slice-aggregate-result-2
 slice-aggregate-result-2 c = search needs
 
--- src/arcs.rt:19:9
 returns-2 : tie.Need-returns-2
 returns-2 c = sym (slice-refused _ _ _ _ (plan-at (c .before .before .before .before .before) .read) (not-read due.Slice _ (c .before .before .before .read2 .ensures) (c .before .enum-told2 .given .1)))
 
--- src/arcs.rt:23:9
 run-requires : tie.Need-run-requires
 run-requires c κs = slice-at (c .before .before) .good
 
--- src/arcs.rt:23:9
 returns-3 : tie.Need-returns-3
 returns-3 c = rw (c .before .if1 .taken) (c .run .ensures ∙ sym (of-slice _ _ _ _ (plan-at (c .before .before .before .before .before .before .before)) (slice-at (c .before .before .before)) _))
 
--- src/arcs.rt:25:5
 run-requires-2 : tie.Need-run-requires-2
 run-requires-2 c κs = plan-at (c .before .before .before .before .before .before) .good
 
--- src/arcs.rt:10:1
 returns-4 : tie.Need-returns-4
 returns-4 c = rw (c .before .if1 .left) (c .run2 .ensures ∙ sym (of-plan _ _ _ _ (plan-at (c .before .before .before .before .before .before .before)) (slice-at (c .before .before .before)) _))
 

@@ -10,12 +10,6 @@ use Rattle.file.proofs.Words.{unfit-wrong}
 use Rattle.file.proofs.Laws.{arcs-6, arcs-7, arcs-on, arcs-end}
 use Rattle.file.proofs.arcs.first_refusal.Statement.{statement}
 use Rattle.file.proofs.arcs.first_refusal.Tie as tie
-use Rattle.file.proofs.arcs.first_refusal.Reads as reads
-use Rattle.file.proofs.arcs.first_refusal.Lts as lts
-use Rattle.file.proofs.arcs.arc_of.Reads as arc-of-reads
-use Rattle.file.proofs.arcs.order.Reads as order-reads
-use Rattle.file.proofs.arcs.unfit.Reads as unfit-reads
-use Rattle.file.proofs.arcs.word.Reads as word-reads
 
 abbrev Inv-loop : tie.InvT-loop
 Inv-loop file places transitions start count at₀ least₀ left₀ at least left =
@@ -36,54 +30,42 @@ wrong-is c =
 key-is : (c : tie.After-order Inv-loop μ-loop) → c .order .result ≡ key (arcAt (c .before .before .before .before .before .before .before .before .args .file .now) (c .before .before .before .before .before .before .loop .at))
 key-is c = c .order .ensures .0 ∙ ap key (arc-is (c .before .before .before))
 
--- src/arcs.rt:74:5
 loop-holds : tie.Need-loop-holds Inv-loop μ-loop
 loop-holds c = (search needs, refl)
 
--- src/arcs.rt:75:13
 word-requires : tie.Need-word-requires Inv-loop μ-loop
 word-requires c κs = search needs
 
--- src/arcs.rt:76:13
 arc-of-requires : tie.Need-arc-of-requires Inv-loop μ-loop
 arc-of-requires c κs = search needs
 
--- src/arcs.rt:77:12
 unfit-requires : tie.Need-unfit-requires Inv-loop μ-loop
 unfit-requires c κs = search needs
 
--- src/arcs.rt:78:13
 returns : tie.Need-returns Inv-loop μ-loop
 returns c = sym (c .before .before .before .before .before .loop .inv .1 ∙ arcs-6 _ _ _ _ _ _ (c .before .before .before .before .loop-test .taken) (sym (wrong-is (c .before)) ∙ c .if1 .taken))
 
--- src/arcs.rt:80:13
 order-requires : tie.Need-order-requires Inv-loop μ-loop
 order-requires c κs = search needs
 
--- src/arcs.rt:82:13
 returns-2 : tie.Need-returns-2 Inv-loop μ-loop
 returns-2 c = sym (c .before .before .before .before .before .before .before .loop .inv .1 ∙ arcs-7 _ _ _ _ _ _ (c .before .before .before .before .before .before .loop-test .taken) (sym (wrong-is (c .before .before .before)) ∙ c .before .before .if1 .left) (rw (← key-is (c .before)) (c .if2 .taken)))
 
--- src/arcs.rt:85:9
 add-at : tie.Need-add-at Inv-loop μ-loop
 add-at c = search needs
 
--- src/arcs.rt:86:9
 sub-left : tie.Need-sub-left Inv-loop μ-loop
 sub-left c = search needs
 
--- src/arcs.rt:74:5
 loop-less : tie.Need-loop-less Inv-loop μ-loop
 loop-less c = search needs
 
--- src/arcs.rt:74:5
 loop-again : tie.Need-loop-again Inv-loop μ-loop
 loop-again c = (
   search needs,
   c .before .before .before .before .before .before .before .loop .inv .1 ∙ arcs-on _ _ _ _ _ _ (c .before .before .before .before .before .before .loop-test .taken) (sym (wrong-is (c .before .before .before)) ∙ c .before .before .if1 .left) (rw (← key-is (c .before)) (c .if2 .left)) ∙ rw (← key-is (c .before)),
 )
 
--- src/arcs.rt:61:1
 returns-3 : tie.Need-returns-3 Inv-loop μ-loop
 returns-3 c = sym (c .before .loop .inv .1 ∙ arcs-end _ _ _ _ _ _ (c .loop-test .left))
 

@@ -9,9 +9,6 @@ use Rattle.file.specs.Refusal.{tableRefusal}
 use Rattle.file.proofs.Rising.{next-rises, single, one-more}
 use Rattle.file.proofs.origins.rises.Statement.{statement}
 use Rattle.file.proofs.origins.rises.Tie as tie
-use Rattle.file.proofs.origins.rises.Reads as reads
-use Rattle.file.proofs.origins.rises.Lts as lts
-use Rattle.file.proofs.word.get16.Reads as get16-reads
 
 and-true : (f : Bool) → (not f && true) ≡ not f
 and-true true = refl
@@ -24,35 +21,27 @@ Inv-loop file start count at₀ falls₀ left₀ at falls left =
 abbrev μ-loop : tie.MeasureT-loop
 μ-loop file start count at₀ falls₀ left₀ at falls left = left
 
--- src/origins.rt:17:5
 loop-holds : tie.Need-loop-holds Inv-loop μ-loop
 loop-holds c = (search needs, refl)
 
--- src/origins.rt:18:38
 add-get16 : tie.Need-add-get16 Inv-loop μ-loop
 add-get16 c = search needs
 
--- src/origins.rt:18:26
 get16-requires : tie.Need-get16-requires Inv-loop μ-loop
 get16-requires c κs = search needs
 
--- src/origins.rt:18:49
 get16-requires-2 : tie.Need-get16-requires-2 Inv-loop μ-loop
 get16-requires-2 c κs = search needs
 
--- src/origins.rt:19:9
 add-at : tie.Need-add-at Inv-loop μ-loop
 add-at c = search needs
 
--- src/origins.rt:20:9
 sub-left : tie.Need-sub-left Inv-loop μ-loop
 sub-left c = search needs
 
--- src/origins.rt:17:5
 loop-less : tie.Need-loop-less Inv-loop μ-loop
 loop-less c = search needs
 
--- src/origins.rt:17:5
 loop-again : tie.Need-loop-again Inv-loop μ-loop
 loop-again c =
     let loop = c .before .before .before .loop in
@@ -62,7 +51,6 @@ loop-again c =
           (loop .inv .1 ∙ rw (c .before .get16 .ensures .0, c .get162 .ensures .0) (ap (λ (x : Bool). not (loop .falls) && x) (next-rises file (loop .at) (loop .left) (c .before .before .loop-test .taken)))),
     )
 
--- src/origins.rt:10:1
 returns : tie.Need-returns Inv-loop μ-loop
 returns c =
     sym (c .before .loop .inv .1 ∙ rw (single (c .before .before .before .args .file .now) (c .before .loop .at) (c .before .loop .left) (c .loop-test .left)) (and-true (c .before .loop .falls)))

@@ -10,12 +10,6 @@ use Rattle.file.proofs.Opening.{or-false}
 use Rattle.file.proofs.Marks.{both-fit, narrow, Reached, at-start, one-on, two-on, all-done}
 use Rattle.file.proofs.sweep.all_good.Statement.{statement}
 use Rattle.file.proofs.sweep.all_good.Tie as tie
-use Rattle.file.proofs.sweep.all_good.Reads as reads
-use Rattle.file.proofs.sweep.all_good.Lts as lts
-use Rattle.file.proofs.arcs.word.Reads as word-reads
-use Rattle.file.proofs.sweep.fit.Reads as fit-reads
-use Rattle.file.proofs.sweep.room.Reads as room-reads
-use Rattle.file.proofs.sweep.sweep_key.Reads as sweep-key-reads
 
 never : {A : Type 0} → _≡_ {A = Bool} false true → A
 never e = let z : _≡_ {A = ℕ} 0 1 = cc in absurd (omega (arith, z))
@@ -44,63 +38,49 @@ fits-last c =
     both-fit (start .args .places) (start .args .transitions) (c .before .before .word3 .result) (c .before .before .word3 .result) (start .pre .1 .0) (start .pre .1 .1) (c .before .before .word3 .ok) (c .before .before .word3 .ok)
     (ap (λ (x : ℕ). bothFit x (c .before .before .word3 .result) (c .before .before .word3 .result)) (sym (c .before .before .before .before .before .before .room .ensures)) ∙ sym (c .before .fit2 .ensures) ∙ not-false _ (c .if4 .left)) .0
 
--- src/sweep.rt:54:9
 room-requires : tie.Need-room-requires Inv-loop μ-loop
 room-requires c κs = search needs
 
--- src/sweep.rt:58:5
 loop-holds : tie.Need-loop-holds Inv-loop μ-loop
 loop-holds c = (c .before .before .pre .0, at-start _ _ _ _ _)
 
--- src/sweep.rt:59:13
 word-requires : tie.Need-word-requires Inv-loop μ-loop
 word-requires c κs = search needs
 
--- src/sweep.rt:60:28
 add-word : tie.Need-add-word Inv-loop μ-loop
 add-word c = search needs
 
--- src/sweep.rt:60:13
 word-requires-2 : tie.Need-word-requires-2 Inv-loop μ-loop
 word-requires-2 c κs = search needs
 
--- src/sweep.rt:61:13
 fit-requires : tie.Need-fit-requires Inv-loop μ-loop
 fit-requires c κs = search needs
 
--- src/sweep.rt:62:13
 returns : tie.Need-returns Inv-loop μ-loop
 returns c = λ e. never e
 
--- src/sweep.rt:64:13
 sweep-key-requires : tie.Need-sweep-key-requires Inv-loop μ-loop
 sweep-key-requires c κs =
     let start = c .before .before .before .before .before .before .before .before in
     narrow (start .args .places) (start .args .transitions) (c .before .before .before .word .result) (start .pre .1 .0) (start .pre .1 .1) (fits-both c .0)
 
--- src/sweep.rt:65:13
 sweep-key-requires-2 : tie.Need-sweep-key-requires-2 Inv-loop μ-loop
 sweep-key-requires-2 c κs =
     let start = c .before .before .before .before .before .before .before .before .before in
     narrow (start .args .places) (start .args .transitions) (c .before .before .before .word2 .result) (start .pre .1 .0) (start .pre .1 .1) (fits-both (c .before) .1)
 
--- src/sweep.rt:67:13
 returns-2 : tie.Need-returns-2 Inv-loop μ-loop
 returns-2 c = λ e. never e
 
--- src/sweep.rt:70:9
 add-at : tie.Need-add-at Inv-loop μ-loop
 add-at c = search needs
 
--- src/sweep.rt:71:9
 sub-left : tie.Need-sub-left Inv-loop μ-loop
 sub-left c = search needs
 
--- src/sweep.rt:58:5
 loop-less : tie.Need-loop-less Inv-loop μ-loop
 loop-less c = search needs
 
--- src/sweep.rt:58:5
 loop-again : tie.Need-loop-again Inv-loop μ-loop
 loop-again c =
     let start = c .before .before .before .before .before .before .before .before .before .before .before in
@@ -114,29 +94,23 @@ loop-again c =
           (c .before .before .sweep-key .ensures .0) (c .before .sweep-key2 .ensures .0) (ltb-false _ _ (order .0)) (ltb-false _ _ (order .1)),
     )
 
--- src/sweep.rt:74:9
 returns-3 : tie.Need-returns-3 Inv-loop μ-loop
 returns-3 c = λ e. all-done _ _ _ _ _ _ _ _ (c .before .before .loop .inv .1) (omega (arith, c .if3 .taken))
 
--- src/sweep.rt:76:9
 word-requires-3 : tie.Need-word-requires-3 Inv-loop μ-loop
 word-requires-3 c κs = search needs
 
--- src/sweep.rt:77:9
 fit-requires-2 : tie.Need-fit-requires-2 Inv-loop μ-loop
 fit-requires-2 c κs = search needs
 
--- src/sweep.rt:78:9
 returns-4 : tie.Need-returns-4 Inv-loop μ-loop
 returns-4 c = λ e. never e
 
--- src/sweep.rt:80:14
 sweep-key-requires-3 : tie.Need-sweep-key-requires-3 Inv-loop μ-loop
 sweep-key-requires-3 c κs =
     let start = c .before .before .before .before .before .before .before .before in
     narrow (start .args .places) (start .args .transitions) (c .before .before .word3 .result) (start .pre .1 .0) (start .pre .1 .1) (fits-last c)
 
--- src/sweep.rt:43:1
 returns-5 : tie.Need-returns-5 Inv-loop μ-loop
 returns-5 c = λ e.
     let start = c .before .before .before .before .before .before .before .before .before in

@@ -3,19 +3,14 @@ use borrow.Author.Needs.{needs}
 use Rattle.file.proofs.Marks.{shift-transition, shift-direction, shift-place, key-sum, key-fits}
 use Rattle.file.proofs.sweep.sweep_key.Statement.{statement}
 use Rattle.file.proofs.sweep.sweep_key.Tie as tie
-use Rattle.file.proofs.sweep.sweep_key.Reads as reads
-use Rattle.file.proofs.sweep.sweep_key.Lts as lts
 
--- src/sweep.rt:39:5
 add-result : tie.Need-add-result
 add-result c =
     record { fits = omega (arith, shift-transition (c .args .x) (c .pre), shift-direction (c .args .x) (c .pre), key-sum (c .args .x) (c .pre), key-fits (c .args .x) (c .pre)) }
 
--- src/sweep.rt:39:5
 add-result-2 : tie.Need-add-result-2
 add-result-2 c = record { fits = omega (arith, key-sum (c .args .x) (c .pre), key-fits (c .args .x) (c .pre)) }
 
--- src/sweep.rt:35:1
 returns : tie.Need-returns
 returns c = (key-sum (c .args .x) (c .pre), rw (key-sum (c .args .x) (c .pre)) (key-fits (c .args .x) (c .pre)))
 

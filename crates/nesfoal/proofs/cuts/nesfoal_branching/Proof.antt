@@ -3,39 +3,25 @@ use mathlib.Core.Path.{_∙_, ap}
 use Rattle.promise.specs.Calls.{CutAnswer}
 use Rattle.nesfoal.proofs.cuts.nesfoal_branching.Statement.{statement}
 use Rattle.nesfoal.proofs.cuts.nesfoal_branching.Tie as tie
-use Rattle.nesfoal.proofs.cuts.nesfoal_branching.Reads as reads
-use Rattle.nesfoal.proofs.cuts.nesfoal_branching.Lts as lts
-use Rattle.call_cuts.proofs.cuts.branching.Reads as branching-reads
-use Rattle.nesfoal.proofs.cuts.length_of.Reads as length-of-reads
-use Rattle.nesfoal.proofs.cuts.places_of.Reads as places-of-reads
-use Rattle.nesfoal.proofs.cuts.refusal.Reads as refusal-reads
-use Rattle.nesfoal.proofs.cuts.transitions_of.Reads as transitions-of-reads
 
--- src/cuts.rt:122:9
 branching-requires : tie.Need-branching-requires
 branching-requires c κs = search needs
 
--- src/cuts.rt:123:13
 length-of-requires : tie.Need-length-of-requires
 length-of-requires c κs = search needs
 
--- src/cuts.rt:124:15
 places-of-requires : tie.Need-places-of-requires
 places-of-requires c κs = search needs
 
--- src/cuts.rt:125:20
 transitions-of-requires : tie.Need-transitions-of-requires
 transitions-of-requires c κs = search needs
 
--- src/cuts.rt:126:5
 refusal-requires : tie.Need-refusal-requires
 refusal-requires c κs = search needs
 
--- src/cuts.rt:107:1
 same-length : tie.Need-same-length
 same-length c = search needs
 
--- src/cuts.rt:107:1
 returns : tie.Need-returns
 returns c =
     let e = c .before .before .before .before .before .before .branching .ensures .0 in (

@@ -4,25 +4,16 @@ use mir.Facts.{toZ-ofZ}
 use Rattle.promise.specs.Firing.{EffectAnswer}
 use Rattle.nesfoal.proofs.effects.nesfoal_effect.Statement.{statement}
 use Rattle.nesfoal.proofs.effects.nesfoal_effect.Tie as tie
-use Rattle.nesfoal.proofs.effects.nesfoal_effect.Reads as reads
-use Rattle.nesfoal.proofs.effects.nesfoal_effect.Lts as lts
-use Rattle.call_firing.proofs.effects.effect.Reads as effect-reads
-use Rattle.nesfoal.proofs.effects.refusal.Reads as refusal-reads
-use Rattle.nesfoal.proofs.effects.value.Reads as value-reads
 
--- src/effect.rt:59:9
 effect-requires : tie.Need-effect-requires
 effect-requires c κs = search needs
 
--- src/effect.rt:60:11
 value-requires : tie.Need-value-requires
 value-requires c κs = search needs
 
--- src/effect.rt:61:5
 refusal-requires : tie.Need-refusal-requires
 refusal-requires c κs = search needs
 
--- src/effect.rt:54:1
 returns : tie.Need-returns
 returns c = (
   c .refusal .ensures ∙ ap (λ (x : EffectAnswer). x .refusal) (c .before .before .effect .ensures),

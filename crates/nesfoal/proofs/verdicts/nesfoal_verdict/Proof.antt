@@ -3,25 +3,16 @@ use mathlib.Core.Path.{sym, ap, _∙_}
 use Rattle.promise.specs.Calls.{Checked}
 use Rattle.nesfoal.proofs.verdicts.nesfoal_verdict.Statement.{statement}
 use Rattle.nesfoal.proofs.verdicts.nesfoal_verdict.Tie as tie
-use Rattle.nesfoal.proofs.verdicts.nesfoal_verdict.Reads as reads
-use Rattle.nesfoal.proofs.verdicts.nesfoal_verdict.Lts as lts
-use Rattle.checker.proofs.code.Reads as code-reads
-use Rattle.checker.proofs.number.Reads as number-reads
-use Rattle.call_check.proofs.verdicts.check.Reads as check-reads
 
--- src/verdict.rt:64:9
 check-requires : tie.Need-check-requires
 check-requires c κs = search needs
 
--- src/verdict.rt:65:11
 number-requires : tie.Need-number-requires
 number-requires c κs = search needs
 
--- src/verdict.rt:66:5
 code-requires : tie.Need-code-requires
 code-requires c κs = search needs
 
--- src/verdict.rt:58:1
 returns : tie.Need-returns
 returns c =
     let v = c .before .before .check .ensures in (
