@@ -21,26 +21,11 @@
  * whatever numbers are passed
  * - It returns, and does nothing undefined.
  * - It answers as stated below, and each result and each entry of a lent buffer is afterwards as stated below.
- * - Bad input is refused: the call returns the number of the first rule broken, in the order of the table below, puts 0 into
+ * - Bad input is refused: the call returns the number of the first rule broken, in the order told below, puts 0 into
  *   every result pointer, and leaves every lent buffer as it was. (A read of one transition's arcs has no number: it gives an
  *   empty run.)
  * - It allocates nothing, keeps no state, and reads and writes nothing but its arguments; so calls may run on many threads at once.
  * README.md says what the proofs themselves assume.
- *
- * Refusals, by place of checking; files come first (plan before slice), then criterion, list and buffer:
- *    1  file: below 16 or above 65,536 bytes
- *    2  trailer: letters or edition wrong
- *    3  trailer: kind above 1, or not the kind due
- *    4  trailer: places, transitions (1,024 each) or arcs (4,096) above the limit, or neither place nor transition
- *    5  trailer: body length not as computed, or above the file's length less 16
- *    6  an arc: zero byte, direction, place, transition or weight out of range
- *    7  an arc: below the arc before it, by transition, then direction, then place (equal ones are parallel arcs)
- *    8  a table of origins: not strictly rising
- *    9  criterion: empty (in bytes also: an odd count)
- *   10  criterion or place: a number that is no place, or a criterion that does not rise
- *   11  list: above 65,535 entries
- *   12  list or transition: a number that is no transition
- *   13  buffer: shorter than what the call writes
  *
  * Link with libnesfoal.a (`rt staticlib nesfoal`).
  */
@@ -50,6 +35,52 @@
 #include <stdbool.h>
 #include <stddef.h>
 #include <stdint.h>
+
+/* One more with each change of a call, of a number or of the files, so that a program can refuse to be built with another. */
+#define NESFOAL_VERSION 3
+
+/* The limits of a file, and of a list that a call takes. docs/FORMAT.md has the files byte by byte. */
+#define NESFOAL_MAX_FILE_BYTES 65536
+#define NESFOAL_MAX_PLACES 1024
+#define NESFOAL_MAX_TRANSITIONS 1024
+#define NESFOAL_MAX_ARCS 4096
+#define NESFOAL_MAX_LIST_ENTRIES 65535
+
+/* Room that always suffices, whatever the plan and the list, so that 13 is not met: bytes for the slice that a cut writes,
+ * 40,976 (4 for a marking, 8 for an arc, 2 for an origin, 16 for the trailer); entries for the marking of a replay; entries
+ * for a projection.
+ */
+#define NESFOAL_SLICE_ROOM \
+    (4 * NESFOAL_MAX_PLACES + 8 * NESFOAL_MAX_ARCS + 2 * NESFOAL_MAX_PLACES + 2 * NESFOAL_MAX_TRANSITIONS + 16)
+#define NESFOAL_MARKING_ROOM NESFOAL_MAX_PLACES
+#define NESFOAL_PROJECTION_ROOM NESFOAL_MAX_LIST_ENTRIES
+
+/* What the calls return, but for nesfoal_arcs. Refusals stand in the order of checking: files come first (plan before
+ * slice), then criterion, list and buffer; each file is gone through from 1 to 8, its arcs one by one, 6 before 7.
+ */
+enum {
+    NESFOAL_DONE = 0,
+    NESFOAL_ACCEPTED = 0, /* the same, of a check */
+
+    NESFOAL_REFUSED_LENGTH = 1,      /* file: below 16 or above 65,536 bytes */
+    NESFOAL_REFUSED_LETTERS = 2,     /* trailer: letters or edition wrong */
+    NESFOAL_REFUSED_KIND = 3,        /* trailer: kind above 1, or not the kind due */
+    NESFOAL_REFUSED_COUNTS = 4,      /* trailer: places, transitions or arcs above the limit, or neither place nor transition */
+    NESFOAL_REFUSED_BODY = 5,        /* trailer: body length not as computed, or above the file's length less 16 */
+    NESFOAL_REFUSED_ARC = 6,         /* an arc: zero byte, direction, place, transition or weight out of range */
+    NESFOAL_REFUSED_ORDER = 7,       /* an arc: below the arc before it, by transition, then direction, then place
+                                        (equal ones are parallel arcs) */
+    NESFOAL_REFUSED_ORIGINS = 8,     /* a table of origins: not strictly rising */
+    NESFOAL_REFUSED_CRITERION = 9,   /* criterion: empty (in bytes also: an odd count) */
+    NESFOAL_REFUSED_PLACE = 10,      /* criterion or place: a number that is no place, or a criterion that does not rise */
+    NESFOAL_REFUSED_LIST = 11,       /* list: above 65,535 entries */
+    NESFOAL_REFUSED_TRANSITION = 12, /* list or transition: a number that is no transition */
+    NESFOAL_REFUSED_BUFFER = 13,     /* buffer: shorter than what the call writes */
+    NESFOAL_LAST_REFUSAL = 13,       /* answers from 1 to this one are refusals */
+
+    NESFOAL_STUCK = 100, /* of a replay: a transition is not enabled */
+    NESFOAL_RULE = 100   /* of a check: plus the number of the broken rule, 1 to 8 */
+};
 
 #ifdef __cplusplus
 extern "C" {
@@ -92,9 +123,9 @@ uint32_t nesfoal_effect(const uint8_t *file, size_t file_length,
 
 /* Fires a list of transitions of a plan or a slice, one after the other, from the initial marking.
  *
- * Returns 0 where all fired; 100 where one is not enabled, with its index (from 0) in *index, the lowest-numbered
+ * Returns 0 where all fired; NESFOAL_STUCK where one is not enabled, with its index (from 0) in *index, the lowest-numbered
  * place that is short in *place and the tokens missing there, at least 1, in *amount; or a refusal: 1 to 8, 11, 12, and
- * 13 where marking has fewer entries than the net has places. *index, *place and *amount are 0 but where the answer is 100.
+ * 13 where marking has fewer entries than the net has places. *index, *place and *amount are 0 but where it is stuck.
  * The first entries of marking, one for each place, become the marking after all firings, or the one before the firing
  * that sticks; later entries keep their values. Every entry of such a marking is below 2 to the power 45.
  */
@@ -107,7 +138,7 @@ uint32_t nesfoal_replay(const uint8_t *file, size_t file_length,
  * accepts for them, written as a slice file without note.
  *
  * Returns 0, with the file's length in *length and the numbers of kept places and transitions in *places and
- * *transitions; or a refusal: 1 to 7, 9, 10, and 13 where slice is shorter than the file (40,976 bytes always suffice).
+ * *transitions; or a refusal: 1 to 7, 9, 10, and 13 where slice is shorter than the file.
  * Bytes of slice past the file's length keep their values.
  */
 uint32_t nesfoal_safety(const uint8_t *plan, size_t plan_length,

@@ -3,6 +3,38 @@
 
 #![allow(dead_code)]
 
+pub const NESFOAL_VERSION: u32 = 3;
+
+pub const NESFOAL_MAX_FILE_BYTES: usize = 65536;
+pub const NESFOAL_MAX_PLACES: usize = 1024;
+pub const NESFOAL_MAX_TRANSITIONS: usize = 1024;
+pub const NESFOAL_MAX_ARCS: usize = 4096;
+pub const NESFOAL_MAX_LIST_ENTRIES: usize = 65535;
+
+pub const NESFOAL_SLICE_ROOM: usize =
+    4 * NESFOAL_MAX_PLACES + 8 * NESFOAL_MAX_ARCS + 2 * NESFOAL_MAX_PLACES + 2 * NESFOAL_MAX_TRANSITIONS + 16;
+pub const NESFOAL_MARKING_ROOM: usize = NESFOAL_MAX_PLACES;
+pub const NESFOAL_PROJECTION_ROOM: usize = NESFOAL_MAX_LIST_ENTRIES;
+
+pub const NESFOAL_DONE: u32 = 0;
+pub const NESFOAL_ACCEPTED: u32 = 0;
+pub const NESFOAL_REFUSED_LENGTH: u32 = 1;
+pub const NESFOAL_REFUSED_LETTERS: u32 = 2;
+pub const NESFOAL_REFUSED_KIND: u32 = 3;
+pub const NESFOAL_REFUSED_COUNTS: u32 = 4;
+pub const NESFOAL_REFUSED_BODY: u32 = 5;
+pub const NESFOAL_REFUSED_ARC: u32 = 6;
+pub const NESFOAL_REFUSED_ORDER: u32 = 7;
+pub const NESFOAL_REFUSED_ORIGINS: u32 = 8;
+pub const NESFOAL_REFUSED_CRITERION: u32 = 9;
+pub const NESFOAL_REFUSED_PLACE: u32 = 10;
+pub const NESFOAL_REFUSED_LIST: u32 = 11;
+pub const NESFOAL_REFUSED_TRANSITION: u32 = 12;
+pub const NESFOAL_REFUSED_BUFFER: u32 = 13;
+pub const NESFOAL_LAST_REFUSAL: u32 = 13;
+pub const NESFOAL_STUCK: u32 = 100;
+pub const NESFOAL_RULE: u32 = 100;
+
 #[link(name = "nesfoal", kind = "static")]
 extern "C" {
     pub fn nesfoal_effect(file: *const u8, file_len: usize, place: u16, transition: u16, effect: *mut i32) -> u32;

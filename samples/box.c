@@ -3,7 +3,7 @@
  *   box PLAN PLACE.. < slices
  *
  * PLAN is a plan file, PLACE.. the criterion; standard input names a slice file a line. For each, one line says what the
- * check answers. Nothing else is decided here: 0 of nesfoal_check is the only answer that lets a slice in.
+ * check answers. Nothing else is decided here: NESFOAL_ACCEPTED is the only answer that lets a slice in.
  */
 #include "nesfoal.h"
 
@@ -12,7 +12,7 @@
 #include <string.h>
 
 /* One byte more than the largest file, so that a longer one is seen and refused. */
-enum { ROOM = 65537, PLACES = 1024 };
+enum { ROOM = NESFOAL_MAX_FILE_BYTES + 1, PLACES = NESFOAL_MAX_PLACES };
 
 static uint8_t plan[ROOM], slice[ROOM], criterion[2 * PLACES];
 
@@ -40,7 +40,7 @@ static const char *rule(uint32_t answer)
         "a kept transition lacks an input place",
         "a transition left out raises a kept place",
     };
-    return text[answer - 101];
+    return text[answer - NESFOAL_RULE - 1];
 }
 
 int main(int argc, char **argv)
@@ -77,12 +77,12 @@ int main(int argc, char **argv)
             continue;
         }
         answer = nesfoal_check(plan, (size_t)plan_length, slice, (size_t)slice_length, criterion, 2 * places);
-        if (answer == 0)
+        if (answer == NESFOAL_ACCEPTED)
             printf("%s: accepted\n", name);
-        else if (answer <= 13)
+        else if (answer <= NESFOAL_LAST_REFUSAL)
             printf("%s: refused %u\n", name, (unsigned)answer);
         else
-            printf("%s: rule %u broken: %s\n", name, (unsigned)(answer - 100), rule(answer));
+            printf("%s: rule %u broken: %s\n", name, (unsigned)(answer - NESFOAL_RULE), rule(answer));
     }
     return 0;
 }

@@ -73,12 +73,12 @@ static void effects(void)
     effect_is("effect of 1 on 0", plan, 108, 0, 1, 0, 0);
     effect_is("effect of 1 on 1", plan, 108, 1, 1, 0, 1);
     effect_is("effect of 1 on 2 in the slice", cut, 78, 2, 1, 0, -1);
-    effect_is("unknown place", plan, 108, 5, 0, 10, 0);
-    effect_is("unknown transition", plan, 108, 0, 4, 12, 0);
-    effect_is("both unknown", plan, 108, 5, 4, 10, 0);
-    effect_is("no bytes", NULL, 0, 0, 0, 1, 0);
-    effect_is("15 bytes", plan + 93, 15, 0, 0, 1, 0);
-    effect_is("front byte lost", plan + 1, 107, 0, 0, 5, 0);
+    effect_is("unknown place", plan, 108, 5, 0, NESFOAL_REFUSED_PLACE, 0);
+    effect_is("unknown transition", plan, 108, 0, 4, NESFOAL_REFUSED_TRANSITION, 0);
+    effect_is("both unknown", plan, 108, 5, 4, NESFOAL_REFUSED_PLACE, 0);
+    effect_is("no bytes", NULL, 0, 0, 0, NESFOAL_REFUSED_LENGTH, 0);
+    effect_is("15 bytes", plan + 93, 15, 0, 0, NESFOAL_REFUSED_LENGTH, 0);
+    effect_is("front byte lost", plan + 1, 107, 0, 0, NESFOAL_REFUSED_BODY, 0);
     /* Offsets in the file: trailer at 92, first arc at 20. */
     const struct {
         const char *what;
@@ -86,15 +86,15 @@ static void effects(void)
         uint8_t value;
         uint32_t number;
     } faults[] = {
-        {"letter", 104, 'b', 2},
-        {"edition", 103, 2, 2},
-        {"kind", 102, 2, 3},
-        {"P above its limit", 97, 8, 4},
-        {"body length", 92, 93, 5},
-        {"direction", 22, 2, 6},
-        {"zero byte", 23, 1, 6},
-        {"weight 0", 26, 0, 6},
-        {"an arc below the one before", 24, 2, 7},
+        {"letter", 104, 'b', NESFOAL_REFUSED_LETTERS},
+        {"edition", 103, 2, NESFOAL_REFUSED_LETTERS},
+        {"kind", 102, 2, NESFOAL_REFUSED_KIND},
+        {"P above its limit", 97, 8, NESFOAL_REFUSED_COUNTS},
+        {"body length", 92, 93, NESFOAL_REFUSED_BODY},
+        {"direction", 22, 2, NESFOAL_REFUSED_ARC},
+        {"zero byte", 23, 1, NESFOAL_REFUSED_ARC},
+        {"weight 0", 26, 0, NESFOAL_REFUSED_ARC},
+        {"an arc below the one before", 24, 2, NESFOAL_REFUSED_ORDER},
     };
     for (size_t i = 0; i < sizeof faults / sizeof faults[0]; i++) {
         memcpy(spoilt, plan, 108);
@@ -107,7 +107,7 @@ static void effects(void)
     uint8_t spoilt_cut[78];
     memcpy(spoilt_cut, cut, 78);
     spoilt_cut[54] = 0; /* place origins 0, 0, 2 */
-    effect_is("equal origins", spoilt_cut, 78, 0, 0, 8, 0);
+    effect_is("equal origins", spoilt_cut, 78, 0, 0, NESFOAL_REFUSED_ORIGINS, 0);
 }
 
 static void arcs(void)
@@ -142,10 +142,10 @@ static void replays(void)
     } cases[] = {
         {"0,1,0,1,2", {0, 1, 0, 1, 2}, 5, 6, 0, 0, 0, 0, {0, 1, 0, 0, 1, 7}},
         {"the empty list", {0}, 0, 6, 0, 0, 0, 0, {2, 1, 0, 0, 0, 7}},
-        {"0,0", {0, 0}, 2, 5, 100, 1, 1, 1, {1, 0, 1, 0, 0, 7}},
-        {"3,3,0", {3, 3, 0}, 3, 5, 100, 2, 0, 1, {0, 1, 0, 0, 0, 7}},
-        {"an unknown transition", {0, 4}, 2, 5, 12, 0, 0, 0, {7, 7, 7, 7, 7, 7}},
-        {"too few entries", {0}, 1, 4, 13, 0, 0, 0, {7, 7, 7, 7, 7, 7}},
+        {"0,0", {0, 0}, 2, 5, NESFOAL_STUCK, 1, 1, 1, {1, 0, 1, 0, 0, 7}},
+        {"3,3,0", {3, 3, 0}, 3, 5, NESFOAL_STUCK, 2, 0, 1, {0, 1, 0, 0, 0, 7}},
+        {"an unknown transition", {0, 4}, 2, 5, NESFOAL_REFUSED_TRANSITION, 0, 0, 0, {7, 7, 7, 7, 7, 7}},
+        {"too few entries", {0}, 1, 4, NESFOAL_REFUSED_BUFFER, 0, 0, 0, {7, 7, 7, 7, 7, 7}},
     };
     for (size_t i = 0; i < sizeof cases / sizeof cases[0]; i++) {
         uint64_t marking[6] = {7, 7, 7, 7, 7, 7};
@@ -156,16 +156,16 @@ static void replays(void)
         expect(cases[i].what, amount, cases[i].amount);
         expect(cases[i].what, memcmp(marking, cases[i].marking, sizeof marking), 0);
     }
-    static uint16_t longest[65536];
+    static uint16_t longest[NESFOAL_MAX_LIST_ENTRIES + 1];
     uint64_t marking[5];
     uint32_t index, place, amount;
-    expect("65,536 firings", nesfoal_replay(plan, 108, longest, 65536, marking, 5, &index, &place, &amount), 11);
-    expect("no file", nesfoal_replay(NULL, 0, NULL, 0, NULL, 0, &index, &place, &amount), 1);
+    expect("65,536 firings", nesfoal_replay(plan, 108, longest, NESFOAL_MAX_LIST_ENTRIES + 1, marking, 5, &index, &place, &amount), NESFOAL_REFUSED_LIST);
+    expect("no file", nesfoal_replay(NULL, 0, NULL, 0, NULL, 0, &index, &place, &amount), NESFOAL_REFUSED_LENGTH);
     uint8_t parallel[108];
     memcpy(parallel, plan, 108);
     parallel[32] = 0; /* the second arc is parallel to the first, */
     parallel[34] = 5; /* and takes 5: of 2 tokens, 4 are missing */
-    expect("parallel arcs", nesfoal_replay(parallel, 108, longest, 1, marking, 5, &index, &place, &amount), 100);
+    expect("parallel arcs", nesfoal_replay(parallel, 108, longest, 1, marking, 5, &index, &place, &amount), NESFOAL_STUCK);
     expect("parallel arcs, index", index, 0);
     expect("parallel arcs, place", place, 0);
     expect("parallel arcs, amount", amount, 4);
@@ -184,11 +184,11 @@ static void cuts(void)
     expect("safety, the file", memcmp(room, cut, 78), 0);
     expect("safety, past the file", room[78], 0xAA);
     memset(room, 0xAA, sizeof room);
-    expect("one byte short", nesfoal_safety(plan, 108, criterion, 1, room, 77, &length, &places, &transitions), 13);
+    expect("one byte short", nesfoal_safety(plan, 108, criterion, 1, room, 77, &length, &places, &transitions), NESFOAL_REFUSED_BUFFER);
     expect("one byte short, zeros", length + places + transitions, 0);
     expect("one byte short, untouched", room[0], 0xAA);
-    expect("no criterion", nesfoal_safety(plan, 108, NULL, 0, room, 100, &length, &places, &transitions), 9);
-    expect("a slice is no plan", nesfoal_safety(cut, 78, criterion, 1, room, 100, &length, &places, &transitions), 3);
+    expect("no criterion", nesfoal_safety(plan, 108, NULL, 0, room, 100, &length, &places, &transitions), NESFOAL_REFUSED_CRITERION);
+    expect("a slice is no plan", nesfoal_safety(cut, 78, criterion, 1, room, 100, &length, &places, &transitions), NESFOAL_REFUSED_KIND);
     expect("branching", nesfoal_branching(plan, 108, criterion, 1, room, 100, &length, &places, &transitions), 0);
     expect("branching, bytes", length, 88);
     expect("branching, transitions", transitions, 3);
@@ -200,18 +200,18 @@ static void checks(void)
     const uint16_t numbers[] = {2, 3};
     uint8_t other[78];
     uint32_t number = 9;
-    expect("accepted", nesfoal_check(plan, 108, cut, 78, one, 2), 0);
-    expect("too small for two places", nesfoal_check(plan, 108, cut, 78, both, 4), 105);
-    expect("an odd count", nesfoal_check(plan, 108, cut, 78, both, 3), 9);
-    expect("no criterion", nesfoal_check(plan, 108, cut, 78, NULL, 0), 9);
-    expect("no slice", nesfoal_check(plan, 108, NULL, 0, one, 2), 1);
+    expect("accepted", nesfoal_check(plan, 108, cut, 78, one, 2), NESFOAL_ACCEPTED);
+    expect("too small for two places", nesfoal_check(plan, 108, cut, 78, both, 4), NESFOAL_RULE + 5);
+    expect("an odd count", nesfoal_check(plan, 108, cut, 78, both, 3), NESFOAL_REFUSED_CRITERION);
+    expect("no criterion", nesfoal_check(plan, 108, cut, 78, NULL, 0), NESFOAL_REFUSED_CRITERION);
+    expect("no slice", nesfoal_check(plan, 108, NULL, 0, one, 2), NESFOAL_REFUSED_LENGTH);
     expect("verdict", nesfoal_verdict(plan, 108, cut, 78, numbers, 1, &number), 0);
     expect("verdict, number", number, 0);
-    expect("rule 5", nesfoal_verdict(plan, 108, cut, 78, numbers, 2, &number), 105);
+    expect("rule 5", nesfoal_verdict(plan, 108, cut, 78, numbers, 2, &number), NESFOAL_RULE + 5);
     expect("rule 5, place", number, 3);
     memcpy(other, cut, 78);
     other[0] = 1;
-    expect("rule 3", nesfoal_verdict(plan, 108, other, 78, numbers, 1, &number), 103);
+    expect("rule 3", nesfoal_verdict(plan, 108, other, 78, numbers, 1, &number), NESFOAL_RULE + 3);
     expect("rule 3, place", number, 0);
 }
 
@@ -224,11 +224,11 @@ static void projections(void)
     expect("3,0,1,2, count", count, 2);
     expect("3,0,1,2, numbers", out[0] == 0 && out[1] == 1 && out[2] == 7, 1);
     out[0] = 7;
-    expect("one entry short", nesfoal_project(plan, 108, cut, 78, list, 4, out, 1, &count), 13);
+    expect("one entry short", nesfoal_project(plan, 108, cut, 78, list, 4, out, 1, &count), NESFOAL_REFUSED_BUFFER);
     expect("one entry short, untouched", out[0], 7);
-    expect("an unknown transition", nesfoal_project(plan, 108, cut, 78, unknown, 2, out, 3, &count), 12);
+    expect("an unknown transition", nesfoal_project(plan, 108, cut, 78, unknown, 2, out, 3, &count), NESFOAL_REFUSED_TRANSITION);
     expect("the empty list", nesfoal_project(plan, 108, cut, 78, NULL, 0, NULL, 0, &count), 0);
-    expect("a plan is no slice", nesfoal_project(plan, 108, plan, 108, list, 4, out, 3, &count), 3);
+    expect("a plan is no slice", nesfoal_project(plan, 108, plan, 108, list, 4, out, 3, &count), NESFOAL_REFUSED_KIND);
 }
 
 /* The kerb with the input of transition 2 as two arcs of weight 1. */
@@ -242,19 +242,19 @@ static void parallel_kerb(uint8_t *to)
     to[108] = 10;  /* arcs */
 }
 
-/* One place with these tokens, and one transition joined with it by 4,096 arcs of weight 65,535 in this direction. */
-static uint8_t widest[32788];
+/* One place with these tokens, and one transition joined with it by as many arcs as there may be, of weight 65,535 in this direction. */
+static uint8_t widest[4 + 8 * NESFOAL_MAX_ARCS + 16];
 
 static void widen(uint32_t tokens, uint8_t direction)
 {
     const uint8_t trailer[16] = {4, 128, 0, 0, 1, 0, 1, 0, 0, 16, 0, 1, 'B', 'E', 'L', 'L'};
     for (int i = 0; i < 4; i++)
         widest[i] = (uint8_t)(tokens >> 8 * i);
-    for (int i = 0; i < 4096; i++) {
+    for (int i = 0; i < NESFOAL_MAX_ARCS; i++) {
         const uint8_t arc[8] = {0, 0, direction, 0, 0, 0, 255, 255};
         memcpy(widest + 4 + 8 * i, arc, 8);
     }
-    memcpy(widest + 32772, trailer, 16);
+    memcpy(widest + sizeof widest - 16, trailer, 16);
 }
 
 static void parallels(void)
@@ -268,7 +268,7 @@ static void parallels(void)
     run_is("a run with its repeats", twice, 116, cut, 78, false, 2, 24, 68);
     expect("parallel, 0,1,0,1,2", nesfoal_replay(twice, 116, list, 5, marking, 5, &index, &place, &amount), 0);
     expect("parallel, left", marking[3], 0);
-    expect("parallel, 0,1,2", nesfoal_replay(twice, 116, list + 2, 3, marking, 5, &index, &place, &amount), 100);
+    expect("parallel, 0,1,2", nesfoal_replay(twice, 116, list + 2, 3, marking, 5, &index, &place, &amount), NESFOAL_STUCK);
     expect("parallel, 0,1,2, index", index, 2);
     expect("parallel, 0,1,2, place", place, 3);
     expect("parallel, 0,1,2, amount", amount, 1);
@@ -276,26 +276,58 @@ static void parallels(void)
     expect("parallel, safety, bytes", length, 110);
     expect("parallel, accepted", nesfoal_verdict(twice, 116, room, 110, three, 1, &number), 0);
     expect("parallel, joined", nesfoal_safety(plan, 108, three, 1, other, 110, &length, &places, &transitions), 0);
-    expect("parallel, joined, rule 4", nesfoal_verdict(twice, 116, other, length, three, 1, &number), 104);
+    expect("parallel, joined, rule 4", nesfoal_verdict(twice, 116, other, length, three, 1, &number), NESFOAL_RULE + 4);
     expect("parallel, joined, transition", number, 2);
     twice[74] = 2; /* weights 2 and 1; in the cut the two arcs start at 64 */
     memcpy(room + 64, twice + 68, 16);
     expect("weights in any order", nesfoal_verdict(twice, 116, room, 110, three, 1, &number), 0);
     room[70] = 1;
     room[78] = 2;
-    expect("permuted, rule 4", nesfoal_verdict(twice, 116, room, 110, three, 1, &number), 104);
+    expect("permuted, rule 4", nesfoal_verdict(twice, 116, room, 110, three, 1, &number), NESFOAL_RULE + 4);
 
-    static uint16_t longest[65535];
+    static uint16_t longest[NESFOAL_MAX_LIST_ENTRIES];
     widen(268431360, 0);
     effect_is("the lowest effect", widest, sizeof widest, 0, 0, 0, -268431360);
     expect("exactly enough", nesfoal_replay(widest, sizeof widest, longest, 1, marking, 1, &index, &place, &amount), 0);
     expect("exactly enough, marking", (long long)marking[0], 0);
     widen(268431359, 0);
-    expect("one too few", nesfoal_replay(widest, sizeof widest, longest, 1, marking, 1, &index, &place, &amount), 100);
+    expect("one too few", nesfoal_replay(widest, sizeof widest, longest, 1, marking, 1, &index, &place, &amount), NESFOAL_STUCK);
     widen(4294967295, 1);
     effect_is("the highest effect", widest, sizeof widest, 0, 0, 0, 268431360);
-    expect("65,535 firings", nesfoal_replay(widest, sizeof widest, longest, 65535, marking, 1, &index, &place, &amount), 0);
+    expect("65,535 firings", nesfoal_replay(widest, sizeof widest, longest, NESFOAL_MAX_LIST_ENTRIES, marking, 1, &index, &place, &amount), 0);
     expect("65,535 firings, marking", (long long)marking[0], 17591649177600 + 4294967295);
+}
+
+/* As many places, transitions and arcs as there may be: transition t takes 1 from places t and t + 1, round a ring, and adds 2 to each. */
+static void largest(void)
+{
+    static uint8_t ring[4 * NESFOAL_MAX_PLACES + 8 * NESFOAL_MAX_ARCS + 16], room[NESFOAL_SLICE_ROOM];
+    const uint8_t trailer[16] = {0, 144, 0, 0, 0, 4, 0, 4, 0, 16, 0, 1, 'B', 'E', 'L', 'L'};
+    const uint16_t criterion[] = {0};
+    uint32_t length, places, transitions, number;
+    uint8_t *arc = ring + 4 * NESFOAL_MAX_PLACES;
+    for (int t = 0; t < NESFOAL_MAX_TRANSITIONS; t++) {
+        int end = t == NESFOAL_MAX_PLACES - 1;
+        int ends[2] = {end ? 0 : t, end ? t : t + 1};
+        for (int i = 0; i < 4; i++, arc += 8) {
+            arc[0] = (uint8_t)t;
+            arc[1] = (uint8_t)(t >> 8);
+            arc[2] = (uint8_t)(i / 2);
+            arc[4] = (uint8_t)ends[i % 2];
+            arc[5] = (uint8_t)(ends[i % 2] >> 8);
+            arc[6] = (uint8_t)(1 + i / 2);
+        }
+    }
+    memcpy(arc, trailer, 16);
+    expect("the room that always suffices", NESFOAL_SLICE_ROOM, 40976);
+    expect("the largest slice", nesfoal_safety(ring, sizeof ring, criterion, 1, room, sizeof room, &length, &places, &transitions), NESFOAL_DONE);
+    expect("the largest slice, bytes", length, NESFOAL_SLICE_ROOM);
+    expect("the largest slice, places", places, NESFOAL_MAX_PLACES);
+    expect("the largest slice, transitions", transitions, NESFOAL_MAX_TRANSITIONS);
+    expect("the largest slice, accepted", nesfoal_verdict(ring, sizeof ring, room, length, criterion, 1, &number), NESFOAL_ACCEPTED);
+    expect("one byte less", nesfoal_safety(ring, sizeof ring, criterion, 1, room, sizeof room - 1, &length, &places, &transitions), NESFOAL_REFUSED_BUFFER);
+    expect("the largest, branching", nesfoal_branching(ring, sizeof ring, criterion, 1, room, sizeof room, &length, &places, &transitions), NESFOAL_DONE);
+    expect("the largest, branching, bytes", length, NESFOAL_SLICE_ROOM);
 }
 
 /* A pointer whose count is 0 is not used; it may be null. */
@@ -310,23 +342,23 @@ static void nulls(void)
     expect("null list, marking", marking[0] == 2 && marking[1] == 1 && marking[4] == 0, 1);
     expect("null marking", nesfoal_replay(bare, 16, twice, 2, NULL, 0, &a, &b, &c), 0);
     expect("null list and marking", nesfoal_replay(bare, 16, NULL, 0, NULL, 0, &a, &b, &c), 0);
-    expect("null marking, too short", nesfoal_replay(plan, 108, twice, 2, NULL, 0, &a, &b, &c), 13);
+    expect("null marking, too short", nesfoal_replay(plan, 108, twice, 2, NULL, 0, &a, &b, &c), NESFOAL_REFUSED_BUFFER);
     a = b = c = 9;
-    expect("null buffer", nesfoal_safety(plan, 108, one, 1, NULL, 0, &a, &b, &c), 13);
+    expect("null buffer", nesfoal_safety(plan, 108, one, 1, NULL, 0, &a, &b, &c), NESFOAL_REFUSED_BUFFER);
     expect("null buffer, zeros", a + b + c, 0);
-    expect("null buffer, branching", nesfoal_branching(plan, 108, one, 1, NULL, 0, &a, &b, &c), 13);
-    expect("null plan", nesfoal_safety(NULL, 0, NULL, 0, NULL, 0, &a, &b, &c), 1);
-    expect("null criterion, branching", nesfoal_branching(plan, 108, NULL, 0, room, 100, &a, &b, &c), 9);
+    expect("null buffer, branching", nesfoal_branching(plan, 108, one, 1, NULL, 0, &a, &b, &c), NESFOAL_REFUSED_BUFFER);
+    expect("null plan", nesfoal_safety(NULL, 0, NULL, 0, NULL, 0, &a, &b, &c), NESFOAL_REFUSED_LENGTH);
+    expect("null criterion, branching", nesfoal_branching(plan, 108, NULL, 0, room, 100, &a, &b, &c), NESFOAL_REFUSED_CRITERION);
     expect("null output", nesfoal_project(plan, 108, cut, 78, one, 1, NULL, 0, &a), 0);
-    expect("null output, too short", nesfoal_project(plan, 108, cut, 78, twice, 2, NULL, 0, &a), 13);
-    expect("null plan, project", nesfoal_project(NULL, 0, NULL, 0, NULL, 0, NULL, 0, &a), 1);
-    expect("null slice, project", nesfoal_project(plan, 108, NULL, 0, NULL, 0, NULL, 0, &a), 1);
-    expect("null plan, check", nesfoal_check(NULL, 0, NULL, 0, NULL, 0), 1);
-    expect("null criterion, verdict", nesfoal_verdict(plan, 108, cut, 78, NULL, 0, &a), 9);
-    expect("null all, verdict", nesfoal_verdict(NULL, 0, NULL, 0, NULL, 0, &a), 1);
+    expect("null output, too short", nesfoal_project(plan, 108, cut, 78, twice, 2, NULL, 0, &a), NESFOAL_REFUSED_BUFFER);
+    expect("null plan, project", nesfoal_project(NULL, 0, NULL, 0, NULL, 0, NULL, 0, &a), NESFOAL_REFUSED_LENGTH);
+    expect("null slice, project", nesfoal_project(plan, 108, NULL, 0, NULL, 0, NULL, 0, &a), NESFOAL_REFUSED_LENGTH);
+    expect("null plan, check", nesfoal_check(NULL, 0, NULL, 0, NULL, 0), NESFOAL_REFUSED_LENGTH);
+    expect("null criterion, verdict", nesfoal_verdict(plan, 108, cut, 78, NULL, 0, &a), NESFOAL_REFUSED_CRITERION);
+    expect("null all, verdict", nesfoal_verdict(NULL, 0, NULL, 0, NULL, 0, &a), NESFOAL_REFUSED_LENGTH);
     /* or point past an end */
-    expect("an empty string past the end", nesfoal_check(plan, 108, cut, 78, cut + 78, 0), 9);
-    expect("an empty list past the end", nesfoal_replay(plan, 108, one + 1, 0, marking + 5, 0, &a, &b, &c), 13);
+    expect("an empty string past the end", nesfoal_check(plan, 108, cut, 78, cut + 78, 0), NESFOAL_REFUSED_CRITERION);
+    expect("an empty list past the end", nesfoal_replay(plan, 108, one + 1, 0, marking + 5, 0, &a, &b, &c), NESFOAL_REFUSED_BUFFER);
 }
 
 /* Inputs may overlap, and strings stand at any address. */
@@ -335,7 +367,7 @@ static void shared(void)
     uint8_t odd[1 + 108 + 78] = {0};
     uint32_t number = 9;
     expect("the criterion stands in the plan", nesfoal_check(plan, 108, cut, 78, plan, 2), 0);
-    expect("one string twice", nesfoal_check(cut, 78, cut, 78, plan, 2), 3);
+    expect("one string twice", nesfoal_check(cut, 78, cut, 78, plan, 2), NESFOAL_REFUSED_KIND);
     memcpy(odd + 1, plan, 108);
     memcpy(odd + 109, cut, 78);
     expect("odd addresses", nesfoal_check(odd + 1, 108, odd + 109, 78, odd + 1, 2), 0);
@@ -346,6 +378,7 @@ int main(void)
 {
     effects();
     parallels();
+    largest();
     arcs();
     replays();
     cuts();
