@@ -1,7 +1,7 @@
 /* nesfoal.h: the calls of the Nesfoal slicer for C.
  *
  * Plans and slices are place/transition nets in byte strings: markings, arcs and, in a slice, the plan's numbers of
- * its places and transitions ("Plan and slice files" of the scope paper). Places and transitions are numbered from 0.
+ * its places and transitions (docs/FORMAT.md has them byte by byte). Places and transitions are numbered from 0.
  * Several arcs may join the same place and transition in the same direction: what a transition takes from a place, or
  * adds to it, is the sum of their weights, in every call.
  *
@@ -39,7 +39,7 @@
 /* One more with each change of a call, of a number or of the files, so that a program can refuse to be built with another. */
 #define NESFOAL_VERSION 3
 
-/* The limits of a file, and of a list that a call takes. docs/FORMAT.md has the files byte by byte. */
+/* The limits of a file, and of a list that a call takes. */
 #define NESFOAL_MAX_FILE_BYTES 65536
 #define NESFOAL_MAX_PLACES 1024
 #define NESFOAL_MAX_TRANSITIONS 1024
