@@ -7,7 +7,7 @@ root=$(cd "$(dirname "$0")/.." && pwd)
 to=${1:-$root/docs}
 
 # what a crate uses of the toolchain's own (io, os) is not drawn
-awk -v dot="$to/map.dot" -v svg="$to/map.svg" '
+LC_ALL=C awk -v dot="$to/map.dot" -v svg="$to/map.svg" '
     /^#/ { heading = substr($0, 3); next }
     /^[a-z_]+:/ {
         name = $1; sub(/:$/, "", name)

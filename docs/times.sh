@@ -3,7 +3,7 @@
 set -eu
 page=$(dirname "$0")/CONTRIBUTING.md
 log=${1:?times.sh LOG: what ./test printed}
-table=$(awk '
+table=$(LC_ALL=C awk '
     /^rt: [a-z_]+ proved \([0-9]+ s\)/ { c = $2; if (!(c in proof)) order[++n] = c; sub(/\(/, "", $4); proof[c] = $4 }
     /^rt: must-fail [a-z_]+\/.*; [0-9]+ s\)$/ { split($3, part, "/"); edits[part[1]]++; wrong[part[1]] += $(NF - 1) }
     /^== [0-9]+ seconds$/ { whole = $2 }
