@@ -8,14 +8,12 @@ use native.Mathlib.Decide.{ℕ-discrete, decLt}
 use lib.Dec.{eqb}
 use borrow.Author.Tests.{eq-eqb, eqb-true}
 use Rattle.net.specs.Net.{counted, joins, weightOn}
-use Rattle.file.specs.Word.{Bytes}
 use Rattle.file.specs.Layout.{arcAt, arcsFrom}
-use Rattle.file.specs.Facts.{ArcGood, Sound}
+use Rattle.file.specs.Facts.{Sound}
 use Rattle.file.specs.declared.Header.{Header}
-use Rattle.file.proofs.Bytes.{le16-lt}
 use Rattle.net.specs.declared.Arc.{Arc}
 use Rattle.arcs_starts.specs.Table.{slotOf, slotAt, Split}
-use Rattle.file.proofs.Rows.{range-at, weight-none, weight-next}
+use Rattle.file.proofs.Rows.{weight-none, weight-next, good-at}
 use Rattle.arcs_column.specs.Ways.{Joins}
 
 pub record JoinsBelow (d p t : ℕ) (s : List ℕ) (start n : ℕ) : Type 0 where
@@ -61,29 +59,16 @@ arc-has d p t s start (suc n) i l x = go (ℕ-discrete i n) (λ h. arc-has d p t
         omega (arith, weight-next d p t s start n, q, ap (λ (k : ℕ). counted (joins d p t (arcAt s (start + 8 * k))) (arcAt s (start + 8 * k) .weight)) e)
     go (no e) rest = omega (arith, weight-next d p t s start n, rest (omega arith))
 
-counted-le : (b : Bool) (n : ℕ) → counted b n ≤ n
-counted-le true n = omega arith
-counted-le false n = omega arith
-
--- weights are of 16 bits
-pub weight-le : (d p t : ℕ) (s : List ℕ) → Bytes s → (start n : ℕ) → weightOn d p t (arcsFrom s start n) ≤ 65535 * n
-weight-le d p t s b start zero = omega (arith, weight-none d p t s start)
-weight-le d p t s b start (suc n) =
-    omega (arith, weight-next d p t s start n, weight-le d p t s b start n, counted-le (joins d p t (arcAt s (start + 8 * n))) (arcAt s (start + 8 * n) .weight), le16-lt s b (start + 8 * n + 6))
-
 -- ---- in a file that was read
 
 module _ (s : List ℕ) (h : Header) (sound : Sound s h) where
-  pub good-at : (i : ℕ) → i < h .arcs → ArcGood (h .places) (h .transitions) (arcAt s (h .arcstart + 8 * i))
-  good-at i l = range-at (h .places) (h .transitions) s (h .arcstart) (h .arcs) i (sound .arcs) l
-
   -- no arc is at a number past the places
   pub none-past : (d p t : ℕ) → h .places ≤ p → weightOn d p t (arcsFrom s (h .arcstart) (h .arcs)) ≡ 0
   none-past d p t l = go (ℕ-discrete (weightOn d p t (arcsFrom s (h .arcstart) (h .arcs))) 0)
     where
       go : Dec (weightOn d p t (arcsFrom s (h .arcstart) (h .arcs)) ≡ 0) → weightOn d p t (arcsFrom s (h .arcstart) (h .arcs)) ≡ 0
       go (yes e) = e
-      go (no e) = let j = has-arc d p t s (h .arcstart) (h .arcs) (omega (arith, e)) in absurd (omega (arith, good-at (j .at) (j .below) .place, j .joins-it .place))
+      go (no e) = let j = has-arc d p t s (h .arcstart) (h .arcs) (omega (arith, e)) in absurd (omega (arith, good-at s h sound (j .at) (j .below) .place, j .joins-it .place))
 
   -- the arcs of t in direction d stand between two starts
   module _ (d t b e : ℕ) (dl : d ≤ 1) (low : Split s (h .arcstart) (h .arcs) (2 * t + d) b) (high : Split s (h .arcstart) (h .arcs) (2 * t + d + 1) e) where
@@ -107,5 +92,5 @@ module _ (s : List ℕ) (h : Header) (sound : Sound s h) where
     in-joins i l m =
         let u = high .within in
         let x : slotOf (arcAt s (h .arcstart + 8 * i)) ≡ 2 * t + d = omega (arith, low .above i l (omega arith), high .below i m) in
-        let g = good-at i (omega arith) .direction in
+        let g = good-at s h sound i (omega arith) .direction in
         record { transition = omega arith; direction = omega arith; place = refl }

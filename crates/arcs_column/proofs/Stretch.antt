@@ -12,7 +12,7 @@ use Rattle.file.specs.Facts.{Sound}
 use Rattle.file.specs.declared.Header.{Header}
 use Rattle.arcs_starts.specs.Table.{slotAt, Split}
 use Rattle.arcs_column.specs.Ways.{transitionAt, sumOn}
-use Rattle.arcs_column.proofs.Arcs.{good-at, weight-le}
+use Rattle.file.proofs.Rows.{good-at, weight-le}
 use Rattle.arcs_column.proofs.Ways.{sum-run}
 
 -- the arcs of t stand from b to e

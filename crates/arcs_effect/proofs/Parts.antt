@@ -16,8 +16,8 @@ use Rattle.file.specs.Layout.{arcAt, arcsFrom, netFrom}
 use Rattle.file.specs.Facts.{InRange, Sound}
 use Rattle.file.specs.declared.Header.{Header}
 use Rattle.arcs_starts.specs.Table.{slotOf, slotAt, numberBelow, Split}
-use Rattle.file.proofs.Rows.{key-le}
-use Rattle.arcs_starts.proofs.Reached.{number-below, good-at}
+use Rattle.file.proofs.Rows.{key-le, good-at}
+use Rattle.arcs_starts.proofs.Reached.{number-below}
 use Rattle.arcs_column.specs.Gain.{sumTo}
 use Rattle.arcs_column.proofs.Weights.{weight-run, rising}
 use Rattle.promise.specs.Firing.{before, runIf, runFrom, runStart, startIf}

@@ -13,9 +13,8 @@ use Rattle.file.specs.Layout.{arcAt, arcsFrom}
 use Rattle.file.specs.Facts.{ArcWord, Sound}
 use Rattle.file.specs.Refusal.{key}
 use Rattle.file.specs.declared.Header.{Header}
-use Rattle.file.proofs.Rows.{key-le, weight-none, weight-next}
+use Rattle.file.proofs.Rows.{key-le, weight-none, weight-next, good-at}
 use Rattle.arcs_column.specs.Ways.{placeAt, transitionAt, directionAt, Joins}
-use Rattle.arcs_column.proofs.Arcs.{good-at}
 use Rattle.arcs_column.proofs.Shares.{share-is, share-unless, sum-same}
 use Rattle.arcs_groups.specs.Groups
 

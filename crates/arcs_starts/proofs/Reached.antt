@@ -8,7 +8,7 @@ use lib.Dec.{ltb}
 use borrow.Author.Tests.{lt-ltb, le-ltb}
 use Rattle.file.specs.Layout.{arcAt, arcsFrom}
 use Rattle.file.specs.Refusal.{key}
-use Rattle.file.specs.Facts.{ArcGood, OrderedFrom, Sound}
+use Rattle.file.specs.Facts.{OrderedFrom, Sound}
 use Rattle.file.specs.declared.Header.{Header}
 use Rattle.arcs_starts.specs.Table
 use Rattle.file.proofs.Rows.{first, later, range-at, key-le}
@@ -58,7 +58,3 @@ number-below s at (suc n) k (suc r) p =
 -- and its arcs are in order
 pub ordered : (s : List ℕ) (h : Header) → Sound s h → Table.Ordered s (h .arcstart) (h .arcs)
 ordered s h w = let t = tabled s h (2 * h .transitions + 1) w (omega arith) in record { fit = t .fit; few = t .few; order = t .order }
-
--- each of its arcs is in range
-pub good-at : (s : List ℕ) (h : Header) → Sound s h → (i : ℕ) → i < h .arcs → ArcGood (h .places) (h .transitions) (arcAt s (h .arcstart + 8 * i))
-good-at s h w i l = range-at (h .places) (h .transitions) s (h .arcstart) (h .arcs) i (w .arcs) l

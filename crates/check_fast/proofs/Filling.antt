@@ -11,7 +11,7 @@ use Rattle.file.specs.Layout.{sliceFrom}
 use Rattle.file.specs.Facts.{Sound}
 use Rattle.file.specs.Criterion.{criterionRefusal}
 use Rattle.file.specs.declared.Header.{Header}
-use Rattle.inputs_criterion.proofs.Places.{passed}
+use Rattle.file.proofs.Criterion.{passed}
 use Rattle.check_fast.specs.Entries.{leftPlace, numbered, marked, Numbered, Marked, Reached}
 use Rattle.check_fast.specs.Pass.{Ready, Blank}
 use Rattle.check_fast.proofs.Ends.{numbered-out}

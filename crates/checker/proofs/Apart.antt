@@ -3,7 +3,6 @@ use mathlib.Core.Path.{ap}
 use Rattle.check_rules.specs.declared.Outcome.{Outcome}
 use Rattle.check_rules.proofs.Apart.{outcomes-apart}
 use Rattle.checker.specs.Answer.{ToldApart}
-use Rattle.checker.specs.declared.Verdict.{Verdict}
 
 pub told-apart : ToldApart
 told-apart a b e = ap (λ (o : Outcome). record { outcome = o }) (outcomes-apart (a .outcome) (b .outcome) e)

@@ -7,7 +7,7 @@ use lib.ListN.{length}
 use Rattle.file.specs.Layout.{wordsFrom}
 use Rattle.file.specs.Criterion.{criterionRefusal, criterionOf, criterionBytesRefusal}
 use Rattle.file.proofs.Rows.{length-words}
-use Rattle.inputs_criterion.proofs.Places.{passed, bytes-passed}
+use Rattle.file.proofs.Criterion.{passed, bytes-passed}
 
 -- the C call's places are not more than the plan's
 module _ (P : ℕ) (q : List ℕ) (e : criterionBytesRefusal P q ≡ 0) where

@@ -12,12 +12,11 @@ use borrow.Author.Tests.{lt-ltb, le-ltb, ne-eqb, eqb-true, eqb-false}
 use Rattle.net.proofs.Numbers.{by-cases, holds, fails, is-true}
 use Rattle.file.specs.Facts.{Sound}
 use Rattle.file.specs.declared.Header.{Header}
-use Rattle.file.proofs.Rows.{weight-none}
+use Rattle.file.proofs.Rows.{weight-none, good-at}
 use Rattle.arcs_starts.specs.Table.{slotAt, choose, Split}
 use Rattle.arcs_starts.proofs.Reached.{number-below}
 use Rattle.arcs_column.specs.Ways.{transitionAt, directionAt, placeAt, Joins}
 use Rattle.cut_rows.specs.Rows.{entryOf, Ends, Rows}
-use Rattle.arcs_column.proofs.Arcs.{good-at}
 use Rattle.arcs_groups.specs.Groups.{Alike, Opens, Parallel, GroupEnd, runWeight}
 use Rattle.arcs_groups.proofs.Groups.{alike, alone, between, opens-next}
 use Rattle.cut_index.specs.Steps.{arcIn, Fronted, Returned, Linked, Room}

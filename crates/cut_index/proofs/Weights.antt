@@ -12,11 +12,11 @@ use Rattle.net.proofs.Numbers.{holds, is-true}
 use Rattle.file.specs.Layout.{arcAt, arcsFrom, netFrom}
 use Rattle.file.specs.Facts.{Sound}
 use Rattle.file.specs.declared.Header.{Header}
-use Rattle.file.proofs.Rows.{key-le, weight-none}
+use Rattle.file.proofs.Rows.{key-le, weight-none, good-at}
 use Rattle.arcs_column.specs.Ways.{transitionAt, directionAt, placeAt, Joins}
 use Rattle.cut_rows.specs.Rows.{moves}
 use Rattle.arcs_column.proofs.Shares.{share-unless, sum-same, sum-more}
-use Rattle.arcs_column.proofs.Arcs.{arc-has, good-at}
+use Rattle.arcs_column.proofs.Arcs.{arc-has}
 use Rattle.arcs_groups.specs.Groups.{Alike, Opens, GroupEnd, runWeight}
 use Rattle.arcs_groups.proofs.Groups.{alike-sum, group-sum}
 

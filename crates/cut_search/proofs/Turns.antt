@@ -17,7 +17,8 @@ use Rattle.file.specs.Facts.{Sound}
 use Rattle.file.specs.declared.Header.{Header}
 use Rattle.sets.specs.Member.{member}
 use Rattle.arcs_starts.specs.Table.{slotAt, Split}
-use Rattle.arcs_starts.proofs.Reached.{ordered, good-at}
+use Rattle.arcs_starts.proofs.Reached.{ordered}
+use Rattle.file.proofs.Rows.{good-at}
 use Rattle.sets_pending.specs.Growing.{waits}
 use Rattle.arcs_column.specs.Ways.{transitionAt, directionAt, placeAt}
 use Rattle.cut_rows.specs.Rows.{moves, Last, Rows}

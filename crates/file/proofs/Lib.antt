@@ -1,4 +1,5 @@
 pub mod Bytes
+pub mod Criterion
 pub mod Laws
 pub mod Marks
 pub mod Opening

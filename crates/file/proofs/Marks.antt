@@ -7,12 +7,10 @@ use native.Mathlib.Decide.{decLt}
 use native.Mathlib.Nat.{div-eq-of-lt}
 use lib.Pow.{pow-pos}
 use lib.Bits.{bitAnd, bitOr, and-shr, and-mod, or-shr, or-mod, or-add-and, and-le-l, and-le-r, and-mask, or-lt}
-use lib.Dec.{eqb, ltb, leb}
-use lib.ListN.{length}
+use lib.Dec.{eqb, leb}
 use mathlib.Core.List.{List}
 use borrow.Author.Tests.{eqb-true, leb-true, le-ltb, lt-leb, ne-eqb}
 use Rattle.net.specs.declared.Arc.{Arc}
-use Rattle.net.proofs.Numbers.{and-left, and-right}
 use Rattle.file.specs.Word.{byteAt}
 use Rattle.file.specs.Layout.{arcAt}
 use Rattle.file.specs.Facts.{ArcWord, arcOf, arcUnfit}

@@ -1,14 +1,13 @@
 -- The fields of the number that the 8 bytes of an arc are.
 use Prim.Native.Nat.{ℕ, zero, suc, _+_, _*_, _/_, _%_, _<_}
-use mathlib.Core.Path.{_≡_, refl, sym, ap, _∙_}
-use mathlib.Core.Bool.{Bool, true, false, not, _||_}
+use mathlib.Core.Path.{_≡_, ap}
+use mathlib.Core.Bool.{Bool, not, _||_}
 use mathlib.Core.List.{List}
 use native.Mathlib.Omega.{arith}
 use lib.Dec.{eqb, ltb, leb}
 use borrow.Author.Tests.{lt-ltb, ne-eqb}
 use Rattle.file.specs.Word.{byteAt, le16, le32}
-use Rattle.file.specs.Layout.{arcAt}
-use Rattle.file.specs.Facts.{arcOf, ArcWord, arcUnfit}
+use Rattle.file.specs.Facts.{ArcWord, arcUnfit}
 use Rattle.file.specs.Refusal.{arcWrong}
 use Rattle.net.specs.declared.Arc.{Arc}
 

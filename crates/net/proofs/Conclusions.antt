@@ -13,7 +13,6 @@ use Rattle.net.specs.Checker.{Rule, breaks, Holds, FirstBroken, rules}
 use Rattle.net.specs.Guarantee.{AllAmong, PlanFires, planTokens, SliceFires, sliceTokens, struck, Guarantee, Contains}
 use Rattle.net.specs.Conclusions.{SameVerdict, StuckForGood, SameKept, unbroken, ruleAt, Unbroken, BrokenFirst}
 use Rattle.net.proofs.Numbers.{by-or, is-true, or-left, or-right, position-lt, at-position, rising-lt, fewest}
-use Rattle.net.proofs.Theorem.{guarantee}
 use Rattle.net.proofs.Verdict.{AllHold, rules-hold, hold-rules}
 
 -- tokens that are equal on each place of a list
@@ -69,10 +68,6 @@ module _ (N : Net) (S : Slice) (Q : List ℕ) (g : Guarantee N S Q) where
       λ (f, h). (fires-in-plan ts f, subst F (all-places ts f) h),
     );
   }
-
--- so of an accepted slice
-pub accepted-verdict : (N : Net) (S : Slice) (Q : List ℕ) → Accepted N S Q → WithinCaps N (N .marking) → (F : List ℕ → Type 0) → SameVerdict N S Q F
-accepted-verdict N S Q ok within = same-verdict N S Q (guarantee N S Q ok within)
 
 -- a stuck replay
 short-stuck : (N : Net) (t : ℕ) (M : Marking) (p n : ℕ) → ShortAt N t M p n → ¬ Enabled N t M

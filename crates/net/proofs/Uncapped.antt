@@ -1,8 +1,8 @@
 -- A net without caps: the firing rule, the growth of the cuts and the checker's rules are those without caps.
 use Prim.Native.Nat.{ℕ}
 use mathlib.Core.Bool.{Bool, true, false, not, _&&_, _||_}
-use mathlib.Core.List.{List, [], _∷_}
-use mathlib.Core.Path.{_≡_, refl, ap, _∙_}
+use mathlib.Core.List.{List}
+use mathlib.Core.Path.{_≡_, refl, _∙_}
 use lib.ListN.{length, getD}
 use lib.Dec.{T, eqb, ltb, not-T}
 use borrow.Author.Tests.{ltb-true, ltb-false}
@@ -10,10 +10,9 @@ use Rattle.net.specs.Numbers.{among, position, selected}
 use Rattle.net.specs.Net.{Marking, Net, changes, takesFrom, addsTo, capped, Uncapped, WithinCaps, Supplied, Enabled, fire}
 use Rattle.net.specs.Cut.{Growth, growth}
 use Rattle.net.specs.Slice.{Slice, keeping}
-use Rattle.net.specs.Checker.{Rule, lacksOutput, rule1, rule2, rule3, rule4, rule5, rule6, rule7, rule8, rule9, rule10, rules, verdictFrom, verdict, Holds}
+use Rattle.net.specs.Checker.{Rule, lacksOutput, rule3, rule9, rule10, Holds}
 use Rattle.net.proofs.Numbers.{by-cases, fails, and-left, any-finds}
 use Rattle.net.proofs.Markings.{below-at, below-off}
-use Rattle.net.proofs.Verdict.{AllHold, verdict-unbroken}
 
 or-none : (b : Bool) → b || false ≡ b
 or-none true = refl
@@ -87,12 +86,3 @@ module _ (N : Net) (none : Uncapped N) where
     pub uncapped-rule10 : Holds (rule10 N S)
     unfolding Holds rule10
     uncapped-rule10 t l k = let f = any-finds (λ p. capped N p && changes N t p) (S .placeOrigins) k in absurd (not-capped (f .0) (and-left (capped N (f .0)) (changes N t (f .0)) (f .2)))
-
-    -- the verdict by the eight rules
-    pub uncapped-verdict : Uncapped (S .net) → (Q : List ℕ)
-        → verdict N S Q ≡ verdictFrom 1 (rule1 N S ∷ rule2 N S ∷ sameMarkings N S ∷ rule4 N S ∷ rule5 N S Q ∷ rule6 N S Q ∷ rule7 N S ∷ rule8 N S ∷ [])
-    unfolding verdict rules AllHold
-    uncapped-verdict none′ Q =
-        ap (λ (R : Rule). verdictFrom 1 (rule1 N S ∷ rule2 N S ∷ R ∷ rule4 N S ∷ rule5 N S Q ∷ rule6 N S Q ∷ rule7 N S ∷ rule8 N S ∷ rule9 N S ∷ rule10 N S ∷ [])) (uncapped-rule3 none′)
-        ∙ verdict-unbroken 1 (rule1 N S ∷ rule2 N S ∷ sameMarkings N S ∷ rule4 N S ∷ rule5 N S Q ∷ rule6 N S Q ∷ rule7 N S ∷ rule8 N S ∷ [])
-        (rule9 N S ∷ rule10 N S ∷ []) (uncapped-rule9, (uncapped-rule10, tt))

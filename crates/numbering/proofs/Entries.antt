@@ -13,7 +13,7 @@ use Rattle.net.specs.Numbers.{among, position}
 use Rattle.net.proofs.Numbers.{by-cases, is-false, position-lt, at-position}
 use Rattle.file.specs.Facts.{RisingFrom}
 use Rattle.numbering.specs.Own.{ownEntry, Own}
-use Rattle.numbering.proofs.Words.{rises}
+use Rattle.file.proofs.Rows.{rises}
 
 pub among-other : (x y : ℕ) (l : List ℕ) → eqb x y ≡ false → among x (l ++ (y ∷ [])) ≡ among x l
 unfolding among

@@ -59,15 +59,6 @@ module _ (table : List ℕ) where
   pub chosen-all : (list : List ℕ) (i : ℕ) → length list ≤ i → chosenBy table (take i list) ≡ chosenBy table list
   chosen-all list i l = ap (chosenBy table) (take-all i list l)
 
-  -- a part of the list has no more numbers than the list
-  pub chosen-most : (list : List ℕ) (i : ℕ) → length (chosenBy table (take i list)) ≤ length (chosenBy table list)
-  unfolding chosenBy
-  chosen-most [] zero = omega arith
-  chosen-most [] (suc i) = omega arith
-  chosen-most (t ∷ ts) zero = omega arith
-  chosen-most (t ∷ ts) (suc i) =
-      omega (arith, length-append (chosen (getD table t 0)) (chosenBy table (take i ts)), length-append (chosen (getD table t 0)) (chosenBy table ts), chosen-most ts i)
-
   -- and no more than it is long
   pub chosen-few : (list : List ℕ) → length (chosenBy table list) ≤ length list
   unfolding chosenBy

@@ -19,7 +19,7 @@ use Rattle.promise.specs.Calls.{safetyAnswer, branchingAnswer, checkRefu
 use Rattle.promise.specs.Firing.{replayRefusal, ReplayAnswer, replayTold, replayAnswer}
 use Rattle.promise.specs.Conclusions.{Tells, AsListed}
 use Rattle.promise.specs.Promise.{ourCut, ourBranching, Wrote, Keeps}
-use Rattle.promise.proofs.Cuts.{known}
+use Rattle.file.proofs.Criterion.{passed}
 use Rattle.promise.proofs.Replays.{differ, answered, replays}
 use Rattle.promise.proofs.Demands.{slice-well-formed, check-passes, checked-told, judges, published, demand-3, writes-smallest, not-turned-back, our-cut, branching-not-turned-back, our-branching}
 
@@ -55,7 +55,7 @@ module _ (plan slice Q : List ℕ) (e : checkRefusal plan slice Q ≡ 0) where
   rules-unbroken : Accepted (netOf plan) (sliceOf slice) Q ↔ Unbroken (rules (netOf plan) (sliceOf slice) Q)
   rules-unbroken =
       let p = check-passes plan slice Q e in
-      unbroken-accepted (netOf plan) (sliceOf slice) Q (slice-well-formed slice (p .0)) (known (netOf plan .places) Q (p .1))
+      unbroken-accepted (netOf plan) (sliceOf slice) Q (slice-well-formed slice (p .0)) (passed (netOf plan .places) Q (p .1) .known)
 
   told-some : (c : Checked) → c ≡ told (verdict (netOf plan) (sliceOf slice) Q) → ¬ (c .code ≡ 0) → (k : ℕ) × (c .code ≡ 100 + k)
   told-some c d n = subst⁻¹ (λ (x : Checked). ¬ (x .code ≡ 0) → (k : ℕ) × (x .code ≡ 100 + k)) d (names-some (verdict (netOf plan) (sliceOf slice) Q)) n

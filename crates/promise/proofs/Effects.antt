@@ -1,7 +1,6 @@
 -- "Effect then spans -268,431,360 to 268,431,360": a file has at most 4,096 arcs, of weights up to 65,535; and so "a replayed marking stays below 2 to the power 45".
-use Prim.Native.Nat.{ℕ, zero, suc, _+_, _-_, _*_, _^_, _≤_, _<_}
+use Prim.Native.Nat.{ℕ, zero, suc, _+_, _-_, _*_, _≤_, _<_}
 use mathlib.Core.Path.{_≡_}
-use mathlib.Core.Bool.{Bool, true, false}
 use mathlib.Core.List.{List, [], _∷_}
 use native.Mathlib.Omega.{arith}
 use native.Mathlib.Decide.{decLt}
@@ -11,32 +10,23 @@ use lib.Signed.{_≤ℤ_, leZ-yes}
 use lib.ListN.{length}
 use borrow.Author.Tests.{ltb-false}
 use Rattle.net.specs.Numbers.{any}
-use Rattle.net.specs.Net.{Net, Marking, counted, joins, weightOn, input, output, effect, fire, testFiring, replayFrom, replay}
+use Rattle.net.specs.Net.{Net, Marking, weightOn, input, output, effect, fire, testFiring, replayFrom, replay}
 use Rattle.net.proofs.Numbers.{by-cases}
 use Rattle.net.proofs.Replay.{by-test}
 use Rattle.net.proofs.Markings.{below-at, below-off}
 use Rattle.file.specs.Word.{Bytes, le32}
-use Rattle.file.specs.Layout.{headerOf, arcAt, arcsFrom, netOf}
+use Rattle.file.specs.Layout.{headerOf, netOf}
 use Rattle.file.specs.Refusal.{refuse, fileRefusal}
 use Rattle.file.specs.declared.Due.the-variants as due
-use Rattle.file.proofs.Bytes.{le16-lt, le32-lt}
+use Rattle.file.proofs.Bytes.{le32-lt}
+use Rattle.file.proofs.Rows.{weight-le}
 use Rattle.file.proofs.Opening.{sound, refuse-0}
 use Rattle.promise.specs.Firing.{listRefusal}
 use Rattle.promise.specs.Promise.{EffectRange, Bounded}
 
-counted-le : (b : Bool) (n : ℕ) → counted b n ≤ n
-counted-le true n = omega arith
-counted-le false n = omega arith
-
--- weights are of 16 bits
-weight-small : (d p t : ℕ) (s : List ℕ) → Bytes s → (at n : ℕ) → weightOn d p t (arcsFrom s at n) ≤ 65535 * n
-unfolding weightOn arcsFrom
-weight-small d p t s b at zero = omega arith
-weight-small d p t s b at (suc n) = omega (arith, le16-lt s b (at + 6), counted-le (joins d p t (arcAt s at)) (arcAt s at .weight), weight-small d p t s b (at + 8) n)
-
 -- of a file that can be read, in(p,t) and out(p,t) are sums of at most 4,096 weights
 sum-small : (file : List ℕ) → Bytes file → fileRefusal due.Either file ≡ 0 → (d p t : ℕ) → weightOn d p t (netOf file .arcs) ≤ 268431360
-sum-small file b e d p t = omega (arith, sound due.Either file e .placed .arcs, weight-small d p t file b (headerOf file .arcstart) (headerOf file .arcs))
+sum-small file b e d p t = omega (arith, sound due.Either file e .placed .arcs, weight-le d p t file b (headerOf file .arcstart) (headerOf file .arcs))
 
 -- a difference is not below minus what is taken away
 difference-low : (n a b : ℕ) → b ≤ suc n → negsuc n ≤ℤ (pos a -ℤ pos b)

@@ -1,19 +1,18 @@
 -- One firing: its inputs are taken, then its outputs are given.
 use Prim.Native.Nat.{ℕ, _+_, _*_, _-_, _^_, _<_, _≤_}
-use mathlib.Core.Path.{_≡_, refl, ap, sym, subst, _∙_}
+use mathlib.Core.Path.{_≡_, sym, subst, _∙_}
 use mathlib.Core.List.{List}
 use native.Mathlib.Omega.{arith}
 use native.Mathlib.Decide.{decLt}
 use lib.ListN.{length, getD, List·getD-eq-default}
 use Rattle.net.specs.Net.{input, output, fire, weightOn}
-use Rattle.net.specs.declared.Arc.{Arc}
-use Rattle.file.specs.Layout.{arcAt, arcsFrom, netFrom}
+use Rattle.file.specs.Layout.{arcsFrom, netFrom}
 use Rattle.file.specs.Facts.{Sound}
 use Rattle.file.specs.declared.Header.{Header}
 use Rattle.arcs_starts.specs.Table.{Split}
-use Rattle.arcs_column.specs.Gain.{part, sumTo, Run, Takes, Gives}
-use Rattle.arcs_column.proofs.Sums.{sum-next, part-here, sum-more}
-use Rattle.arcs_column.proofs.Arcs.{good-at, weight-le, none-past}
+use Rattle.arcs_column.specs.Gain.{sumTo, Run, Takes, Gives}
+use Rattle.arcs_column.proofs.Arcs.{none-past}
+use Rattle.file.proofs.Rows.{good-at, weight-le}
 use Rattle.arcs_column.proofs.Weights as weights
 use Rattle.replay_steps.specs.Steps.{held, Ready, Holds}
 use Rattle.replay.specs.Steps.{Firable}

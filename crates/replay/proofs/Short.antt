@@ -13,11 +13,10 @@ use Rattle.net.specs.declared.Arc.{Arc}
 use Rattle.file.specs.Layout.{arcsFrom, netFrom}
 use Rattle.file.specs.Facts.{Sound}
 use Rattle.file.specs.declared.Header.{Header}
-use Rattle.file.proofs.Rows.{key-le, weight-none}
+use Rattle.file.proofs.Rows.{key-le, weight-none, good-at}
 use Rattle.arcs_starts.specs.Table.{slotAt, choose, Split}
 use Rattle.replay_steps.specs.Steps.{held}
 use Rattle.replay.specs.Steps.{arcOn, needAt, Lacking}
-use Rattle.arcs_column.proofs.Arcs.{good-at}
 use Rattle.arcs_column.proofs.Shares.{share-is, share-unless, sum-next, sum-same, sum-more}
 use Rattle.arcs_groups.specs.Groups.{GroupEnd, runWeight}
 use Rattle.arcs_groups.proofs.Groups.{run-adds, none-after}

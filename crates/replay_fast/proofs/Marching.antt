@@ -10,7 +10,8 @@ use Rattle.file.specs.Layout.{arcAt, netFrom}
 use Rattle.file.specs.declared.Header.{Header}
 use Rattle.arcs_starts.specs.Table.{slotAt, Split}
 use Rattle.arcs_starts.proofs.Reached.{order-at}
-use Rattle.arcs_column.proofs.Arcs.{good-at, none-past}
+use Rattle.arcs_column.proofs.Arcs.{none-past}
+use Rattle.file.proofs.Rows.{good-at}
 use Rattle.arcs_column.proofs.Stretch.{Stretch, rises, own, sums, small}
 use Rattle.arcs_column.proofs.Ways.{sum-quiet, sum-rises}
 use Rattle.replay_steps.specs.Steps.{Ready, Listed, Underway}

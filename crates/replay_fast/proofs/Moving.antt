@@ -14,7 +14,7 @@ use Rattle.file.specs.Facts.{ArcGood}
 use Rattle.file.specs.declared.Header.{Header}
 use Rattle.file.proofs.Bytes.{le16-lt}
 use Rattle.arcs_column.specs.Ways.{placeAt, share, sumOn}
-use Rattle.arcs_column.proofs.Arcs.{good-at}
+use Rattle.file.proofs.Rows.{good-at}
 use Rattle.arcs_column.proofs.Ways.{sum-next, sum-rises, share-here, share-against, share-elsewhere}
 use Rattle.replay_fast.specs.Moves.{moveOf, MoveFits, moveFrom, low, lowAt, Movable, Moved, Lifted, Shifted}
 

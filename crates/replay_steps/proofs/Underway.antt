@@ -14,7 +14,7 @@ use Rattle.file.specs.Layout.{netFrom}
 use Rattle.file.specs.Facts.{Sound}
 use Rattle.file.specs.declared.Header.{Header}
 use Rattle.file.proofs.Caps.{no-caps}
-use Rattle.arcs_column.proofs.Arcs.{weight-le}
+use Rattle.file.proofs.Rows.{weight-le}
 use Rattle.replay_steps.specs.Steps.{held, Ready, Holds, Listed, Underway}
 
 module _ (N : Net) (i : ℕ) (M : Marking) (t : ℕ) (ts : List ℕ) where

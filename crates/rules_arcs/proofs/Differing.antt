@@ -13,9 +13,9 @@ use Rattle.file.specs.Layout.{arcsFrom, netFrom, sliceFrom}
 use Rattle.file.specs.declared.Header.{Header}
 use Rattle.rules_tables.specs.Matched.{Starts, Matched}
 use Rattle.numbering.proofs.Lookup.{left-out, is-kept, own-number}
-use Rattle.rules_tables.proofs.Runs.{good-at, entry-most, entries-rise, run-own, run-is}
+use Rattle.rules_tables.proofs.Runs.{entry-most, entries-rise, run-own, run-is}
 use Rattle.rules_arcs.specs.Links.{Run, Walk, Against, arcsLeft, kept}
-use Rattle.file.proofs.Rows.{length-words}
+use Rattle.file.proofs.Rows.{length-words, good-at}
 
 -- what the walk of t's two runs asks, and what its answer says
 pub record Ready (plan : List ℕ) (hp : Header) (slice : List ℕ) (hs : Header) (ownp : List ℕ) (t own from to first upto : ℕ) : Type 0 where
@@ -50,7 +50,7 @@ module _ (plan : List ℕ) (hp : Header) (table slice : List ℕ) (hs : Header) 
             rising = omega (arith, entries-rise plan hp table (m .planned) (m .starts) (2 * t) (2 * t + 2) (omega arith) (omega arith));
             fit = omega (arith, p .arcsFit, p .originsFit);
             short = p .short;
-            reached = λ i a. omega (arith, m .placesReached, good-at plan hp table (m .planned) (m .starts) i (omega arith) .place);
+            reached = λ i a. omega (arith, m .placesReached, good-at plan hp (m .planned) i (omega arith) .place);
           }
 
       plan-walk : (i : ℕ) → from ≤ i → i < to → Walk plan (hp .arcstart + 8 * i) slice hs ownp (own - 1)

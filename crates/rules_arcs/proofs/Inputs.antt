@@ -15,7 +15,8 @@ use Rattle.file.specs.Layout.{arcAt, netFrom, sliceFrom}
 use Rattle.file.specs.declared.Header.{Header}
 use Rattle.rules_tables.specs.Matched.{Matched}
 use Rattle.numbering.proofs.Lookup.{left-out, is-kept, zero-entry}
-use Rattle.rules_tables.proofs.Runs.{good-at, entry-most, entries-rise, weight-found, weight-there}
+use Rattle.rules_tables.proofs.Runs.{entry-most, entries-rise, weight-found, weight-there}
+use Rattle.file.proofs.Rows.{good-at}
 use Rattle.rules_arcs.specs.Links.{Run, Unkept}
 
 -- a transition left out
@@ -38,7 +39,7 @@ module _ (plan : List ℕ) (hp : Header) (table slice : List ℕ) (hs : Header) 
       let f = u .found (is-true r h) in
       let p = arcAt plan (hp .arcstart + 8 * f .0) .place in
       let few : f .0 < hp .arcs = omega (arith, f .2, entry-most plan hp table (m .planned) (m .starts) (2 * t + 1) (omega arith)) in
-      let inside : p < hp .places = good-at plan hp table (m .planned) (m .starts) (f .0) few .place in
+      let inside : p < hp .places = good-at plan hp (m .planned) (f .0) few .place in
       let weight : 0 < weightOn 0 p t (N .arcs) = weight-there plan hp table (m .planned) (m .starts) 0 t (omega arith) l (f .0) (omega (arith, low, f .1)) (omega (arith, high, f .2)) in
       any-has (λ p. takesFrom N t p && not (among p os)) (selected (λ p. true) 0 (hp .places)) p
       (below-has (λ p. true) (hp .places) p inside tt)
@@ -69,7 +70,7 @@ module _ (plan : List ℕ) (hp : Header) (table slice : List ℕ) (hs : Header) 
         rising = omega (arith, entries-rise plan hp table (m .planned) (m .starts) (2 * t) (2 * t + 1) (omega arith) (omega arith));
         fit = omega (arith, p .arcsFit, p .originsFit);
         short = p .short;
-        reached = λ i a. omega (arith, m .placesReached, good-at plan hp table (m .planned) (m .starts) i (omega arith) .place);
+        reached = λ i a. omega (arith, m .placesReached, good-at plan hp (m .planned) i (omega arith) .place);
       }
 
   double-not : (b : Bool) → not (not b) ≡ b

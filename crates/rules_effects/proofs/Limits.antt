@@ -9,20 +9,19 @@ use lib.ListN.{length, getD}
 use borrow.Author.Tests.{lt-ltb, le-ltb, eq-eqb, ne-eqb, eqb-true, eqb-false, ltb-true, ltb-false}
 use Rattle.net.specs.Numbers.{among, any, selected, first}
 use Rattle.net.specs.Net.{Net, input, output, changes, raises}
-use Rattle.net.specs.Slice.{Slice}
 use Rattle.net.specs.Checker.{breaks, breaker, rule6, rule8}
-use Rattle.net.proofs.Numbers.{by-cases, and-both, and-left, and-right, same-test, any-has, any-finds, below-has, below-passes, among-at}
+use Rattle.net.proofs.Numbers.{first-same, by-cases, and-both, and-left, and-right, same-test, any-has, any-finds, below-has, below-passes}
 use Rattle.file.specs.Word.{byteAt}
-use Rattle.file.specs.Layout.{arcAt, netFrom, sliceFrom}
+use Rattle.file.specs.Layout.{netFrom, sliceFrom}
 use Rattle.file.specs.Criterion.{criterionRefusal}
 use Rattle.file.specs.declared.Header.{Header}
-use Rattle.promise.proofs.Cuts.{known}
+use Rattle.file.proofs.Criterion.{passed}
 use Rattle.arcs_column.specs.Gain.{pulls}
 use Rattle.numbering.specs.Own.{Own}
 use Rattle.rules_tables.specs.Matched.{Matched}
-use Rattle.rules_tables.proofs.Lowest.{first-same}
 use Rattle.numbering.proofs.Lookup.{left-out, is-kept}
-use Rattle.rules_tables.proofs.Runs.{good-at, entry-most, weight-found}
+use Rattle.rules_tables.proofs.Runs.{entry-most, weight-found}
+use Rattle.file.proofs.Rows.{good-at}
 use Rattle.rules_effects.specs.Movers.{limitOn, moved}
 use Rattle.rules_effects.proofs.Moving.{weight-most}
 
@@ -94,7 +93,7 @@ module _ (plan : List ℕ) (hp : Header) (table slice : List ℕ) (hs : Header) 
     unfolding breaker breaks rule6
     first-changer r q =
         q ∙ first-same _ _ 0 (hp .transitions) (λ t a l. ap (λ (b : Bool). b && not (among t (sliceFrom slice hs .transitionOrigins)))
-        (moved-as (netFrom plan hp) limit t Q (changes (netFrom plan hp) t) (changed t (omega arith)) (λ p k c. known (hp .places) Q e p k)))
+        (moved-as (netFrom plan hp) limit t Q (changes (netFrom plan hp) t) (changed t (omega arith)) (λ p k c. passed (hp .places) Q e .known p k)))
 
   -- ---- rule 8
   module _ (limits : (p : ℕ) → p < hp .places → getD limit p 0 ≡ limitOn (eqb (getD ownp p 0) 0) 4294967295 1073741824) where
@@ -120,7 +119,7 @@ module _ (plan : List ℕ) (hp : Header) (table slice : List ℕ) (hs : Header) 
     raised-known t l p k =
         let w = ltb→lt (input (netFrom plan hp) p t) (output (netFrom plan hp) p t) k in
         let f = weight-found plan hp table (m .planned) (m .starts) 1 t (omega arith) l p (omega arith) in
-        let g = good-at plan hp table (m .planned) (m .starts) (f .0) (omega (arith, f .2, entry-most plan hp table (m .planned) (m .starts) (2 * t + 1 + 1) (omega arith))) in
+        let g = good-at plan hp (m .planned) (f .0) (omega (arith, f .2, entry-most plan hp table (m .planned) (m .starts) (2 * t + 1 + 1) (omega arith))) in
         omega (arith, g .place, f .3)
 
     pub first-raiser : (r : ℕ) → r ≡ first (λ t. moved (netFrom plan hp) limit t && not (among t (sliceFrom slice hs .transitionOrigins))) 0 (hp .transitions)
@@ -151,4 +150,4 @@ module _ (os ownt : List ℕ) (o : Own os ownt) (t : ℕ) (l : t < length ownt) 
 
 -- the limits have an entry for each place of the criterion
 pub criterion-fits : (P : ℕ) (Q : List ℕ) → criterionRefusal P Q ≡ 0 → (n : ℕ) → P ≤ n → (i : ℕ) → i < length Q → getD Q i 0 < n
-criterion-fits P Q e n l i u = omega (arith, known P Q e (getD Q i 0) (among-at Q i u))
+criterion-fits P Q e n l i u = omega (arith, passed P Q e .known-at i u)

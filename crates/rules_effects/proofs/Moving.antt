@@ -1,6 +1,6 @@
 -- One transition in the column: inputs taken, outputs given, and the places put to rest again.
 use Prim.Native.Nat.{ℕ, zero, suc, _+_, _-_, _*_, _≤_, _<_}
-use mathlib.Core.Bool.{Bool, true, false, not, _&&_, _||_}
+use mathlib.Core.Bool.{Bool, true, false, not}
 use mathlib.Core.Path.{_≡_, refl, sym, ap, _∙_, subst}
 use mathlib.Core.Logic.{_⊎_, inl, inr, ⊎-elim}
 use mathlib.Core.List.{List, [], _∷_}
@@ -9,10 +9,10 @@ use native.Mathlib.Decide.{decLt}
 use lib.Dec.{T, eqb, ltb}
 use lib.ListN.{length, getD}
 use borrow.Author.Tests.{eq-eqb, ltb-true, ltb-false}
-use Rattle.net.specs.Numbers.{any, selected}
+use Rattle.net.specs.Numbers.{selected}
 use Rattle.net.specs.Net.{counted, input, output, weightOn}
 use Rattle.net.specs.declared.Arc.{Arc}
-use Rattle.net.proofs.Numbers.{by-cases, by-or, or-left, or-right, is-true, same-test, any-has, any-finds, below-has, below-passes, and-right}
+use Rattle.net.proofs.Numbers.{by-cases, by-or, or-left, or-right, same-test, any-has, any-finds, below-has, below-passes, and-right}
 use Rattle.file.specs.Word.{byteAt, Bytes}
 use Rattle.file.specs.Layout.{arcAt, netFrom}
 use Rattle.file.specs.Facts.{Sound}
@@ -21,7 +21,8 @@ use Rattle.file.proofs.Bytes.{le16-lt}
 use Rattle.arcs_column.specs.Gain.{sumTo, part, pulls, pullsAt, pulledIn, pulledTo, Run, Takes, Gives, Rested}
 use Rattle.arcs_column.proofs.Sums.{part-other}
 use Rattle.rules_tables.specs.Matched.{Starts}
-use Rattle.rules_tables.proofs.Runs.{good-at, entry-most, entries-rise, run-weight, weight-found}
+use Rattle.rules_tables.proofs.Runs.{entry-most, entries-rise, run-weight, weight-found}
+use Rattle.file.proofs.Rows.{good-at}
 use Rattle.rules_effects.specs.Movers.{moved, Resting}
 
 -- ---- sums are small
@@ -135,10 +136,6 @@ module _ (s : List ℕ) (h : Header) (table : List ℕ) (so : Sound s h) (st : S
     unfolding input
     input-most p = weight-most 0 p t (omega arith) l
 
-    output-most : (p : ℕ) → output (netFrom s h) p t ≤ 268435456
-    unfolding output
-    output-most p = weight-most 1 p t (omega arith) l
-
     -- an arc of t at p, or no weight there
     At : ℕ → Type 0
     At p = (i : ℕ) × (from ≤ i) × (i < to) × (arcAt s (h .arcstart + 8 * i) .place ≡ p)
@@ -167,7 +164,7 @@ module _ (s : List ℕ) (h : Header) (table : List ℕ) (so : Sound s h) (st : S
 
     module _ (column : List ℕ) (x : Resting (h .places) column) where
       inside : (i : ℕ) → i < to → arcAt s (h .arcstart + 8 * i) .place < length column
-      inside i u = omega (arith, x .reached, good-at s h table so st i (omega (arith, most)) .place)
+      inside i u = omega (arith, x .reached, good-at s h so i (omega (arith, most)) .place)
 
       at-first : (p : ℕ) → p < length column → getD column p 0 ≡ 1073741824
       at-first p u = x .rest p u
@@ -233,7 +230,7 @@ module _ (s : List ℕ) (h : Header) (table : List ℕ) (so : Sound s h) (st : S
               let f = pulled-found s (h .arcstart) limit third from (to - from) k in
               let p = arcAt s (h .arcstart + 8 * f .0) .place in
               let low-to : f .0 < to = omega (arith, f .2, rise-in, rise-out) in
-              let known : p < h .places = good-at s h table so st (f .0) (omega (arith, most)) .place in
+              let known : p < h .places = good-at s h so (f .0) (omega (arith, most)) .place in
               any-has (λ p. pulls (getD limit p 0) (1073741824 + output (netFrom s h) p t - input (netFrom s h) p t)) (selected (λ p. true) 0 (h .places)) p
               (below-has (λ p. true) (h .places) p known tt)
               (subst T (here limit p p refl (inside (f .0) low-to)) (f .3))

@@ -1,40 +1,17 @@
 -- The lowest number that passes a test, found by going up, or by going through a rising list.
-use Prim.Native.Nat.{ℕ, zero, suc, _+_, _-_, _≤_, _<_}
-use mathlib.Core.Path.{_≡_, refl, sym, ap, _∙_, subst}
+use Prim.Native.Nat.{ℕ, _+_, _-_, _≤_, _<_}
+use mathlib.Core.Path.{_≡_, ap, subst}
 use mathlib.Core.Bool.{Bool, true, false, not, _&&_}
 use mathlib.Core.List.{List}
 use native.Mathlib.Omega.{arith}
-use native.Mathlib.Decide.{decLt}
 use lib.Dec.{T, ltb}
 use lib.ListN.{length, getD}
 use borrow.Author.Tests.{lt-ltb, le-ltb, ltb-true, ltb-false}
-use Rattle.net.specs.Numbers.{among, position, Rising, first}
-use Rattle.net.proofs.Numbers.{by-order, holds, fails, and-both, and-left, and-right, among-at, position-lt, at-position, first-passes, first-lowest, by-cases, not-not, is-true, is-false}
+use Rattle.net.specs.Numbers.{among, position, first}
+use Rattle.net.proofs.Numbers.{by-order, holds, fails, and-both, and-left, and-right, among-at, position-lt, at-position, first-lowest, first-is, first-none, by-cases, not-not, is-true, is-false}
 use Rattle.file.specs.Facts.{RisingFrom}
-use Rattle.numbering.proofs.Words.{rises}
+use Rattle.file.proofs.Rows.{rises}
 use Rattle.rules_origins.specs.Known.{Known, firstUnknown}
-
-pub first-le : (f : ℕ → Bool) (a n : ℕ) → first f a n ≤ a + n
-unfolding first
-first-le f a zero = omega arith
-first-le f a (suc n) = by-cases (f a) (λ e. rw (e, first) (omega arith)) (λ e. rw (e, first) (omega (arith, first-le f (suc a) n)))
-
-pub first-is : (f : ℕ → Bool) (n x : ℕ) → x < n → f x ≡ true → ((y : ℕ) → y < x → f y ≡ false) → x ≡ first f 0 n
-first-is f n x l e none =
-    let y = first f 0 n in
-    let u : y ≤ x = first-lowest f 0 n x (omega arith) (omega arith) (holds _ e) in
-    by-order y x
-    (λ d. absurd (fails _ (none y d) (first-passes f 0 n (omega arith))))
-    (λ q. sym q)
-    (λ d. absurd (omega arith))
-
-pub first-none : (f : ℕ → Bool) (n : ℕ) → ((y : ℕ) → y < n → f y ≡ false) → n ≡ first f 0 n
-first-none f n none =
-    let y = first f 0 n in
-    by-order y n
-    (λ d. absurd (fails _ (none y d) (first-passes f 0 n (omega arith))))
-    (λ q. sym q)
-    (λ d. absurd (omega (arith, first-le f 0 n)))
 
 -- ---- rules 1 and 2: an origin that the plan does not know
 
@@ -83,7 +60,3 @@ module _ (os : List ℕ) (rise : RisingFrom 0 os) (n : ℕ) (known : (i : ℕ) �
 
   pub scan-none : ((k : ℕ) → k < length os → g (getD os k 0) ≡ false) → n ≡ first (λ x. among x os && g x) 0 n
   scan-none none = first-none _ n (λ y d. not-before (length os) (omega arith) none y (λ j a b q. omega arith))
-
-pub rising : (l : List ℕ) → RisingFrom 0 l → Rising l
-unfolding Rising
-rising l r i h = rises l 0 r i (suc i) (omega arith) h

@@ -1,6 +1,6 @@
 -- Rules 1, 2, 3 and 5: the lowest number that breaks them, found in the origins, or in the criterion.
 use Prim.Native.Nat.{ℕ, _≤_, _<_}
-use mathlib.Core.Path.{_≡_, refl, sym, ap, _∙_, subst}
+use mathlib.Core.Path.{_≡_, refl, sym, ap, _∙_}
 use mathlib.Core.Bool.{true, false, not}
 use mathlib.Core.List.{List}
 use native.Mathlib.Omega.{arith}
@@ -13,9 +13,10 @@ use Rattle.net.specs.Slice.{Slice, placeOf, transitionOf}
 use Rattle.net.specs.Checker.{breaks, breaker, rule1, rule2, rule3, rule5}
 use Rattle.net.proofs.Numbers.{position-at}
 use Rattle.net.proofs.Uncapped.{uncapped-rule3}
+use Rattle.file.proofs.Rows.{rising-from}
 use Rattle.file.specs.Facts.{RisingFrom}
 use Rattle.rules_origins.specs.Known.{Known, firstUnknown}
-use Rattle.rules_origins.proofs.Firsts.{all-known, scan-found, scan-none, rising}
+use Rattle.rules_origins.proofs.Firsts.{all-known, scan-found, scan-none}
 
 pub unknown-place : (N : Net) (S : Slice) (limit : ℕ) → N .places ≡ limit → firstUnknown limit (S .placeOrigins) (S .net .places) ≡ breaker (rule1 N S)
 unfolding firstUnknown breaker breaks rule1 placeOf
@@ -41,7 +42,7 @@ module _ (N : Net) (S : Slice) (none : Uncapped N) (none′ : Uncapped (S .net))
   at-origin : (k : ℕ) → k < length (S .placeOrigins)
       → not (eqb (S .net .marking (position (getD (S .placeOrigins) k 0) (S .placeOrigins))) (N .marking (getD (S .placeOrigins) k 0)))
       ≡ not (eqb (S .net .marking k) (N .marking (getD (S .placeOrigins) k 0)))
-  at-origin k l = ap (λ (j : ℕ). not (eqb (S .net .marking j) (N .marking (getD (S .placeOrigins) k 0)))) (position-at (S .placeOrigins) (rising _ rise) k l)
+  at-origin k l = ap (λ (j : ℕ). not (eqb (S .net .marking j) (N .marking (getD (S .placeOrigins) k 0)))) (position-at (S .placeOrigins) (rising-from _ 0 rise) k l)
 
   alike : (k : ℕ) → k < length (S .placeOrigins) → Alike N S k
       → not (eqb (S .net .marking (position (getD (S .placeOrigins) k 0) (S .placeOrigins))) (N .marking (getD (S .placeOrigins) k 0))) ≡ false

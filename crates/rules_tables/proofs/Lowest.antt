@@ -1,22 +1,11 @@
 -- The lowest number that passes a test, found by going up.
-use Prim.Native.Nat.{ℕ, zero, suc, _+_, _<_, _≤_}
+use Prim.Native.Nat.{ℕ, _+_, _<_, _≤_}
 use mathlib.Core.Bool.{Bool, true, false}
-use mathlib.Core.Path.{_≡_, refl, sym, ap, _∙_}
+use mathlib.Core.Path.{_≡_, sym, ap, _∙_}
 use native.Mathlib.Omega.{arith}
 use Rattle.net.specs.Numbers.{first}
 use Rattle.net.specs.Checker.{Rule, breaks, breaker}
-use Rattle.net.proofs.Numbers.{by-cases, by-order}
-use Rattle.rules_origins.proofs.Firsts.{first-is, first-none}
-
--- tests that agree have the same lowest number
-pub first-same : (f g : ℕ → Bool) (a n : ℕ) → ((k : ℕ) → a ≤ k → k < a + n → f k ≡ g k) → first f a n ≡ first g a n
-unfolding first
-first-same f g a zero w = refl
-first-same f g a (suc n) w =
-    let rest = first-same f g (suc a) n (λ k l u. w k (omega arith) (omega arith)) in
-    by-cases (g a)
-    (λ e. rw (w a (omega arith) (omega arith), e, first))
-    (λ e. rw (w a (omega arith) (omega arith), e, first) rest)
+use Rattle.net.proofs.Numbers.{by-order, first-is, first-none}
 
 -- the test holds of none of the numbers below t
 pub record NoneBelow (f : ℕ → Bool) (n t : ℕ) : Type 0 where

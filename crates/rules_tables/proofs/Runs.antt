@@ -14,10 +14,10 @@ use Rattle.net.specs.declared.Arc.{Arc}
 use Rattle.net.proofs.Numbers.{by-cases}
 use Rattle.net.proofs.Weights.{arcsOf-append}
 use Rattle.file.specs.Layout.{arcAt, arcsFrom, netFrom}
-use Rattle.file.specs.Facts.{ArcGood, Sound}
+use Rattle.file.specs.Facts.{Sound}
 use Rattle.file.specs.declared.Header.{Header}
 use Rattle.arcs_starts.specs.Table.{slotAt, Split}
-use Rattle.file.proofs.Rows.{arcs-append, first, later, range-at}
+use Rattle.file.proofs.Rows.{arcs-append, first, later, good-at}
 use Rattle.arcs_column.specs.Gain.{sumTo, part}
 use Rattle.arcs_column.proofs.Sums.{sum-next, sum-more, part-here}
 use Rattle.arcs_column.proofs.Weights.{weight-run}
@@ -72,9 +72,6 @@ sum-found s start p b (suc k) h =
 -- ---- the table of a file that was read
 
 module _ (s : List ℕ) (h : Header) (table : List ℕ) (so : Sound s h) (st : Starts s h table) where
-  pub good-at : (i : ℕ) → i < h .arcs → ArcGood (h .places) (h .transitions) (arcAt s (h .arcstart + 8 * i))
-  good-at i l = range-at (h .places) (h .transitions) s (h .arcstart) (h .arcs) i (so .arcs) l
-
   -- the entries do not fall, and none is above the number of arcs
   pub entry-most : (k : ℕ) → k ≤ 2 * h .transitions → getD table k 0 ≤ h .arcs
   entry-most k l = st .split k l .within
@@ -100,7 +97,7 @@ module _ (s : List ℕ) (h : Header) (table : List ℕ) (so : Sound s h) (st : S
     unfolding slotAt
     run-own i a b =
         let n : i < h .arcs = omega (arith, run-high .within) in
-        omega (arith, run-low .above i a n, run-high .below i b, good-at i n .direction)
+        omega (arith, run-low .above i a n, run-high .below i b, good-at s h so i n .direction)
 
     run-before : (i : ℕ) → i < getD table (2 * t) 0 → arcAt s (h .arcstart + 8 * i) .transition ≡ t → ⊥
     unfolding slotAt
@@ -108,7 +105,7 @@ module _ (s : List ℕ) (h : Header) (table : List ℕ) (so : Sound s h) (st : S
 
     run-after : (i : ℕ) → getD table (2 * t + 2) 0 ≤ i → i < h .arcs → arcAt s (h .arcstart + 8 * i) .transition ≡ t → ⊥
     unfolding slotAt
-    run-after i a b q = omega (arith, run-high .above i a b, good-at i b .direction)
+    run-after i a b q = omega (arith, run-high .above i a b, good-at s h so i b .direction)
 
     -- the arcs of t
     pub run-is : arcsOf t (netFrom s h .arcs) ≡ arcsFrom s (h .arcstart + 8 * getD table (2 * t) 0) (getD table (2 * t + 2) 0 - getD table (2 * t) 0)
@@ -137,7 +134,7 @@ module _ (s : List ℕ) (h : Header) (table : List ℕ) (so : Sound s h) (st : S
 
     -- its sum at p is the weight that joins p and t
     pub run-weight : (p : ℕ) → sumTo s (h .arcstart) p (getD table (2 * t + d + 1) 0) ≡ sumTo s (h .arcstart) p (getD table (2 * t + d) 0) + weightOn d p t (netFrom s h .arcs)
-    run-weight p = weight-run d p t s (h .arcstart) (h .arcs) _ _ dl (λ i a. good-at i a .direction) slot-low slot-high
+    run-weight p = weight-run d p t s (h .arcstart) (h .arcs) _ _ dl (λ i a. good-at s h so i a .direction) slot-low slot-high
 
     -- a weight comes from an arc
     pub weight-found : (p : ℕ) → 0 < weightOn d p t (netFrom s h .arcs) → (i : ℕ) × (getD table (2 * t + d) 0 ≤ i) × (i < getD table (2 * t + d + 1) 0) × (arcAt s (h .arcstart + 8 * i) .place ≡ p)
@@ -154,7 +151,7 @@ module _ (s : List ℕ) (h : Header) (table : List ℕ) (so : Sound s h) (st : S
     pub weight-there : (i : ℕ) → getD table (2 * t + d) 0 ≤ i → i < getD table (2 * t + d + 1) 0 → 0 < weightOn d (arcAt s (h .arcstart + 8 * i) .place) t (netFrom s h .arcs)
     weight-there i a b =
         let x = arcAt s (h .arcstart + 8 * i) in
-        let g = good-at i (omega (arith, slot-high .within)) in
+        let g = good-at s h so i (omega (arith, slot-high .within)) in
         omega (
           arith,
           g .weight,

@@ -19,7 +19,7 @@ use Rattle.file.specs.Word.{bytes16, bytes32}
 use Rattle.file.specs.Writing.{arcsBytes, originsBytes, sliceBody, trailerBytes, sliceBytes}
 use Rattle.file.specs.declared.Header.{Header}
 use Rattle.file.proofs.Bytes.{length-markings, length-origins, length-arcs}
-use Rattle.promise.proofs.Cuts.{length-arcsFrom}
+use Rattle.file.proofs.Rows.{length-arcsFrom}
 use Rattle.file.proofs.Rows.{range-at}
 use Rattle.slice_arcs.specs.Between.{keptArcs, Arcs, ArcsWritten}
 use Rattle.slice_arcs.proofs.Restricted.{arcs-restricted}

@@ -6,7 +6,7 @@ use lib.Dec.{eqb}
 use Rattle.net.specs.declared.Arc.{Arc}
 use Rattle.arcs_starts.specs.Table.{choose}
 use Rattle.arcs_column.specs.Ways.{transitionAt}
-use Rattle.arcs_column.proofs.Arcs.{good-at}
+use Rattle.file.proofs.Rows.{good-at}
 use Rattle.cut_index.specs.Steps.{Linked, Room}
 use Rattle.cut_index.proofs.Linking.{Linking, room, linking-none, linking-more, linking-end, linked-on}
 use Rattle.cut_index.proofs.index.Statement.{statement}

@@ -3,7 +3,7 @@ use Prim.Native.Nat.{_+_, _*_, _-_}
 use mathlib.Core.Path.{_≡_, sym, ap, _∙_}
 use native.Mathlib.Omega.{arith}
 use Rattle.net.specs.declared.Arc.{Arc}
-use Rattle.arcs_starts.proofs.Reached.{good-at}
+use Rattle.file.proofs.Rows.{good-at}
 use Rattle.arcs_column.specs.Ways.{transitionAt, directionAt}
 use Rattle.cut_search.proofs.Steps.{Inputs, inputs-none, inputs-more, inputs-stop, inputs-all}
 use Rattle.cut_search.proofs.keep_inputs.Statement.{statement}

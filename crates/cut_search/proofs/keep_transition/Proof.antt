@@ -6,7 +6,7 @@ use Rattle.net.specs.Net.{takesFrom}
 use Rattle.net.specs.declared.Arc.{Arc}
 use Rattle.file.specs.Layout.{netFrom}
 use Rattle.arcs_starts.specs.Table.{Split}
-use Rattle.arcs_starts.proofs.Reached.{good-at}
+use Rattle.file.proofs.Rows.{good-at}
 use Rattle.arcs_column.specs.Ways.{transitionAt}
 use Rattle.cut_search.proofs.Steps.{transition-known, transition-new}
 use Rattle.cut_search.proofs.keep_transition.Statement.{statement}

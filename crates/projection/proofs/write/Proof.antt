@@ -1,7 +1,6 @@
 -- The numbers of the entries passed stand first, then what was lent past all of them (`Written`).
 use Prim.Native.Nat.{_-_}
 use native.Mathlib.Omega.{arith}
-use lib.ListN.{length}
 use Rattle.projection.proofs.Choices.{Written, written-none, written-next, written-count, written-all, listed, fits}
 use borrow.Author.Needs.{needs}
 use Rattle.projection.proofs.write.Statement.{statement}

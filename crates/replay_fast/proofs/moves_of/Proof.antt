@@ -6,7 +6,7 @@ use borrow.Author.Count.{below-none, below-more}
 use lib.ListN.{length, getD, length-set}
 use lib.Seq.{getD-set-same, getD-set-other}
 use Rattle.net.specs.declared.Arc.{Arc}
-use Rattle.arcs_column.proofs.Arcs.{good-at}
+use Rattle.file.proofs.Rows.{good-at}
 use Rattle.replay_fast.specs.Moves.{moveOf, moveFrom}
 use Rattle.replay_fast.proofs.moves_of.Statement.{statement}
 use Rattle.replay_fast.proofs.moves_of.Tie as tie

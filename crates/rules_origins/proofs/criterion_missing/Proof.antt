@@ -5,7 +5,7 @@ use native.Mathlib.Omega.{arith}
 use denote.Ref.{now}
 use lib.ListN.{length, getD}
 use borrow.Author.Count.{below-more}
-use Rattle.inputs_criterion.proofs.Places.{passed}
+use Rattle.file.proofs.Criterion.{passed}
 use Rattle.numbering.proofs.Lookup.{left-out, is-kept}
 use Rattle.rules_origins.proofs.Keeping.{missing-found, missing-none}
 use Rattle.rules_origins.proofs.criterion_missing.Statement.{statement}

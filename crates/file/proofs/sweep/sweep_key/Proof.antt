@@ -1,6 +1,5 @@
 use native.Mathlib.Omega.{arith}
-use borrow.Author.Needs.{needs}
-use Rattle.file.proofs.Marks.{shift-transition, shift-direction, shift-place, key-sum, key-fits}
+use Rattle.file.proofs.Marks.{shift-transition, shift-direction, key-sum, key-fits}
 use Rattle.file.proofs.sweep.sweep_key.Statement.{statement}
 use Rattle.file.proofs.sweep.sweep_key.Tie as tie
 
