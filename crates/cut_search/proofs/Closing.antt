@@ -14,12 +14,12 @@ use Rattle.net.proofs.Numbers.{by-or, holds, fails, is-true, is-false, and-left
 use Rattle.net.proofs.Worklist.{Searching, search-take}
 use Rattle.file.specs.Facts.{Sound}
 use Rattle.file.specs.declared.Header.{Header}
-use Rattle.sets.specs.Member.{bit, member}
+use Rattle.sets.specs.Member.{bit, member, Inserted}
 use Rattle.sets.specs.Lowest.{IsLowest}
 use Rattle.sets.specs.declared.Found.the-variants.{At, Nothing}
 use Rattle.sets.proofs.Bits.{bit-zero}
 use Rattle.sets.proofs.Members.{none}
-use Rattle.sets_pending.specs.Growing.{MarksBelow, Inserted, waits, Marked}
+use Rattle.sets_pending.specs.Growing.{MarksBelow, waits, Marked}
 use Rattle.sets_pending.proofs.Counting.{count-less}
 use Rattle.sets_pending.proofs.Laws.{all-marked}
 use Rattle.cut_search.specs.Search

@@ -13,11 +13,11 @@ use Rattle.net.proofs.Numbers.{by-or, holds, is-true, or-left, or-right, same-t
 use Rattle.file.specs.Layout.{netFrom}
 use Rattle.file.specs.Facts.{Sound}
 use Rattle.file.specs.declared.Header.{Header}
-use Rattle.sets.specs.Member.{member}
+use Rattle.sets.specs.Member.{member, Inserted}
 use Rattle.arcs_starts.specs.Table.{slotAt, Split}
 use Rattle.arcs_starts.proofs.Reached.{ordered}
 use Rattle.file.proofs.Rows.{good-at}
-use Rattle.sets_pending.specs.Growing.{Inserted, PlacesKept}
+use Rattle.sets_pending.specs.Growing.{PlacesKept}
 use Rattle.arcs_column.specs.Ways.{transitionAt, directionAt, placeAt}
 use Rattle.arcs_column.proofs.Arcs.{has-arc, arc-has, joins-in, in-joins}
 use Rattle.cut_search.specs.Search

@@ -58,7 +58,7 @@ fn keep_transition(
     if sets::contains(transitions, t) {
         return marks;
     }
-    sets_pending::insert(transitions, t);
+    sets::insert(transitions, t);
     keep_inputs(file, h, from, t, marks, places)
 }
 
@@ -128,6 +128,6 @@ pub fn step(
     let Found::At(p) = lowest else {
         return 0;
     };
-    sets_pending::insert(gone, p);
+    sets::insert(gone, p);
     turn(file, h, all, both, head, next, p, m, places, transitions)
 }

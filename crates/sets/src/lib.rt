@@ -1,9 +1,8 @@
 // Sets of numbers below 1,024 as sixteen 64-bit words.
 ghost use mathlib.Core.Path.{_≡_};
-ghost use mathlib.Core.Bool.{true, false, not, _&&_, _||_};
-ghost use Prim.Native.Nat.{ℕ, _+_, _*_, _≤_, _<_};
-ghost use lib.Dec.{eqb};
-ghost use Rattle.sets.specs.Member.{bit, member, countBelow};
+ghost use Prim.Native.Nat.{_*_, _≤_, _<_};
+ghost use lib.ListN.{length};
+ghost use Rattle.sets.specs.Member.{bit, member, countBelow, Inserted};
 ghost use Rattle.sets.specs.Lowest.{IsLowest};
 
 // The pair of kept sets of a cut.
@@ -13,12 +12,6 @@ pub struct KeptSets {
 }
 
 // A set of numbers below 1,024 is 16 words: n is a member if bit n % 64 of word n / 64 is 1.
-pub fn empty() -> [u64; 16]
-    ensures { λ r. ⌜ ((k : ℕ) → member r k ≡ false) ⌝ }
-{
-    [0u64; 16]
-}
-
 pub fn contains(words: &[u64; 16], n: usize) -> bool
     requires { ⌜ n < 1024 ⌝ }
     ensures { λ r. ⌜ r ≡ member (now (words .entry)) n ⌝ }
@@ -27,26 +20,22 @@ pub fn contains(words: &[u64; 16], n: usize) -> bool
     (w >> (n % 64)) % 2 == 1
 }
 
+// Adds n to a set.
+pub fn insert(words: &mut [u64; 16], n: usize)
+    requires { ⌜ (n < 1024) × (length (now words) ≡ 16) ⌝ }
+    ensures { λ _. ⌜ Inserted n (now (words .entry)) (now (words .exit)) ⌝ }
+{
+    let i = n / 64;
+    words[i] = words[i] | (1u64 << (n % 64));
+}
+
 // The set with n added.
 pub fn with(words: [u64; 16], n: usize) -> [u64; 16]
     requires { ⌜ n < 1024 ⌝ }
-    ensures { λ r. ⌜ ((k : ℕ) → member r k ≡ (eqb k n || member words k)) ⌝ }
+    ensures { λ r. ⌜ Inserted n words r ⌝ }
 {
     let mut next = words;
-    let i = n / 64;
-    next[i] = next[i] | (1u64 << (n % 64));
-    next
-}
-
-// The set with n taken out.
-pub fn without(words: [u64; 16], n: usize) -> [u64; 16]
-    requires { ⌜ n < 1024 ⌝ }
-    ensures { λ r. ⌜ ((k : ℕ) → member r k ≡ (not (eqb k n) && member words k)) ⌝ }
-{
-    let mut next = words;
-    let i = n / 64;
-    let p = 1u64 << (n % 64);
-    next[i] = (next[i] | p) ^ p;
+    insert(&mut next, n);
     next
 }
 
@@ -63,21 +52,6 @@ pub fn lowest_bit(w: u64) -> Found
         return Found::Nothing;
     }
     Found::At(u64::trailing_zeros(w) as usize)
-}
-
-// The lowest member.
-pub fn lowest(words: &[u64; 16]) -> Found
-    ensures { λ r. ⌜ IsLowest 1024 (member (now (words .entry))) r ⌝ }
-{
-    let mut i: usize = 0;
-    while i < 16 {
-        let here = lowest_bit(words[i]);
-        if let Found::At(z) = here {
-            return Found::At(i * 64 + z);
-        }
-        i += 1;
-    }
-    Found::Nothing
 }
 
 // How many bits are 1.

@@ -1,33 +1,27 @@
 -- Laws of lent sets: a member put in, a place kept whose word is marked, and the lowest pending place by the marks.
 use mathlib.Core.Path.{_≡_, refl, sym, ap, ap₂, _∙_, subst}
-use mathlib.Core.Bool.{Bool, true, false, not, _&&_, _||_, or-comm}
+use mathlib.Core.Bool.{Bool, true, false, not, _&&_, _||_}
 use mathlib.Core.List.{List}
 use Prim.Native.Nat.{ℕ, zero, suc, _+_, _-_, _*_, _/_, _%_, _^_, _≤_, _<_}
 use native.Mathlib.Omega.{arith}
 use native.Mathlib.Decide.{decLt}
 use lib.Dec.{T, eqb, eqb→eq}
-use lib.ListN.{length, getD, set, length-set}
+use lib.ListN.{getD}
 use lib.Bits.{bitOr, bitXor}
 use lib.Pow.{shr-shr}
 use borrow.Author.Tests.{eq-eqb, eqb-true}
 use Rattle.net.proofs.Numbers.{by-or, holds, is-true, is-false, fails, or-left, or-right, and-left, and-right}
-use Rattle.sets.specs.Member.{bit, member, countBelow}
+use Rattle.sets.specs.Member.{bit, member, countBelow, Inserted}
 use Rattle.sets.specs.Lowest.{IsLowest}
 use Rattle.sets.specs.declared.Found.the-variants.{At, Nothing}
 use Rattle.sets.proofs.Bits.{differs, bit-or, bit-xor, bit-pow, bit-zero, bit-suc, bit-low, shifted-one}
-use Rattle.sets.proofs.Members.{mask, clears, added, member-at}
-use Rattle.sets_pending.specs.Growing.{MarksBelow, Inserted, waits, Marked, PlacesKept, LowestPending}
+use Rattle.sets.proofs.Members.{clears, member-at}
+use Rattle.sets_pending.specs.Growing.{MarksBelow, waits, Marked, PlacesKept, LowestPending}
 use Rattle.sets_pending.proofs.Counting.{count-less}
 
 -- the code's 1 << i
 abbrev one : ℕ → ℕ
 one i = 1 * 2 ^ i % 2 ^ 64
-
-pub inserted : (words : List ℕ) (n : ℕ) → n < 1024 → length words ≡ 16 → Inserted n words (set words (n / 64) (bitOr (getD words (n / 64) 0) (mask n)))
-inserted words n l h = record {
-  members = λ k. added words n (omega arith) k ∙ or-comm (eqb k n) (member words k);
-  long = length-set words (n / 64) _ ∙ h;
-}
 
 bit-one : (i k : ℕ) → i < 64 → bit (one i) k ≡ eqb k i
 bit-one i k l = ap (λ (w : ℕ). bit w k) (shifted-one i l) ∙ bit-pow i k

@@ -3,16 +3,11 @@ use Prim.Native.Nat.{ℕ, _/_, _<_}
 use mathlib.Core.Bool.{Bool, not, _&&_, _||_}
 use mathlib.Core.List.{List}
 use mathlib.Core.Path.{_≡_}
-use lib.Dec.{T, eqb}
+use lib.Dec.{T}
 use lib.ListN.{length}
 use Rattle.sets.specs.Member.{bit, member}
 use Rattle.sets.specs.Lowest.{IsLowest}
 use Rattle.sets.specs.declared.Found.{Found}
-
--- r is the set w with n
-pub record Inserted (n : ℕ) (w r : List ℕ) : Type 0 where
-  pub members : (k : ℕ) → member r k ≡ member w k || eqb k n
-  pub long : length r ≡ 16
 
 -- "A kept place is pending until its transitions have been gone through": k is kept, and not among those gone through
 abbrev pub waits : List ℕ → (ℕ → Bool) → ℕ → Bool

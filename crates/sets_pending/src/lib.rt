@@ -5,17 +5,8 @@ ghost use Prim.Native.Nat.{ℕ, _≤_, _<_};
 ghost use lib.Dec.{T, eqb};
 ghost use lib.ListN.{length};
 ghost use Rattle.sets.specs.Member.{bit, member};
-ghost use Rattle.sets_pending.specs.Growing.{MarksBelow, Inserted, Marked, PlacesKept, LowestPending};
+ghost use Rattle.sets_pending.specs.Growing.{MarksBelow, Marked, PlacesKept, LowestPending};
 use sets::Found;
-
-// Adds n to a set.
-pub fn insert(words: &mut [u64; 16], n: usize)
-    requires { ⌜ (n < 1024) × (length (now words) ≡ 16) ⌝ }
-    ensures { λ _. ⌜ Inserted n (now (words .entry)) (now (words .exit)) ⌝ }
-{
-    let i = n / 64;
-    words[i] = words[i] | (1u64 << (n % 64));
-}
 
 // A mark for each word that has a number below n.
 pub fn marks_below(n: usize) -> u64
@@ -30,7 +21,7 @@ pub fn keep(places: &mut [u64; 16], marks: u64, p: usize) -> u64
     requires { ⌜ (p < 1024) × (length (now places) ≡ 16) ⌝ }
     ensures { λ r. ⌜ PlacesKept (λ k. eqb k p) marks (r) (now (places .entry)) (now (places .exit)) ⌝ }
 {
-    insert(places, p);
+    sets::insert(places, p);
     marks | (1u64 << (p / 64))
 }
 

@@ -1,7 +1,10 @@
+use mathlib.Core.Bool.{or-comm}
 use mathlib.Core.Path.{refl, _∙_, sym}
 use Prim.Native.Nat.{ℕ}
+use lib.Dec.{eqb}
 use lib.ListN.{length-map}
 use borrow.Author.Needs.{needs}
+use Rattle.sets.specs.Member.{member}
 use Rattle.cut_growth.proofs.with.Statement.{statement}
 use Rattle.cut_growth.proofs.with.Tie as tie
 
@@ -12,9 +15,9 @@ returns : tie.Need-returns
 returns c =
     let start = c .before .before .before in
     record {
-      places = λ k. c .with .ensures k;
+      places = λ k. c .with .ensures .members k ∙ or-comm (member (start .args .kept .places) k) (eqb k (start .args .p));
       transitions = λ k. refl;
-      places-long = c .with .ok .1 .0 .1;
+      places-long = c .with .ensures .long;
       transitions-long = sym (length-map (start .args .kept .transitions) (λ (v : ℕ). v)) ∙ start .good .0 .1 .1 .1 .0 .1 .0 .1;
     }
 

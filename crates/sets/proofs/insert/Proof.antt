@@ -1,7 +1,7 @@
 use borrow.Author.Needs.{needs}
-use Rattle.sets_pending.proofs.Laws.{inserted}
-use Rattle.sets_pending.proofs.insert.Statement.{statement}
-use Rattle.sets_pending.proofs.insert.Tie as tie
+use Rattle.sets.proofs.Members.{inserted}
+use Rattle.sets.proofs.insert.Statement.{statement}
+use Rattle.sets.proofs.insert.Tie as tie
 
 mul-words : tie.Need-mul-words
 mul-words c = search needs
