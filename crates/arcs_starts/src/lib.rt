@@ -14,16 +14,6 @@ fn slot(a: Arc) -> usize
     2 * a.transition + a.direction
 }
 
-fn clear(table: &mut [u16])
-    ensures { λ _. ⌜ (length (now (table .exit)) ≡ length (now (table .entry))) × ((k : ℕ) → getD (now (table .exit)) k 0 ≡ 0) ⌝ }
-{
-    let mut k = 0;
-    while k < table.len() {
-        table[k] = 0;
-        k += 1;
-    }
-}
-
 // Sets entry k + 1 to one more than the last arc with slot k; the others stay 0.
 fn ends(file: &[u8], start: usize, count: usize, table: &mut [u16])
     requires { ⌜ Slots (now file) start count (length (now table)) ⌝ }
@@ -65,17 +55,9 @@ pub fn starts(file: &[u8], start: usize, count: usize, transitions: usize, table
     requires { ⌜ Tabled (now file) start count transitions (length (now table)) ⌝ }
     ensures { λ _. ⌜ (length (now (table .exit)) ≡ length (now (table .entry))) × ((k : ℕ) → k ≤ 2 * transitions → Split (now (file .entry)) start count k (getD (now (table .exit)) k 0)) ⌝ }
 {
-    clear(table);
+    tables::clear(table);
     ends(file, start, count, table);
     fill(2 * transitions, table);
-}
-
-// Entry k of the table.
-pub fn entry(table: &[u16], k: usize) -> usize
-    requires { ⌜ k < length (now table) ⌝ }
-    ensures { λ r. ⌜ r ≡ getD (now (table .entry)) k 0 ⌝ }
-{
-    table[k] as usize
 }
 
 // How many arcs have a slot below k, by halving: they stand first.

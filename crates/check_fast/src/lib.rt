@@ -25,6 +25,7 @@ use file::Header;
 use file::arcs::arc_of;
 use file::arcs::word;
 use file::word::get16;
+use tables::wide;
 
 // How far the arcs are gone through: the plan's, the slice's own, and the bits in which some differ.
 pub struct Walk {
@@ -46,12 +47,6 @@ fn number(file: &[u8], start: usize, count: usize, unit: usize, table: &mut [usi
         table[origin] = unit * (1024 + i - origin);
         i += 1;
     }
-}
-
-fn wide(x: u16) -> usize
-    ensures { λ r. ⌜ (r ≡ x) × (r < 65536) ⌝ }
-{
-    x as usize
 }
 
 // Is no place of the criterion left out?

@@ -4,22 +4,16 @@ ghost use mathlib.Core.Bool.{_||_};
 ghost use Prim.Native.Nat.{_+_, _*_, _≤_, _<_};
 ghost use lib.Dec.{ltb, leb};
 ghost use lib.ListN.{length, take};
-ghost use Rattle.file.specs.Word.{le16};
 ghost use Rattle.file.specs.Layout.{wordsFrom};
 ghost use Rattle.file.specs.Criterion.{placesRefusal, criterionRefusal, criterionBytesRefusal};
-use file::word::get8;
+use file::word::get16;
+use tables::wide;
 
 // Is the number no place, or not above the one before?
 fn misplaced(q: usize, least: usize, places: usize) -> bool
     ensures { λ r. ⌜ r ≡ (leb places q || ltb q least) ⌝ }
 {
     (places <= q) | (q < least)
-}
-
-fn wide(x: u16) -> usize
-    ensures { λ r. ⌜ (r ≡ x) × (r ≤ 65535) ⌝ }
-{
-    x as usize
 }
 
 // Checks a criterion for a plan of `places` places: 0, or the number of the first rule broken.
@@ -42,14 +36,6 @@ pub fn refusal(q: &[u16], places: usize) -> u32
     0
 }
 
-// "2 bytes a place, low byte first".
-fn place(q: &[u8], at: usize) -> usize
-    requires { ⌜ at + 2 ≤ length (now q) ⌝ }
-    ensures { λ r. ⌜ (r ≡ le16 (now (q .entry)) at) × (r < 65536) ⌝ }
-{
-    get8(q, at) + 256 * get8(q, at + 1)
-}
-
 // Checks `count` places of 2 bytes: 0, or 10.
 fn places_refusal(q: &[u8], count: usize, places: usize) -> u32
     requires { ⌜ 2 * count ≤ length (now q) ⌝ }
@@ -59,7 +45,7 @@ fn places_refusal(q: &[u8], count: usize, places: usize) -> u32
     let mut least: usize = 0;
     let mut left = count;
     while 0 < left {
-        let next = place(q, at);
+        let next = get16(q, at);
         if misplaced(next, least, places) {
             return 10;
         }
@@ -91,7 +77,7 @@ pub fn decode(q: &[u8], count: usize, list: &mut [u16])
 {
     let mut i: usize = 0;
     while i < count {
-        list[i] = place(q, 2 * i) as u16;
+        list[i] = get16(q, 2 * i) as u16;
         i += 1;
     }
 }

@@ -21,8 +21,3 @@ pub record Origins (s : List ℕ) (start count : ℕ) : Type 0 where
   pub fit : start + 2 * count ≤ length s
   pub few : count ≤ 1024
   pub rise : RisingFrom 0 (wordsFrom s start count)
-
--- a list of origins, "strictly rising"
-pub record Listed (os : List ℕ) : Type 0 where
-  pub few : length os ≤ 1024
-  pub rise : RisingFrom 0 os

@@ -1,19 +1,8 @@
 // The own numbers of a slice: from the plan's numbers to the slice's.
 ghost use mathlib.Core.Path.{_≡_};
-ghost use Prim.Native.Nat.{ℕ};
-ghost use lib.ListN.{length, getD, set};
+ghost use lib.ListN.{length, set};
 ghost use Rattle.file.specs.Layout.{wordsFrom};
-ghost use Rattle.numbering.specs.Own.{Own, Origins, Listed};
-
-fn clear(table: &mut [u16])
-    ensures { λ _. ⌜ (length (now (table .exit)) ≡ length (now (table .entry))) × ((k : ℕ) → getD (now (table .exit)) k 0 ≡ 0) ⌝ }
-{
-    let mut k = 0;
-    while k < table.len() {
-        table[k] = 0;
-        k += 1;
-    }
-}
+ghost use Rattle.numbering.specs.Own.{Own, Origins};
 
 // Sets the entry of an origin, where the table has one.
 fn put(table: &mut [u16], origin: usize, number: u16)
@@ -30,24 +19,10 @@ pub fn own(file: &[u8], start: usize, count: usize, table: &mut [u16])
     requires { ⌜ Origins (now file) start count ⌝ }
     ensures { λ _. ⌜ (length (now (table .exit)) ≡ length (now (table .entry))) × Own (wordsFrom (now (file .entry)) start count) (now (table .exit)) ⌝ }
 {
-    clear(table);
+    tables::clear(table);
     let mut i: usize = 0;
     while i < count {
         let origin = file::word::get16(file, start + 2 * i);
-        put(table, origin, (i + 1) as u16);
-        i += 1;
-    }
-}
-
-// The same for a list.
-pub fn own_of(list: &[u16], table: &mut [u16])
-    requires { ⌜ Listed (now list) ⌝ }
-    ensures { λ _. ⌜ (length (now (table .exit)) ≡ length (now (table .entry))) × Own (now (list .entry)) (now (table .exit)) ⌝ }
-{
-    clear(table);
-    let mut i: usize = 0;
-    while i < list.len() {
-        let origin = list[i] as usize;
         put(table, origin, (i + 1) as u16);
         i += 1;
     }

@@ -14,9 +14,9 @@ ghost use Rattle.replay_steps.specs.Steps.{held, Ready, Holds, Listed, Underway
 ghost use Rattle.arcs_starts.specs.Table.{choose};
 ghost use Rattle.replay.specs.Steps.{needAt, Lacking, Firable, Passed};
 use arcs_groups::group;
-use arcs_starts::entry;
 use file::Header;
 use file::arcs::arc;
+use tables::entry;
 
 // How a replay ends: all fired; stuck, at an index of the list, a place and the tokens missing there; or refused.
 pub enum Outcome {

@@ -3,9 +3,9 @@
 ghost use mathlib.Core.Path.{_≡_};
 ghost use Rattle.replay_steps.specs.Steps.{Ready, Listed, Underway};
 ghost use Rattle.replay_fast.specs.Moves.{moveOf, MoveFits, Readable, MovesOf, Movable, Shifted, Moved, lowered, Plain, Lifted, Raised, Marched};
-use arcs_starts::entry;
 use file::Header;
 use file::arcs::arc;
+use tables::entry;
 
 // The move of an arc: its place from bit 54 on, and below it what it adds, modulo 2^54.
 fn move_of(direction: usize, weight: usize, place: usize) -> u64

@@ -9,7 +9,7 @@ ghost use Rattle.rules_tables.specs.Matched.{Starts, Matched};
 ghost use Rattle.rules_arcs.specs.Links.{Run, Unkept, Walk, Against, Step, numbered, arcsLeft, kept};
 use file::Header;
 use net::Arc;
-use rules_tables::entry;
+use tables::entry;
 
 // Has an arc from `from` to `to` a place that is not kept?
 fn unkept(plan: &[u8], start: usize, from: usize, to: usize, ownp: &[u16]) -> bool

@@ -12,7 +12,7 @@ ghost use Rattle.file.specs.Facts.{Sound};
 ghost use Rattle.rules_tables.specs.Matched.{Starts, Matched};
 ghost use Rattle.rules_effects.specs.Movers.{limitOn, moved, Resting};
 use file::Header;
-use rules_tables::entry;
+use tables::entry;
 
 // Does the transition t move a place past its limit? The column comes back at rest.
 fn moves(

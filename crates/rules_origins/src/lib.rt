@@ -1,6 +1,6 @@
 // The checker's rules 1, 2, 3 and 5: origins that the plan knows, markings, and the criterion.
 ghost use mathlib.Core.Path.{_≡_};
-ghost use Prim.Native.Nat.{ℕ, _+_, _*_, _<_, _≤_};
+ghost use Prim.Native.Nat.{_+_, _*_, _<_, _≤_};
 ghost use lib.ListN.{length};
 ghost use Rattle.net.specs.Net.{Net};
 ghost use Rattle.net.specs.Slice.{Slice};
@@ -12,6 +12,7 @@ ghost use Rattle.numbering.specs.Own.{Own, Origins};
 ghost use Rattle.rules_origins.specs.Known.{Known, firstUnknown};
 use file::Header;
 use file::word::get16;
+use tables::wide;
 
 // Scans `count` origins for the first that is not below `limit`; `count` where none is.
 fn scan(slice: &[u8], start: usize, count: usize, limit: usize) -> usize
@@ -85,12 +86,6 @@ pub fn other_marking(plan: &[u8], hp: Header, slice: &[u8], hs: Header) -> usize
         i += 1;
     }
     hp.places
-}
-
-fn wide(x: u16) -> usize
-    ensures { λ r. ⌜ r ≡ x ⌝ }
-{
-    x as usize
 }
 
 // Rule 5: the lowest place of the criterion that is not kept; the plan's number of places where there is none.

@@ -26,7 +26,7 @@ use Rattle.slice_arcs.proofs.Restricted.{arcs-restricted}
 use Rattle.slice_parts.specs.Trailer.{trailerFor}
 use Rattle.slice_parts.specs.Markings.{keptMarkings}
 use Rattle.slice_parts.proofs.Steps.{markings-same}
-use Rattle.slice_put.proofs.Sets.{sets-after, sets-first, take-sets}
+use Rattle.tables.proofs.Sets.{sets-after, sets-first, take-sets}
 use Rattle.sets.specs.Member.{member, countBelow}
 use Rattle.sets.specs.declared.KeptSets.{KeptSets}
 use Rattle.slice_members.proofs.Selected.{selected-below, count-selected}

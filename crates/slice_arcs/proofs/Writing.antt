@@ -9,7 +9,7 @@ use Rattle.net.specs.declared.Arc.{Arc}
 use Rattle.file.specs.Word.{bytes16}
 use Rattle.file.specs.Writing.{arcBytes, arcsBytes}
 use Rattle.file.proofs.Bytes.{length-arc}
-use Rattle.slice_put.proofs.Sets.{sets-join, sets-over}
+use Rattle.tables.proofs.Sets.{sets-join, sets-over}
 use Rattle.slice_arcs.specs.Between.{renumbered, keptArc, ArcsWritten}
 
 -- 65,535 more is one less in 16 bits

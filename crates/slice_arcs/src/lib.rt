@@ -1,6 +1,6 @@
 // The plan's arcs between kept places and transitions, in one pass over the plan's arcs.
 ghost use mathlib.Core.Path.{_≡_};
-ghost use Prim.Native.Nat.{ℕ, _+_, _<_, _≤_};
+ghost use Prim.Native.Nat.{_+_, _<_, _≤_};
 ghost use lib.ListN.{length};
 ghost use lib.Seq.{sets};
 ghost use Rattle.net.specs.declared.Arc.{Arc};

@@ -1,10 +1,10 @@
 use borrow.Author.Needs.{needs}
-use Prim.Native.Nat.{ℕ, _+_, _*_, _-_, _≤_, _<_}
+use Prim.Native.Nat.{ℕ, _+_, _*_, _-_, _≤_}
 use mathlib.Core.Path.{_≡_, refl, sym, ap, _∙_}
 use native.Mathlib.Omega.{arith}
 use native.Mathlib.Numerals.{add-one}
 use mathlib.Core.List.{List, [], _∷_, _++_}
-use lib.ListN.{length, take, set, length-set}
+use lib.ListN.{length, take, length-set}
 use lib.Seq.{take-suc-set}
 use Rattle.file.specs.Word.{le16}
 use Rattle.file.specs.Layout.{wordsFrom}
@@ -21,11 +21,11 @@ abbrev μ-loop : tie.MeasureT-loop
 loop-holds : tie.Need-loop-holds Inv-loop μ-loop
 loop-holds c = (omega arith, refl, words-none _ _)
 
-mul-place : tie.Need-mul-place Inv-loop μ-loop
-mul-place c = search needs
+mul-get16 : tie.Need-mul-get16 Inv-loop μ-loop
+mul-get16 c = search needs
 
-place-requires : tie.Need-place-requires Inv-loop μ-loop
-place-requires c κs = search needs
+get16-requires : tie.Need-get16-requires Inv-loop μ-loop
+get16-requires c κs = search needs
 
 cast-list : tie.Need-cast-list Inv-loop μ-loop
 cast-list c = search needs
@@ -47,10 +47,10 @@ loop-again c =
     let at = c .before .before .loop in
     let e : 2 * at .i ≡ 0 + 2 * at .i = omega arith in (
       search needs,
-      length-set (at .list) (at .i) (c .place .result) ∙ at .inv .1,
-      rw (add-one (at .i)) (take-suc-set (at .list) (at .i) (c .place .result) (omega (arith, c .before .before .before .before .before .pre)))
-          ∙ ap (λ (l : List ℕ). l ++ (c .place .result ∷ [])) (at .inv .2)
-          ∙ ap (λ (n : ℕ). wordsFrom (c .before .before .before .before .before .args .q .now) 0 (at .i) ++ (n ∷ [])) (c .place .ensures .0 ∙ ap (le16 (c .before .before .before .before .before .args .q .now)) e)
+      length-set (at .list) (at .i) (c .get16 .result) ∙ at .inv .1,
+      rw (add-one (at .i)) (take-suc-set (at .list) (at .i) (c .get16 .result) (omega (arith, c .before .before .before .before .before .pre)))
+          ∙ ap (λ (l : List ℕ). l ++ (c .get16 .result ∷ [])) (at .inv .2)
+          ∙ ap (λ (n : ℕ). wordsFrom (c .before .before .before .before .before .args .q .now) 0 (at .i) ++ (n ∷ [])) (c .get16 .ensures .0 ∙ ap (le16 (c .before .before .before .before .before .args .q .now)) e)
           ∙ sym (words-more _ _ _),
     )
 
@@ -70,8 +70,8 @@ decode-spec =
     Inv-loop
     μ-loop
     loop-holds
-    mul-place
-    place-requires
+    mul-get16
+    get16-requires
     cast-list
     mul-list
     slice-write-list

@@ -1,7 +1,6 @@
 use borrow.Author.Needs.{needs}
-use Prim.Native.Nat.{ℕ, _+_, _*_, _-_, _≤_, _<_}
-use mathlib.Core.Path.{_≡_, refl, sym, ap, _∙_}
-use native.Mathlib.Omega.{arith}
+use Prim.Native.Nat.{_+_, _*_, _-_, _≤_}
+use mathlib.Core.Path.{_≡_, refl, sym, _∙_}
 use lib.ListN.{length}
 use Rattle.file.specs.Layout.{wordsFrom}
 use Rattle.file.specs.Criterion.{placesRefusal}
@@ -19,8 +18,8 @@ abbrev μ-loop : tie.MeasureT-loop
 loop-holds : tie.Need-loop-holds Inv-loop μ-loop
 loop-holds c = (search needs, refl)
 
-place-requires : tie.Need-place-requires Inv-loop μ-loop
-place-requires c κs = search needs
+get16-requires : tie.Need-get16-requires Inv-loop μ-loop
+get16-requires c κs = search needs
 
 misplaced-requires : tie.Need-misplaced-requires Inv-loop μ-loop
 misplaced-requires c κs = search needs
@@ -29,7 +28,7 @@ returns : tie.Need-returns Inv-loop μ-loop
 returns c =
     sym
     (c .before .before .before .before .loop .inv .1
-    ∙ bytes-10 _ _ _ _ _ (c .before .before .before .loop-test .taken) _ (c .before .before .place .ensures .0) (sym (c .before .misplaced .ensures) ∙ c .if1 .taken))
+    ∙ bytes-10 _ _ _ _ _ (c .before .before .before .loop-test .taken) _ (c .before .before .get16 .ensures .0) (sym (c .before .misplaced .ensures) ∙ c .if1 .taken))
 
 add-least : tie.Need-add-least Inv-loop μ-loop
 add-least c = search needs
@@ -46,7 +45,7 @@ loop-less c = search needs
 loop-again : tie.Need-loop-again Inv-loop μ-loop
 loop-again c = (
   search needs,
-  c .before .before .before .before .loop .inv .1 ∙ bytes-on _ _ _ _ _ (c .before .before .before .loop-test .taken) _ (c .before .before .place .ensures .0) (sym (c .before .misplaced .ensures) ∙ c .if1 .left),
+  c .before .before .before .before .loop .inv .1 ∙ bytes-on _ _ _ _ _ (c .before .before .before .loop-test .taken) _ (c .before .before .get16 .ensures .0) (sym (c .before .misplaced .ensures) ∙ c .if1 .left),
 )
 
 returns-2 : tie.Need-returns-2 Inv-loop μ-loop
@@ -59,7 +58,7 @@ places-refusal-spec =
     Inv-loop
     μ-loop
     loop-holds
-    place-requires
+    get16-requires
     misplaced-requires
     returns
     add-least

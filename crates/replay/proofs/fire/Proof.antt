@@ -7,7 +7,7 @@ use Rattle.replay.proofs.fire.Tie as tie
 turn-at : (c : tie.After-entry3) → let s = c .before .before .before .before .before .before in Turn (s .args .file .now) (s .args .h) (s .args .t) (c .before .before .entry .result) (c .before .entry2 .result) (c .entry3 .result) (s .args .marking .now)
 turn-at c =
     let s = c .before .before .before .before .before .before in
-    turn (s .pre .0) (s .pre .1) (c .before .before .entry .ensures) (c .before .entry2 .ensures) (c .entry3 .ensures)
+    turn (s .pre .0) (s .pre .1) (c .before .before .entry .ensures .0) (c .before .entry2 .ensures .0) (c .entry3 .ensures .0)
 
 mul-entry : tie.Need-mul-entry
 mul-entry c = search needs

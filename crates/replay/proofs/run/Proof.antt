@@ -97,7 +97,7 @@ loop-holds c =
     let ready = call f .pre .0 in
     let t = getD (call f .args .list .now) (f .firings .k) 0 in
     let l = listed (c .before .before) .known in
-    covered-none (ready .sound) (split-by ready (2 * t) (omega arith) (c .before .entry .ensures)) (split-by ready (2 * t + 1) (omega arith) (c .entry2 .ensures))
+    covered-none (ready .sound) (split-by ready (2 * t) (omega arith) (c .before .entry .ensures .0)) (split-by ready (2 * t + 1) (omega arith) (c .entry2 .ensures .0))
 
 mul-arc : tie.Need-mul-arc Inv-loop μ-loop Inv-firings μ-firings
 mul-arc c =

@@ -33,7 +33,7 @@ step-at : (c : tie.After-entry2 Inv-loop μ-loop) → let x = c .before .before 
 step-at c =
     let x = c .before .before .before .before in
     let pre = call x .pre in
-    step (pre .0) (pre .1 .0) (x .loop .inv) (c .before .before .before .loop-test .taken) (c .before .entry .ensures) (c .entry2 .ensures)
+    step (pre .0) (pre .1 .0) (x .loop .inv) (c .before .before .before .loop-test .taken) (c .before .entry .ensures .0) (c .entry2 .ensures .0)
 
 loop-holds : tie.Need-loop-holds Inv-loop μ-loop
 loop-holds c =

@@ -19,7 +19,7 @@ abbrev μ-loop : tie.MeasureT-loop
 
 -- the place has an entry
 inside : (c : tie.After-wide Inv-loop μ-loop) → c .wide .result < length (now (c .before .before .before .before .before .before .args .ownp))
-inside c = omega (arith, c .wide .ensures, c .before .before .before .before .before .before .pre .1, passed _ _ (c .before .before .before .before .before .before .pre .0) .known-at (c .before .before .before .loop .k) (c .before .before .loop-test .taken))
+inside c = omega (arith, c .wide .ensures .0, c .before .before .before .before .before .before .pre .1, passed _ _ (c .before .before .before .before .before .before .pre .0) .known-at (c .before .before .before .loop .k) (c .before .before .loop-test .taken))
 
 loop-holds : tie.Need-loop-holds Inv-loop μ-loop
 loop-holds c = (omega arith, λ k l. absurd (omega arith))
@@ -44,10 +44,10 @@ returns c = λ N S e o.
     let pre = c .before .before .before .before .before .before .before .before .pre in
     let w = passed _ _ (pre .0) in
     let i = c .before .before .before .before .before .loop .k in
-    c .before .before .wide .ensures
+    c .before .before .wide .ensures .0
     ∙ missing-found N S _ (w .rise) (λ k l. omega (arith, w .known-at k l)) i (c .before .before .before .before .loop-test .taken)
     (λ k l. is-kept _ _ o _ (omega (arith, pre .1, w .known-at k (omega (arith, c .before .before .before .before .loop-test .taken)))) (c .before .before .before .before .before .loop .inv .1 k l))
-    (left-out _ _ o _ (omega (arith, pre .1, w .known-at i (c .before .before .before .before .loop-test .taken))) (rw (← c .before .before .wide .ensures) (c .if1 .taken)))
+    (left-out _ _ o _ (omega (arith, pre .1, w .known-at i (c .before .before .before .before .loop-test .taken))) (rw (← c .before .before .wide .ensures .0) (c .if1 .taken)))
 
 add-k : tie.Need-add-k Inv-loop μ-loop
 add-k c = search needs
@@ -58,7 +58,7 @@ loop-less c = search needs
 loop-again : tie.Need-loop-again Inv-loop μ-loop
 loop-again c = (
   search needs,
-  below-more _ _ (c .before .before .before .before .before .loop .inv .1) (λ z. c .if1 .left (rw (c .before .before .wide .ensures) z)),
+  below-more _ _ (c .before .before .before .before .before .loop .inv .1) (λ z. c .if1 .left (rw (c .before .before .wide .ensures .0) z)),
 )
 
 returns-2 : tie.Need-returns-2 Inv-loop μ-loop

@@ -5,7 +5,7 @@ use mathlib.Core.Path.{_≡_, ap}
 use lib.ListN.{getD}
 use Rattle.net.specs.Numbers.{selected}
 use Rattle.sets.specs.Member.{member}
-use Rattle.slice_put.proofs.Storing.{Storing, storing-all, storing-as, storing-part, storing-none}
+use Rattle.tables.proofs.Storing.{Storing, storing-all, storing-as, storing-part, storing-none}
 use Rattle.slice_members.specs.List.{bitsFrom}
 use Rattle.slice_members.proofs.Selected.{members-next, members-count, selected-end}
 use Rattle.slice_members.proofs.members.Statement.{statement}

@@ -6,7 +6,7 @@ use native.Mathlib.Omega.{arith}
 use lib.Bits.{bitAnd, and-le-l}
 use lib.Count.{trailingZeros, trailing-le}
 use lib.ListN.{length}
-use Rattle.slice_put.proofs.Storing.{Storing, storing-all, storing-as, storing-one, storing-none, storing-end}
+use Rattle.tables.proofs.Storing.{Storing, storing-all, storing-as, storing-one, storing-none, storing-end}
 use Rattle.slice_members.specs.List.{bitsFrom}
 use Rattle.slice_members.proofs.Selected.{bits-none, bits-rest}
 use Rattle.slice_members.proofs.word_members.Statement.{statement}

@@ -7,7 +7,7 @@ use Rattle.file.specs.Layout.{netFrom}
 use Rattle.file.specs.Word.{bytes32}
 use Rattle.file.proofs.Bytes.{length-32}
 use Rattle.file.specs.Writing.{markingsBytes}
-use Rattle.slice_put.proofs.Storing.{Storing, storing-all, storing-as, storing-part, storing-none}
+use Rattle.tables.proofs.Storing.{Storing, storing-all, storing-as, storing-part, storing-none}
 use Rattle.slice_parts.specs.Markings.{keptMarkings}
 use Rattle.slice_parts.proofs.Steps.{markings-next, markings-end}
 use Rattle.slice_parts.proofs.write_markings.Statement.{statement}

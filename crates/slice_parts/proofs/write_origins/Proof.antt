@@ -6,7 +6,7 @@ use lib.ListN.{length, getD, drop}
 use Rattle.file.specs.Word.{bytes16}
 use Rattle.file.specs.Writing.{originsBytes}
 use Rattle.file.proofs.Bytes.{length-16}
-use Rattle.slice_put.proofs.Storing.{Storing, storing-all, storing-as, storing-from, storing-part, storing-none}
+use Rattle.tables.proofs.Storing.{Storing, storing-all, storing-as, storing-from, storing-part, storing-none}
 use Rattle.slice_parts.proofs.Steps.{origins-next, origins-end}
 use Rattle.slice_parts.proofs.write_origins.Statement.{statement}
 use Rattle.slice_parts.proofs.write_origins.Tie as tie

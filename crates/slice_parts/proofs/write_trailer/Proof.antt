@@ -4,7 +4,7 @@ use mathlib.Core.List.{_++_}
 use native.Mathlib.Omega.{arith}
 use Rattle.file.specs.Word.{bytes16, bytes32}
 use Rattle.slice_parts.specs.Trailer.{trailerFor}
-use Rattle.slice_put.proofs.Sets.{sets-after}
+use Rattle.tables.proofs.Sets.{sets-after}
 use Rattle.slice_parts.proofs.write_trailer.Statement.{statement}
 use Rattle.slice_parts.proofs.write_trailer.Tie as tie
 

@@ -6,7 +6,7 @@ use mathlib.Core.List.{List, [], _∷_, _++_}
 use lib.Seq.{sets}
 use Rattle.file.specs.Word.{bytes16}
 use Rattle.file.specs.Writing.{arcBytes}
-use Rattle.slice_put.proofs.Sets.{sets-after}
+use Rattle.tables.proofs.Sets.{sets-after}
 use Rattle.slice_put.proofs.put_arc.Statement.{statement}
 use Rattle.slice_put.proofs.put_arc.Tie as tie
 

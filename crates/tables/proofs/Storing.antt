@@ -6,7 +6,7 @@ use native.Mathlib.Numerals.{add-one}
 use native.Mathlib.Omega.{arith}
 use lib.ListN.{length, set, length-set, length-append}
 use lib.Seq.{sets, length-sets}
-use Rattle.slice_put.proofs.Sets.{sets-join}
+use Rattle.tables.proofs.Sets.{sets-join}
 
 -- of `all`, to be stored in l₀ from `first` on, `left` is to be stored in l from `at` on
 pub record Storing (l₀ : List ℕ) (first : ℕ) (all l : List ℕ) (at : ℕ) (left : List ℕ) : Type 0 where

@@ -6,8 +6,8 @@ use native.Mathlib.Decide.{decLt}
 use lib.ListN.{length, getD, set, length-set, List·getD-eq-default}
 use lib.Seq.{getD-set-same, getD-set-other}
 use borrow.Author.Count.{below-more}
-use Rattle.arcs_starts.proofs.clear.Statement.{statement}
-use Rattle.arcs_starts.proofs.clear.Tie as tie
+use Rattle.tables.proofs.clear.Statement.{statement}
+use Rattle.tables.proofs.clear.Tie as tie
 
 abbrev Inv-loop : tie.InvT-loop
 Inv-loop table₀ k₀ table k = (k ≤ length table₀) × (length table ≡ length table₀) × ((i : ℕ) → i < k → getD table i 0 ≡ 0)
