@@ -34,11 +34,14 @@ pub fn give(file: &[u8], start: usize, from: usize, to: usize, column: &mut [u32
     }
 }
 
-// Is a place pulled whose column stands at g? At rest it stands at 2 ^ 30.
+// Where the column of a place stands at rest: 2 ^ 30.
+pub const AT_REST: u32 = 1073741824;
+
+// Is a place pulled whose column stands at g?
 fn pulling(limit: u32, g: u32) -> bool
     ensures { λ r. ⌜ r ≡ pulls limit g ⌝ }
 {
-    (limit < g) & (g != 1073741824)
+    (limit < g) & (g != AT_REST)
 }
 
 // Is a place of the arcs from `from` to `to` pulled? Their places are put to rest.
@@ -61,7 +64,7 @@ pub fn pulled(
         let a = file::arcs::arc(file, start + 8 * j);
         let p = a.place;
         let here = pulling(limit[p], column[p]);
-        column[p] = 1073741824;
+        column[p] = AT_REST;
         found = found | here;
         j += 1;
     }

@@ -4,6 +4,8 @@ ghost use mathlib.Core.Bool.{true, _&&_};
 ghost use Prim.Native.Nat.{_+_, _-_, _*_, _/_, _%_, _≤_};
 ghost use lib.Dec.{eqb};
 ghost use Rattle.arcs_groups.specs.Groups.{GroupEnd, Stands, runWeight};
+use file::arcs::PLACE;
+use file::arcs::WEIGHT;
 use file::arcs::word;
 use file::word::get16;
 
@@ -11,7 +13,7 @@ use file::word::get16;
 fn parallel(v: usize, w: usize) -> bool
     ensures { λ r. ⌜ r ≡ eqb (v % 16777216) (w % 16777216) && eqb (v / 4294967296 % 65536) (w / 4294967296 % 65536) ⌝ }
 {
-    (v % 16777216 == w % 16777216) & (v / 4294967296 % 65536 == w / 4294967296 % 65536)
+    (v % 16777216 == w % 16777216) & (v / PLACE % 65536 == w / PLACE % 65536)
 }
 
 // Is the arc after arc j, of the arcs up to arc `to`, at another place? Then arc j is a group of its own.
@@ -40,7 +42,7 @@ fn several(file: &[u8], start: usize, j: usize, to: usize) -> Grouped
     ensures { λ r. ⌜ GroupEnd (now (file .entry)) start j to (r .end) × (r .weight ≡ runWeight (now (file .entry)) start j (r .end - j)) × (r .weight ≤ 65535 * (r .end - j)) ⌝ }
 {
     let w = word(file, start + 8 * j);
-    let mut sum = w / 281474976710656;
+    let mut sum = w / WEIGHT;
     let mut e = j + 1;
     while e < to {
         let v = word(file, start + 8 * e);
@@ -50,7 +52,7 @@ fn several(file: &[u8], start: usize, j: usize, to: usize) -> Grouped
                 weight: sum,
             };
         }
-        sum += v / 281474976710656;
+        sum += v / WEIGHT;
         e += 1;
     }
     Grouped {

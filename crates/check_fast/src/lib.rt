@@ -22,10 +22,16 @@ ghost use Rattle.numbering.specs.Own.{Origins};
 ghost use Rattle.check_fast.specs.Entries.{leftPlace, Numbered, Marked, Reached};
 ghost use Rattle.check_fast.specs.Pass.{Ready, joinedOf, keptOf, oddOf, quietOf, Settled, Walked, Passed, Blank, Agreed};
 use file::Header;
+use file::arcs::DIRECTION;
+use file::arcs::PLACE;
 use file::arcs::arc_of;
 use file::arcs::word;
 use file::word::get16;
 use tables::wide;
+
+// The entries of a place and of a transition that are left out.
+pub const LEFT_PLACE: usize = 1024 * PLACE + 15 * DIRECTION;
+pub const LEFT_TRANSITION: usize = 1024 + 7 * DIRECTION;
 
 // How far the arcs are gone through: the plan's, the slice's own, and the bits in which some differ.
 pub struct Walk {
@@ -57,7 +63,7 @@ fn all_kept(criterion: &[u16], places: &[usize]) -> bool
     let mut i: usize = 0;
     while i < criterion.len() {
         let q = wide(criterion[i]);
-        if places[q] == 4398047494144 {
+        if places[q] == LEFT_PLACE {
             return false;
         }
         i += 1;
@@ -84,7 +90,7 @@ fn joined(w: usize, places: &[usize], transitions: &[usize]) -> usize
     requires { ⌜ joinedOf w (now places) (now transitions) < 18446744073709551616 ⌝ }
     ensures { λ r. ⌜ r ≡ joinedOf w (now (places .entry)) (now (transitions .entry)) ⌝ }
 {
-    let p = w / 4294967296 % 65536;
+    let p = w / PLACE % 65536;
     let t = w % 65536;
     w + places[p] + transitions[t]
 }
@@ -280,7 +286,7 @@ pub fn agrees(
     requires { ⌜ Blank hp (sliceFrom (now slice) hs) (now places) (now transitions) ⌝ }
     ensures { λ r. ⌜ (r ≡ true → Agreed (netFrom (now (plan .entry)) hp) (sliceFrom (now (slice .entry)) hs) (now (criterion .entry))) ⌝ }
 {
-    number(slice, hs.originstart, hs.places, 4294967296, places);
+    number(slice, hs.originstart, hs.places, PLACE, places);
     number(
         slice,
         hs.originstart + 2 * hs.places,

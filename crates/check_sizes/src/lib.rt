@@ -8,6 +8,9 @@ ghost use Rattle.check_fast.specs.Pass.{Agreed};
 ghost use Rattle.check_rules.specs.Answer.{outcomeNumbers};
 ghost use Rattle.check_rules.specs.Room.{rulesFrom4, Judged};
 ghost use Rattle.check_sizes.specs.Sizes.{KnownIn, Within};
+use arcs_column::AT_REST;
+use check_fast::LEFT_PLACE;
+use check_fast::LEFT_TRANSITION;
 use check_rules::Outcome;
 use check_rules::lent_outcome;
 use file::Header;
@@ -30,7 +33,7 @@ fn small_outcome(plan: &[u8], hp: Header, slice: &[u8], hs: Header, criterion: &
     let mut ownp = [0u16; 64];
     let mut ownt = [0u16; 64];
     let mut limit = [0u32; 64];
-    let mut column = [1073741824u32; 64];
+    let mut column = [AT_REST; 64];
     lent_outcome(
         plan,
         hp,
@@ -56,7 +59,7 @@ fn large_outcome(plan: &[u8], hp: Header, slice: &[u8], hs: Header, criterion: &
     let mut ownp = [0u16; 1024];
     let mut ownt = [0u16; 1024];
     let mut limit = [0u32; 1024];
-    let mut column = [1073741824u32; 1024];
+    let mut column = [AT_REST; 1024];
     lent_outcome(
         plan,
         hp,
@@ -90,8 +93,8 @@ fn tiny_agrees(plan: &[u8], hp: Header, slice: &[u8], hs: Header, criterion: &[u
     requires { ⌜ Within 16 hp hs ⌝ }
     ensures { λ r. ⌜ (r ≡ true → Agreed (netFrom (now (plan .entry)) hp) (sliceFrom (now (slice .entry)) hs) (now (criterion .entry))) ⌝ }
 {
-    let mut places = [4398047494144usize; 16];
-    let mut transitions = [459776usize; 16];
+    let mut places = [LEFT_PLACE; 16];
+    let mut transitions = [LEFT_TRANSITION; 16];
     check_fast::agrees(
         plan,
         hp,
@@ -110,8 +113,8 @@ fn small_agrees(plan: &[u8], hp: Header, slice: &[u8], hs: Header, criterion: &[
     requires { ⌜ Within 128 hp hs ⌝ }
     ensures { λ r. ⌜ (r ≡ true → Agreed (netFrom (now (plan .entry)) hp) (sliceFrom (now (slice .entry)) hs) (now (criterion .entry))) ⌝ }
 {
-    let mut places = [4398047494144usize; 128];
-    let mut transitions = [459776usize; 128];
+    let mut places = [LEFT_PLACE; 128];
+    let mut transitions = [LEFT_TRANSITION; 128];
     check_fast::agrees(
         plan,
         hp,
@@ -129,8 +132,8 @@ fn large_agrees(plan: &[u8], hp: Header, slice: &[u8], hs: Header, criterion: &[
     requires { ⌜ KnownIn hp (sliceFrom (now slice) hs) ⌝ }
     ensures { λ r. ⌜ (r ≡ true → Agreed (netFrom (now (plan .entry)) hp) (sliceFrom (now (slice .entry)) hs) (now (criterion .entry))) ⌝ }
 {
-    let mut places = [4398047494144usize; 1024];
-    let mut transitions = [459776usize; 1024];
+    let mut places = [LEFT_PLACE; 1024];
+    let mut transitions = [LEFT_TRANSITION; 1024];
     check_fast::agrees(
         plan,
         hp,

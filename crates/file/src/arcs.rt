@@ -9,12 +9,19 @@ use crate::sweep::all_good;
 use crate::word::get32;
 use net::Arc;
 
+// An arc's number: the transition, and from these units on the direction, the place and the weight.
+pub const DIRECTION: usize = 65536;
+
+pub const PLACE: usize = 4294967296;
+
+pub const WEIGHT: usize = 281474976710656;
+
 // The 8 bytes of an arc as one number.
 pub fn word(file: &[u8], at: usize) -> usize
     requires { ⌜ at + 8 ≤ length (now file) ⌝ }
     ensures { λ r. ⌜ ArcWord (now (file .entry)) at r ⌝ }
 {
-    get32(file, at) + 4294967296 * get32(file, at + 4)
+    get32(file, at) + PLACE * get32(file, at + 4)
 }
 
 // The arc in such a number.
@@ -22,10 +29,10 @@ pub fn arc_of(w: usize) -> Arc
     ensures { λ r. ⌜ (r ≡ arcOf w) × ArcSmall r ⌝ }
 {
     Arc {
-        transition: w % 65536,
-        direction: w / 65536 % 256,
-        place: w / 4294967296 % 65536,
-        weight: w / 281474976710656,
+        transition: w % DIRECTION,
+        direction: w / DIRECTION % 256,
+        place: w / PLACE % 65536,
+        weight: w / WEIGHT,
     }
 }
 
@@ -63,7 +70,7 @@ fn first_refusal(file: &[u8], places: usize, transitions: usize, start: usize, c
     while 0 < left {
         let w = word(file, at);
         let a = arc_of(w);
-        if unfit(a, w / 65536 % 65536, places, transitions) {
+        if unfit(a, w / DIRECTION % 65536, places, transitions) {
             return 6;
         }
         let key = order(a);

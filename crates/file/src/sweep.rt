@@ -5,14 +5,29 @@ ghost use Prim.Native.Nat.{_+_, _*_, _<_, _≤_};
 ghost use lib.ListN.{length};
 ghost use Rattle.file.specs.Sweep.{Narrow, bothFit, marksOf, roomOf, sweepKey};
 ghost use Rattle.file.specs.Refusal.{arcsRefusal};
+use crate::arcs::DIRECTION;
+use crate::arcs::PLACE;
+use crate::arcs::WEIGHT;
 use crate::arcs::word;
+
+// The highest bit of a field; with what is added to a direction (at most 1) and to a weight (at least 1).
+const HIGHEST: usize = 32768;
+
+const DIRECTION_ROOM: usize = DIRECTION * (HIGHEST - 2);
+
+const WEIGHT_ROOM: usize = WEIGHT * (HIGHEST - 1);
+
+// The highest bits of the three fields that have a limit, and of the weight.
+const PAST_LIMIT: usize = HIGHEST + DIRECTION * HIGHEST + PLACE * HIGHEST;
+
+const SOME_WEIGHT: usize = WEIGHT * HIGHEST;
 
 // What is added to an arc's number: it raises the highest bit of a field at its limit or above, and of a weight above 0.
 fn room(places: usize, transitions: usize) -> usize
     requires { ⌜ (places ≤ 1024) × (transitions ≤ 1024) ⌝ }
     ensures { λ r. ⌜ r ≡ roomOf places transitions ⌝ }
 {
-    32768 - transitions + 2147352576 + 4294967296 * (32768 - places) + 9223090561878065152
+    HIGHEST - transitions + DIRECTION_ROOM + PLACE * (HIGHEST - places) + WEIGHT_ROOM
 }
 
 // A field that is out of range shows in its highest bit.
@@ -28,7 +43,7 @@ fn fit(w: usize, v: usize, room: usize) -> bool
 {
     let a = marks(w, room);
     let b = marks(v, room);
-    ((a | b) & 0x800080008000 == 0) & (0x8000000000000000 <= a & b)
+    ((a | b) & PAST_LIMIT == 0) & (SOME_WEIGHT <= a & b)
 }
 
 // Orders arcs that are in range by transition, direction and place. The sum becomes one product.
@@ -61,8 +76,8 @@ pub(crate) fn all_good(
         if !fit(w, v, room) {
             return false;
         }
-        let first = sweep_key(w % 281474976710656);
-        let second = sweep_key(v % 281474976710656);
+        let first = sweep_key(w % WEIGHT);
+        let second = sweep_key(v % WEIGHT);
         if (first < least) | (second < first) {
             return false;
         }
@@ -77,5 +92,5 @@ pub(crate) fn all_good(
     if !fit(w, w, room) {
         return false;
     }
-    least <= sweep_key(w % 281474976710656)
+    least <= sweep_key(w % WEIGHT)
 }

@@ -7,15 +7,22 @@ use file::Header;
 use file::arcs::arc;
 use tables::entry;
 
+// Where a move has its place; below it stands what the arc adds, modulo 2^54.
+const UNIT: usize = 18014398509481984;
+const UNIT64: u64 = 18014398509481984;
+
+// How far an entry stands above its tokens.
+const LIFT: u64 = 70368744177664;
+
 // The move of an arc: its place from bit 54 on, and below it what it adds, modulo 2^54.
 fn move_of(direction: usize, weight: usize, place: usize) -> u64
     requires { ⌜ MoveFits weight place ⌝ }
     ensures { λ r. ⌜ r ≡ moveOf direction weight place ⌝ }
 {
     if direction == 0 {
-        return (place * 18014398509481984 + (18014398509481984 - weight)) as u64;
+        return (place * UNIT + (UNIT - weight)) as u64;
     }
-    (place * 18014398509481984 + weight) as u64
+    (place * UNIT + weight) as u64
 }
 
 // Writes the move of each arc.
@@ -38,11 +45,11 @@ fn shift(file: &[u8], h: Header, moves: &[u64], from: usize, to: usize, marking:
     requires { ⌜ Movable (now file) h (now moves) from to (now marking) ⌝ }
     ensures { λ r. ⌜ Shifted (now (file .entry)) h from to (now (marking .entry)) (now (marking .exit)) r ⌝ }
 {
-    let mut least: u64 = 70368744177664;
+    let mut least: u64 = LIFT;
     let mut j = from;
     while j < to {
         let m = moves[j];
-        let p = (m / 18014398509481984) as usize;
+        let p = (m / UNIT64) as usize;
         let value = std::num::wrapping_add_u64(marking[p], m);
         marking[p] = value;
         least = least & value;
@@ -59,7 +66,7 @@ fn back(file: &[u8], h: Header, moves: &[u64], from: usize, to: usize, marking: 
     let mut j = from;
     while j < to {
         let m = moves[j];
-        let p = (m / 18014398509481984) as usize;
+        let p = (m / UNIT64) as usize;
         marking[p] = std::num::wrapping_sub_u64(marking[p], m);
         j += 1;
     }
@@ -102,7 +109,7 @@ fn lift(marking: &mut [u64])
 {
     let mut p: usize = 0;
     while p < marking.len() {
-        marking[p] = marking[p] + 70368744177664;
+        marking[p] = marking[p] + LIFT;
         p += 1;
     }
 }
@@ -114,7 +121,7 @@ fn lower(marking: &mut [u64])
 {
     let mut p: usize = 0;
     while p < marking.len() {
-        marking[p] = (marking[p] % 18014398509481984) - 70368744177664;
+        marking[p] = (marking[p] % UNIT64) - LIFT;
         p += 1;
     }
 }

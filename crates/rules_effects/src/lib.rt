@@ -11,6 +11,7 @@ ghost use Rattle.file.specs.Layout.{netFrom, sliceFrom};
 ghost use Rattle.file.specs.Facts.{Sound};
 ghost use Rattle.rules_tables.specs.Matched.{Starts, Matched};
 ghost use Rattle.rules_effects.specs.Movers.{limitOn, moved, Resting};
+use arcs_column::AT_REST;
 use file::Header;
 use tables::entry;
 
@@ -93,13 +94,16 @@ fn first_mover(
     t
 }
 
-// Sets every limit to 2 ^ 32 - 1, which nothing passes.
+// The limit that nothing passes: 2 ^ 32 - 1.
+const NO_LIMIT: u32 = 4294967295;
+
+// Sets every limit to the one that nothing passes.
 fn unlimited(limit: &mut [u32])
     ensures { λ _. ⌜ ((p : ℕ) → p < length (now (limit .exit)) → getD (now (limit .exit)) p 0 ≡ 4294967295) ⌝ }
 {
     let mut i: usize = 0;
     while i < limit.len() {
-        limit[i] = 4294967295;
+        limit[i] = NO_LIMIT;
         i += 1;
     }
 }
@@ -121,10 +125,10 @@ fn limit_criterion(criterion: &[u16], limit: &mut [u32])
 fn raise_limit(own: usize) -> u32
     ensures { λ r. ⌜ r ≡ limitOn (eqb own 0) 4294967295 1073741824 ⌝ }
 {
-    if own == 0 { 4294967295 } else { 1073741824 }
+    if own == 0 { NO_LIMIT } else { AT_REST }
 }
 
-// Sets the limits of kept places to 2 ^ 30, which every raise passes, and the others to 2 ^ 32 - 1.
+// Sets the limits of kept places to the column at rest, which every raise passes, and the others to the one that nothing passes.
 fn limit_kept(places: usize, ownp: &[u16], limit: &mut [u32])
     requires { ⌜ places ≤ length (now ownp) ⌝ }
     requires { ⌜ places ≤ length (now limit) ⌝ }

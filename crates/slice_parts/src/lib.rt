@@ -9,6 +9,7 @@ ghost use Rattle.file.specs.Writing.{originsBytes};
 ghost use Rattle.slice_parts.specs.Markings.{keptMarkings};
 ghost use Rattle.slice_parts.specs.Trailer.{trailerFor};
 use file::Header;
+use file::tail::LETTERS;
 
 // Writes the markings of the kept places.
 pub fn write_markings(plan: &[u8], h: Header, ps: &[u16], buffer: &mut [u8])
@@ -38,7 +39,10 @@ pub fn write_origins(list: &[u16], start: usize, buffer: &mut [u8])
     }
 }
 
-// Writes the trailer after a body of `body` bytes: kind 1, edition 1, the letters BELL at its end.
+// Kind 1, and edition 1 in the byte after it.
+const KIND_AND_EDITION: usize = 257;
+
+// Writes the trailer after a body of `body` bytes.
 pub fn write_trailer(places: usize, transitions: usize, arcs: usize, body: usize, buffer: &mut [u8])
     requires { ⌜ body + 16 ≤ length (now buffer) ⌝ }
     ensures { λ _. ⌜ now (buffer .exit) ≡ sets (now (buffer .entry)) body (trailerFor body places transitions arcs) ⌝ }
@@ -47,6 +51,6 @@ pub fn write_trailer(places: usize, transitions: usize, arcs: usize, body: usize
     slice_put::put16(buffer, body + 4, places);
     slice_put::put16(buffer, body + 6, transitions);
     slice_put::put16(buffer, body + 8, arcs);
-    slice_put::put16(buffer, body + 10, 257);
-    slice_put::put32(buffer, body + 12, 0x4C4C4542);
+    slice_put::put16(buffer, body + 10, KIND_AND_EDITION);
+    slice_put::put32(buffer, body + 12, LETTERS);
 }
