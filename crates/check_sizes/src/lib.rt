@@ -14,6 +14,9 @@ use check_fast::LEFT_TRANSITION;
 use check_rules::Outcome;
 use check_rules::lent_outcome;
 use file::Header;
+use tables::LARGE;
+use tables::MIDDLE;
+use tables::SMALL;
 
 // Have the plan and the slice at most n places and n transitions?
 fn within(hp: Header, hs: Header, n: usize) -> bool
@@ -22,18 +25,18 @@ fn within(hp: Header, hs: Header, n: usize) -> bool
     (hp.places <= n) & (hp.transitions <= n) & (hs.transitions <= n)
 }
 
-// Rules 4 to 8 for nets of at most 64 places and 64 transitions.
-fn small_outcome(plan: &[u8], hp: Header, slice: &[u8], hs: Header, criterion: &[u16]) -> Outcome
+// Rules 4 to 8 for nets of at most 128 places and 128 transitions.
+fn middle_outcome(plan: &[u8], hp: Header, slice: &[u8], hs: Header, criterion: &[u16]) -> Outcome
     requires { ⌜ Judged (now plan) hp (now slice) hs (now criterion) ⌝ }
-    requires { ⌜ Within 64 hp hs ⌝ }
+    requires { ⌜ Within 128 hp hs ⌝ }
     ensures { λ r. ⌜ outcomeNumbers r ≡ told (verdictFrom 4 (rulesFrom4 (netFrom (now (plan .entry)) hp) (sliceFrom (now (slice .entry)) hs) (now (criterion .entry)))) ⌝ }
 {
-    let mut table = [0u16; 129];
-    let mut runs = [0u16; 129];
-    let mut ownp = [0u16; 64];
-    let mut ownt = [0u16; 64];
-    let mut limit = [0u32; 64];
-    let mut column = [AT_REST; 64];
+    let mut table = [0u16; 2 * MIDDLE + 1];
+    let mut runs = [0u16; 2 * MIDDLE + 1];
+    let mut ownp = [0u16; MIDDLE];
+    let mut ownt = [0u16; MIDDLE];
+    let mut limit = [0u32; MIDDLE];
+    let mut column = [AT_REST; MIDDLE];
     lent_outcome(
         plan,
         hp,
@@ -54,12 +57,12 @@ fn large_outcome(plan: &[u8], hp: Header, slice: &[u8], hs: Header, criterion: &
     requires { ⌜ Judged (now plan) hp (now slice) hs (now criterion) ⌝ }
     ensures { λ r. ⌜ outcomeNumbers r ≡ told (verdictFrom 4 (rulesFrom4 (netFrom (now (plan .entry)) hp) (sliceFrom (now (slice .entry)) hs) (now (criterion .entry)))) ⌝ }
 {
-    let mut table = [0u16; 2049];
-    let mut runs = [0u16; 2049];
-    let mut ownp = [0u16; 1024];
-    let mut ownt = [0u16; 1024];
-    let mut limit = [0u32; 1024];
-    let mut column = [AT_REST; 1024];
+    let mut table = [0u16; 2 * LARGE + 1];
+    let mut runs = [0u16; 2 * LARGE + 1];
+    let mut ownp = [0u16; LARGE];
+    let mut ownt = [0u16; LARGE];
+    let mut limit = [0u32; LARGE];
+    let mut column = [AT_REST; LARGE];
     lent_outcome(
         plan,
         hp,
@@ -80,21 +83,21 @@ pub fn sized(plan: &[u8], hp: Header, slice: &[u8], hs: Header, criterion: &[u16
     requires { ⌜ Judged (now plan) hp (now slice) hs (now criterion) ⌝ }
     ensures { λ r. ⌜ outcomeNumbers r ≡ told (verdictFrom 4 (rulesFrom4 (netFrom (now (plan .entry)) hp) (sliceFrom (now (slice .entry)) hs) (now (criterion .entry)))) ⌝ }
 {
-    if within(hp, hs, 64) {
-        return small_outcome(plan, hp, slice, hs, criterion);
+    if within(hp, hs, MIDDLE) {
+        return middle_outcome(plan, hp, slice, hs, criterion);
     }
     large_outcome(plan, hp, slice, hs, criterion)
 }
 
 // Are the rules 4 to 8 certainly kept? For nets of at most 16 places and 16 transitions.
-fn tiny_agrees(plan: &[u8], hp: Header, slice: &[u8], hs: Header, criterion: &[u16]) -> bool
+fn small_agrees(plan: &[u8], hp: Header, slice: &[u8], hs: Header, criterion: &[u16]) -> bool
     requires { ⌜ Judged (now plan) hp (now slice) hs (now criterion) ⌝ }
     requires { ⌜ KnownIn hp (sliceFrom (now slice) hs) ⌝ }
     requires { ⌜ Within 16 hp hs ⌝ }
     ensures { λ r. ⌜ (r ≡ true → Agreed (netFrom (now (plan .entry)) hp) (sliceFrom (now (slice .entry)) hs) (now (criterion .entry))) ⌝ }
 {
-    let mut places = [LEFT_PLACE; 16];
-    let mut transitions = [LEFT_TRANSITION; 16];
+    let mut places = [LEFT_PLACE; SMALL];
+    let mut transitions = [LEFT_TRANSITION; SMALL];
     check_fast::agrees(
         plan,
         hp,
@@ -107,14 +110,14 @@ fn tiny_agrees(plan: &[u8], hp: Header, slice: &[u8], hs: Header, criterion: &[u
 }
 
 // The same for at most 128 of each.
-fn small_agrees(plan: &[u8], hp: Header, slice: &[u8], hs: Header, criterion: &[u16]) -> bool
+fn middle_agrees(plan: &[u8], hp: Header, slice: &[u8], hs: Header, criterion: &[u16]) -> bool
     requires { ⌜ Judged (now plan) hp (now slice) hs (now criterion) ⌝ }
     requires { ⌜ KnownIn hp (sliceFrom (now slice) hs) ⌝ }
     requires { ⌜ Within 128 hp hs ⌝ }
     ensures { λ r. ⌜ (r ≡ true → Agreed (netFrom (now (plan .entry)) hp) (sliceFrom (now (slice .entry)) hs) (now (criterion .entry))) ⌝ }
 {
-    let mut places = [LEFT_PLACE; 128];
-    let mut transitions = [LEFT_TRANSITION; 128];
+    let mut places = [LEFT_PLACE; MIDDLE];
+    let mut transitions = [LEFT_TRANSITION; MIDDLE];
     check_fast::agrees(
         plan,
         hp,
@@ -132,8 +135,8 @@ fn large_agrees(plan: &[u8], hp: Header, slice: &[u8], hs: Header, criterion: &[
     requires { ⌜ KnownIn hp (sliceFrom (now slice) hs) ⌝ }
     ensures { λ r. ⌜ (r ≡ true → Agreed (netFrom (now (plan .entry)) hp) (sliceFrom (now (slice .entry)) hs) (now (criterion .entry))) ⌝ }
 {
-    let mut places = [LEFT_PLACE; 1024];
-    let mut transitions = [LEFT_TRANSITION; 1024];
+    let mut places = [LEFT_PLACE; LARGE];
+    let mut transitions = [LEFT_TRANSITION; LARGE];
     check_fast::agrees(
         plan,
         hp,
@@ -151,11 +154,11 @@ pub fn agreeing(plan: &[u8], hp: Header, slice: &[u8], hs: Header, criterion: &[
     requires { ⌜ KnownIn hp (sliceFrom (now slice) hs) ⌝ }
     ensures { λ r. ⌜ (r ≡ true → Agreed (netFrom (now (plan .entry)) hp) (sliceFrom (now (slice .entry)) hs) (now (criterion .entry))) ⌝ }
 {
-    if within(hp, hs, 16) {
-        return tiny_agrees(plan, hp, slice, hs, criterion);
-    }
-    if within(hp, hs, 128) {
+    if within(hp, hs, SMALL) {
         return small_agrees(plan, hp, slice, hs, criterion);
+    }
+    if within(hp, hs, MIDDLE) {
+        return middle_agrees(plan, hp, slice, hs, criterion);
     }
     large_agrees(plan, hp, slice, hs, criterion)
 }

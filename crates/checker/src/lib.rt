@@ -14,6 +14,8 @@ pub use check_rules::Outcome;
 use check_sizes::agreeing;
 use check_sizes::sized;
 use file::Header;
+use tables::LARGE;
+use tables::SMALL;
 
 pub struct Verdict {
     pub outcome: Outcome,
@@ -103,6 +105,9 @@ fn judge_in(plan: &[u8], hp: Header, slice: &[u8], hs: Header, q: &[u8], list: &
     code(judge(plan, hp, slice, hs, &list[..count]))
 }
 
+// A criterion of so many bytes has a small list.
+const FEW_BYTES: usize = 2 * SMALL;
+
 // The same: 0 accepted, 100 plus the rule otherwise.
 pub fn judge_bytes(plan: &[u8], hp: Header, slice: &[u8], hs: Header, q: &[u8]) -> u32
     requires { ⌜ Sound (now plan) hp ⌝ }
@@ -111,10 +116,10 @@ pub fn judge_bytes(plan: &[u8], hp: Header, slice: &[u8], hs: Header, q: &[u8]) 
     requires { ⌜ criterionBytesRefusal (hp .places) (now q) ≡ 0 ⌝ }
     ensures { λ r. ⌜ r ≡ told (verdict (netFrom (now (plan .entry)) hp) (sliceFrom (now (slice .entry)) hs) (criterionOf (now (q .entry)))) .code ⌝ }
 {
-    if q.len() <= 32 {
-        let mut few = [0u16; 16];
+    if q.len() <= FEW_BYTES {
+        let mut few = [0u16; SMALL];
         return judge_in(plan, hp, slice, hs, q, &mut few);
     }
-    let mut list = [0u16; 1024];
+    let mut list = [0u16; LARGE];
     judge_in(plan, hp, slice, hs, q, &mut list)
 }

@@ -12,6 +12,7 @@ ghost use Rattle.promise.specs.Firing.{projectOr};
 ghost use Rattle.projection.specs.Told.{projectedNumbers, roomRefusal, heldBack};
 ghost use Rattle.projection.specs.Choice.{chosen, chosenBy, Reached, Last, Given};
 use file::Header;
+use tables::LARGE;
 
 // How many numbers were written, or the number of a refusal.
 pub enum Projected {
@@ -131,9 +132,9 @@ pub fn project(
         return Projected::Refused(listed);
     }
     if transitions <= 64 {
-        let mut table: [u16; 64] = [0; 64];
+        let mut table = [0u16; 64];
         return project_by(slice, h, list, &mut table, out);
     }
-    let mut table: [u16; 1024] = [0; 1024];
+    let mut table = [0u16; LARGE];
     project_by(slice, h, list, &mut table, out)
 }

@@ -16,6 +16,9 @@ ghost use Rattle.replay.specs.Steps.{needAt, Lacking, Firable, Passed};
 use arcs_groups::group;
 use file::Header;
 use file::arcs::arc;
+use tables::LARGE;
+use tables::MIDDLE;
+use tables::SMALL;
 use tables::entry;
 
 // How a replay ends: all fired; stuck, at an index of the list, a place and the tokens missing there; or refused.
@@ -173,15 +176,15 @@ fn replay_all(file: &[u8], h: Header, list: &[u16], marking: &mut [u64]) -> Outc
     ensures { λ r. ⌜ outcomeNumbers r ≡ replayTold (replayOf (netFrom (now (file .entry)) h) (now (list .entry)) .answer) ⌝ }
     ensures { λ _. ⌜ now (marking .exit) ≡ tokens (netFrom (now (file .entry)) h) (replayOf (netFrom (now (file .entry)) h) (now (list .entry)) .marking) ⌝ }
 {
-    if h.transitions <= 16 {
-        let mut table: [u16; 33] = [0; 33];
+    if h.transitions <= SMALL {
+        let mut table = [0u16; 2 * SMALL + 1];
         return replay_by(file, h, list, &mut table, marking);
     }
-    if h.transitions <= 128 {
-        let mut table: [u16; 257] = [0; 257];
+    if h.transitions <= MIDDLE {
+        let mut table = [0u16; 2 * MIDDLE + 1];
         return replay_by(file, h, list, &mut table, marking);
     }
-    let mut table: [u16; 2049] = [0; 2049];
+    let mut table = [0u16; 2 * LARGE + 1];
     replay_by(file, h, list, &mut table, marking)
 }
 

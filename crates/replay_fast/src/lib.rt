@@ -5,10 +5,13 @@ ghost use Rattle.replay_steps.specs.Steps.{Ready, Listed, Underway};
 ghost use Rattle.replay_fast.specs.Moves.{moveOf, MoveFits, Readable, MovesOf, Movable, Shifted, Moved, lowered, Plain, Lifted, Raised, Marched};
 use file::Header;
 use file::arcs::arc;
+use tables::LARGE_ARCS;
+use tables::MIDDLE_ARCS;
 use tables::entry;
 
 // Where a move has its place; below it stands what the arc adds, modulo 2^54.
 const UNIT: usize = 18014398509481984;
+
 const UNIT64: u64 = 18014398509481984;
 
 // How far an entry stands above its tokens.
@@ -155,12 +158,12 @@ pub fn ahead(file: &[u8], h: Header, table: &[u16], list: &[u16], marking: &mut 
     if list.len() < 64 {
         return 0;
     }
-    if h.arcs <= 256 {
-        let mut moves: [u64; 256] = [0; 256];
+    if h.arcs <= MIDDLE_ARCS {
+        let mut moves = [0u64; MIDDLE_ARCS];
         moves_of(file, h, &mut moves);
         return ahead_by(file, h, table, list, &moves, marking);
     }
-    let mut moves: [u64; 4096] = [0; 4096];
+    let mut moves = [0u64; LARGE_ARCS];
     moves_of(file, h, &mut moves);
     ahead_by(file, h, table, list, &moves, marking)
 }

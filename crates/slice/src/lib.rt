@@ -12,6 +12,9 @@ ghost use Rattle.slice.specs.Kept.{cutNumbers, keptSlice, roomRefusal, A
 ghost use Rattle.slice.specs.Parts.{Cleared, Lists, Tables};
 use file::Header;
 use sets::KeptSets;
+use tables::LARGE;
+use tables::MIDDLE;
+use tables::SMALL;
 
 // What a cut answers: the file's length and the number of kept places and of kept transitions, or a refusal.
 pub enum Cut {
@@ -138,10 +141,10 @@ fn write_small(plan: &[u8], h: Header, kept: KeptSets, buffer: &mut [u8]) -> Cut
     requires { ⌜ (h .places ≤ 16) × (h .transitions ≤ 16) ⌝ }
     ensures { λ r. ⌜ Answers (keptSlice (now (plan .entry)) h kept) (now (buffer .entry)) (now (buffer .exit)) r ⌝ }
 {
-    let mut ps = [0u16; 16];
-    let mut ts = [0u16; 16];
-    let mut places = [0u16; 16];
-    let mut transitions = [0u16; 16];
+    let mut ps = [0u16; SMALL];
+    let mut ts = [0u16; SMALL];
+    let mut places = [0u16; SMALL];
+    let mut transitions = [0u16; SMALL];
     write_sets(
         plan,
         h,
@@ -161,10 +164,10 @@ fn write_middle(plan: &[u8], h: Header, kept: KeptSets, buffer: &mut [u8]) -> Cu
     requires { ⌜ (h .places ≤ 128) × (h .transitions ≤ 128) ⌝ }
     ensures { λ r. ⌜ Answers (keptSlice (now (plan .entry)) h kept) (now (buffer .entry)) (now (buffer .exit)) r ⌝ }
 {
-    let mut ps = [0u16; 128];
-    let mut ts = [0u16; 128];
-    let mut places = [0u16; 128];
-    let mut transitions = [0u16; 128];
+    let mut ps = [0u16; MIDDLE];
+    let mut ts = [0u16; MIDDLE];
+    let mut places = [0u16; MIDDLE];
+    let mut transitions = [0u16; MIDDLE];
     write_sets(
         plan,
         h,
@@ -183,10 +186,10 @@ fn write_large(plan: &[u8], h: Header, kept: KeptSets, buffer: &mut [u8]) -> Cut
     requires { ⌜ Within kept h ⌝ }
     ensures { λ r. ⌜ Answers (keptSlice (now (plan .entry)) h kept) (now (buffer .entry)) (now (buffer .exit)) r ⌝ }
 {
-    let mut ps = [0u16; 1024];
-    let mut ts = [0u16; 1024];
-    let mut places = [0u16; 1024];
-    let mut transitions = [0u16; 1024];
+    let mut ps = [0u16; LARGE];
+    let mut ts = [0u16; LARGE];
+    let mut places = [0u16; LARGE];
+    let mut transitions = [0u16; LARGE];
     write_sets(
         plan,
         h,
@@ -206,13 +209,13 @@ pub fn write(plan: &[u8], h: Header, kept: KeptSets, buffer: &mut [u8]) -> Cut
     ensures answer { λ r. ⌜ cutNumbers r ≡ cutAnswer (roomRefusal (length (now (buffer .entry))) (keptSlice (now (plan .entry)) h kept)) (length (sliceBytes (keptSlice (now (plan .entry)) h kept))) (keptSlice (now (plan .entry)) h kept) ⌝ }
     ensures buffer { λ r. ⌜ now (buffer .exit) ≡ written (roomRefusal (length (now (buffer .entry))) (keptSlice (now (plan .entry)) h kept)) (sliceBytes (keptSlice (now (plan .entry)) h kept)) (now (buffer .entry)) ⌝ }
 {
-    if h.places <= 16 {
-        if h.transitions <= 16 {
+    if h.places <= SMALL {
+        if h.transitions <= SMALL {
             return write_small(plan, h, kept, buffer);
         }
     }
-    if h.places <= 128 {
-        if h.transitions <= 128 {
+    if h.places <= MIDDLE {
+        if h.transitions <= MIDDLE {
             return write_middle(plan, h, kept, buffer);
         }
     }

@@ -1,7 +1,21 @@
-// Tables of 16-bit numbers.
+// Tables of 16-bit numbers, and the sizes in which tables are made.
 ghost use mathlib.Core.Path.{_≡_};
 ghost use Prim.Native.Nat.{ℕ, _<_};
 ghost use lib.ListN.{length, getD};
+
+// The sizes: entries for so many places or transitions. Clearing a large table is most of the time of a call on a small net.
+pub const SMALL: usize = 16;
+
+pub const MIDDLE: usize = 128;
+
+pub const LARGE: usize = 1024;
+
+// The same for arcs, four a place.
+pub const SMALL_ARCS: usize = 4 * SMALL;
+
+pub const MIDDLE_ARCS: usize = 4 * MIDDLE;
+
+pub const LARGE_ARCS: usize = 4 * LARGE;
 
 pub fn wide(x: u16) -> usize
     ensures { λ r. ⌜ (r ≡ x) × (r < 65536) ⌝ }

@@ -5,8 +5,8 @@ use Rattle.check_sizes.proofs.sized.Tie as tie
 within-requires : tie.Need-within-requires
 within-requires c κs = search needs
 
-small-outcome-requires : tie.Need-small-outcome-requires
-small-outcome-requires c κs = (c .before .before .before .before .before .pre, c .before .within .ensures (c .if1 .taken))
+middle-outcome-requires : tie.Need-middle-outcome-requires
+middle-outcome-requires c κs = (c .before .before .before .before .before .pre, c .before .within .ensures (c .if1 .taken))
 
 returns : tie.Need-returns
 returns c = search needs
@@ -20,4 +20,4 @@ returns-2 c = search needs
 pub sized-spec : {M : Type 1} → statement M
 sized-spec =
     tie.close
-    (tie.spec within-requires small-outcome-requires returns large-outcome-requires returns-2)
+    (tie.spec within-requires middle-outcome-requires returns large-outcome-requires returns-2)

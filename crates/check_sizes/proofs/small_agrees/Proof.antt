@@ -14,7 +14,7 @@ agrees-requires : tie.Need-agrees-requires
 agrees-requires c κs =
     let pre = c .before .before .before .before .before .pre in
     let j = pre .0 in
-    (j .planned, (j .sliced, (j .kind, (j .criterion, blank _ _ 128 (omega arith) (pre .1 .1 .places) (pre .1 .1 .transitions) (pre .1 .0)))))
+    (j .planned, (j .sliced, (j .kind, (j .criterion, blank _ _ 16 (omega arith) (pre .1 .1 .places) (pre .1 .1 .transitions) (pre .1 .0)))))
 
 returns : tie.Need-returns
 returns c = search needs

@@ -2,8 +2,8 @@ use borrow.Author.Needs.{needs}
 use native.Mathlib.Omega.{arith}
 use mathlib.Core.Path.{refl}
 use lib.ListN.{getD-replicate}
-use Rattle.check_sizes.proofs.small_outcome.Statement.{statement}
-use Rattle.check_sizes.proofs.small_outcome.Tie as tie
+use Rattle.check_sizes.proofs.middle_outcome.Statement.{statement}
+use Rattle.check_sizes.proofs.middle_outcome.Tie as tie
 
 slice-aggregate-lent-outcome : tie.Need-slice-aggregate-lent-outcome
 slice-aggregate-lent-outcome c = search needs
@@ -30,7 +30,7 @@ lent-outcome-requires c κs =
       (
         record { starts = omega (arith, pre .1 .transitions); runs-start = omega (arith, pre .1 .own); places = pre .1 .places; transitions = pre .1 .transitions },
         (
-          record { reached = pre .1 .places; rest = λ p l. getD-replicate 64 p 1073741824 0 l },
+          record { reached = pre .1 .places; rest = λ p l. getD-replicate 128 p 1073741824 0 l },
           refl,
         ),
       ),
@@ -39,8 +39,8 @@ lent-outcome-requires c κs =
 returns : tie.Need-returns
 returns c = search needs
 
-pub small-outcome-spec : {M : Type 1} → statement M
-small-outcome-spec =
+pub middle-outcome-spec : {M : Type 1} → statement M
+middle-outcome-spec =
     tie.close
     (tie.spec
     slice-aggregate-lent-outcome

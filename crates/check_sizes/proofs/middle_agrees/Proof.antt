@@ -1,8 +1,8 @@
 use native.Mathlib.Omega.{arith}
 use Rattle.check_sizes.proofs.Blank.{blank}
 use borrow.Author.Needs.{needs}
-use Rattle.check_sizes.proofs.tiny_agrees.Statement.{statement}
-use Rattle.check_sizes.proofs.tiny_agrees.Tie as tie
+use Rattle.check_sizes.proofs.middle_agrees.Statement.{statement}
+use Rattle.check_sizes.proofs.middle_agrees.Tie as tie
 
 slice-aggregate-agrees : tie.Need-slice-aggregate-agrees
 slice-aggregate-agrees c = search needs
@@ -14,11 +14,11 @@ agrees-requires : tie.Need-agrees-requires
 agrees-requires c κs =
     let pre = c .before .before .before .before .before .pre in
     let j = pre .0 in
-    (j .planned, (j .sliced, (j .kind, (j .criterion, blank _ _ 16 (omega arith) (pre .1 .1 .places) (pre .1 .1 .transitions) (pre .1 .0)))))
+    (j .planned, (j .sliced, (j .kind, (j .criterion, blank _ _ 128 (omega arith) (pre .1 .1 .places) (pre .1 .1 .transitions) (pre .1 .0)))))
 
 returns : tie.Need-returns
 returns c = search needs
 
-pub tiny-agrees-spec : {M : Type 1} → statement M
-tiny-agrees-spec =
+pub middle-agrees-spec : {M : Type 1} → statement M
+middle-agrees-spec =
     tie.close (tie.spec slice-aggregate-agrees slice-aggregate-agrees-2 agrees-requires returns)
