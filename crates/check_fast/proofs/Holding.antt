@@ -15,7 +15,8 @@ use Rattle.net.proofs.Weights.{run-restrict}
 use Rattle.net.proofs.Verdict.{same-arcs-refl}
 use Rattle.file.specs.Layout.{arcAt, arcsFrom, netFrom, sliceFrom}
 use Rattle.file.specs.declared.Header.{Header}
-use Rattle.check_fast.specs.Pass.{Fine, Passed, Agreed}
+use Rattle.check_fast.specs.Pass.{Fine, Passed}
+use Rattle.rules_tables.specs.Agreed.{Agreed}
 
 -- ---- a weight comes from an arc
 

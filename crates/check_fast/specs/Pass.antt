@@ -3,12 +3,11 @@ use Prim.Native.Nat.{ℕ, _+_, _-_, _*_, _/_, _%_, _≤_, _<_}
 use mathlib.Core.Bool.{Bool, true, false, _||_, _&&_, not}
 use mathlib.Core.List.{List}
 use mathlib.Core.Path.{_≡_}
-use lib.Dec.{eqb, ltb, leb}
+use lib.Dec.{eqb, ltb}
 use lib.ListN.{length, getD}
 use Rattle.net.specs.Numbers.{among}
 use Rattle.net.specs.Net.{Net, changes, raises}
 use Rattle.net.specs.Slice.{Slice, restrict}
-use Rattle.net.specs.Checker.{Rule, breaks, rule4, rule5, rule6, rule7, rule8}
 use Rattle.net.specs.declared.Arc.{Arc}
 use Rattle.file.specs.Layout.{arcAt, arcsFrom, netFrom, sliceFrom}
 use Rattle.file.specs.Facts.{Sound, arcOf}
@@ -79,15 +78,3 @@ pub record Blank (hp : Header) (S : Slice) (places transitions : List ℕ) : Typ
   pub transition-origins : Reached (S .transitionOrigins) (length transitions)
   pub place-entry : (x : ℕ) → x < length places → getD places x 0 ≡ leftPlace
   pub transition-entry : (x : ℕ) → x < length transitions → getD transitions x 0 ≡ leftTransition
-
--- no number breaks the rule
-pub record Unbroken (R : Rule) : Type 0 where
-  pub at : (n : ℕ) → n < R .range → breaks R n ≡ false
-
--- the rules 4 to 8 hold
-pub record Agreed (N : Net) (S : Slice) (Q : List ℕ) : Type 0 where
-  pub fourth : Unbroken (rule4 N S)
-  pub fifth : Unbroken (rule5 N S Q)
-  pub sixth : Unbroken (rule6 N S Q)
-  pub seventh : Unbroken (rule7 N S)
-  pub eighth : Unbroken (rule8 N S)

@@ -20,7 +20,8 @@ ghost use Rattle.file.specs.Layout.{arcAt, wordsFrom, netFrom, sliceFrom};
 ghost use Rattle.file.specs.Criterion.{criterionRefusal};
 ghost use Rattle.numbering.specs.Own.{Origins};
 ghost use Rattle.check_fast.specs.Entries.{leftPlace, Numbered, Marked, Reached};
-ghost use Rattle.check_fast.specs.Pass.{Ready, joinedOf, keptOf, oddOf, quietOf, Settled, Walked, Passed, Blank, Agreed};
+ghost use Rattle.check_fast.specs.Pass.{Ready, joinedOf, keptOf, oddOf, quietOf, Settled, Walked, Passed, Blank};
+ghost use Rattle.rules_tables.specs.Agreed.{Agreed};
 use file::Header;
 use file::arcs::DIRECTION;
 use file::arcs::PLACE;
@@ -31,6 +32,7 @@ use tables::wide;
 
 // The entries of a place and of a transition that are left out.
 pub const LEFT_PLACE: usize = 1024 * PLACE + 15 * DIRECTION;
+
 pub const LEFT_TRANSITION: usize = 1024 + 7 * DIRECTION;
 
 // How far the arcs are gone through: the plan's, the slice's own, and the bits in which some differ.

@@ -4,7 +4,7 @@ ghost use mathlib.Core.Bool.{true};
 ghost use Rattle.net.specs.Checker.{verdictFrom};
 ghost use Rattle.file.specs.Layout.{netFrom, sliceFrom};
 ghost use Rattle.promise.specs.Calls.{told};
-ghost use Rattle.check_fast.specs.Pass.{Agreed};
+ghost use Rattle.rules_tables.specs.Agreed.{Agreed};
 ghost use Rattle.check_rules.specs.Answer.{outcomeNumbers};
 ghost use Rattle.check_rules.specs.Room.{rulesFrom4, Judged};
 ghost use Rattle.check_sizes.specs.Sizes.{KnownIn, Within};

@@ -9,7 +9,7 @@ use Rattle.net.specs.Slice.{Slice}
 use Rattle.net.specs.Checker.{Rule, breaks, breaker, verdictFrom}
 use Rattle.promise.specs.Calls.{told}
 use Rattle.net.proofs.Numbers.{first-none}
-use Rattle.check_fast.specs.Pass.{Unbroken, Agreed}
+use Rattle.rules_tables.specs.Agreed.{Unbroken, Agreed}
 use Rattle.check_rules.specs.Room.{rulesFrom4}
 use Rattle.check_rules.proofs.Steps.{holds-here, caps-left, range4, range5, range6, range7, range8}
 
