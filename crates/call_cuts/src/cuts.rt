@@ -4,6 +4,7 @@ ghost use lib.ListN.{length};
 ghost use Rattle.promise.specs.Calls.{safetyAnswer, safetyBuffer, branchingAnswer, branchingBuffer};
 ghost use Rattle.promise.specs.Promise.{WritesSmallest};
 ghost use Rattle.slice.specs.Kept.{cutNumbers};
+use cut::Kind;
 use file::Due;
 use file::Reading;
 use slice::Cut;
@@ -22,7 +23,7 @@ pub fn safety(plan: &[u8], criterion: &[u16], buffer: &mut [u8]) -> Cut
     if broken != 0 {
         return Cut::Refused(broken);
     }
-    let kept = cut::kept(plan, h, criterion, false);
+    let kept = cut::kept(plan, h, criterion, Kind::Safety);
     slice::write(plan, h, kept, buffer)
 }
 
@@ -39,6 +40,6 @@ pub fn branching(plan: &[u8], criterion: &[u16], buffer: &mut [u8]) -> Cut
     if broken != 0 {
         return Cut::Refused(broken);
     }
-    let kept = cut::kept(plan, h, criterion, true);
+    let kept = cut::kept(plan, h, criterion, Kind::Branching);
     slice::write(plan, h, kept, buffer)
 }
