@@ -6,7 +6,8 @@ use mathlib.Core.Path.{_≡_}
 use lib.ListN.{length}
 use lib.Dec.{ltb}
 use Rattle.file.specs.Refusal.{refuse, orElse}
-use Rattle.promise.specs.Firing.{ProjectAnswer, listRefusal}
+use Rattle.promise.specs.Calls.{written}
+use Rattle.promise.specs.Firing.{ProjectAnswer, projectOr, listRefusal}
 use Rattle.projection.specs.declared.Projected.{Projected}
 use Rattle.projection.specs.declared.Projected.the-variants.{Count, Refused}
 
@@ -26,3 +27,8 @@ roomRefusal room projection = refuse (ltb room (length projection)) 13 0
 -- "list, buffer": 11, 12, then 13
 abbrev pub heldBack : ℕ → List ℕ → ℕ → List ℕ → ℕ
 heldBack T list room projection = orElse (listRefusal T list) (roomRefusal room projection)
+
+-- the answer and the output of a writer of the numbers P, the output being `entry` before it and `exit` after it
+pub record Answers (P entry exit : List ℕ) (r : Projected) : Type 0 where
+  pub answer : projectedNumbers r ≡ projectOr (roomRefusal (length entry) P) (length P)
+  pub output : exit ≡ written (roomRefusal (length entry) P) P entry

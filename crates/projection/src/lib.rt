@@ -9,7 +9,7 @@ ghost use Rattle.file.specs.Layout.{sliceFrom};
 ghost use Rattle.file.specs.Facts.{Sound};
 ghost use Rattle.promise.specs.Calls.{written};
 ghost use Rattle.promise.specs.Firing.{projectOr};
-ghost use Rattle.projection.specs.Told.{projectedNumbers, roomRefusal, heldBack};
+ghost use Rattle.projection.specs.Told.{projectedNumbers, heldBack, Answers};
 ghost use Rattle.projection.specs.Choice.{chosen, chosenBy, Reached, Last, Given};
 use file::Header;
 use tables::LARGE;
@@ -93,6 +93,19 @@ fn write(table: &[u16], list: &[u16], out: &mut [u16]) -> usize
     n
 }
 
+// Writes the numbers that a table gives for a list, where the output has room for them.
+fn write_if_room(table: &[u16], list: &[u16], out: &mut [u16]) -> Projected
+    requires { ⌜ Reached (now table) (now list) ⌝ }
+    ensures { λ r. ⌜ Answers (chosenBy (now (table .entry)) (now (list .entry))) (now (out .entry)) (now (out .exit)) r ⌝ }
+{
+    if lacks(table, list, out.len()) {
+        return Projected::Refused(13);
+    }
+    let n = write(table, list, out);
+    let number = n as u32;
+    Projected::Count(number)
+}
+
 // Projects a list that is not refused, by a table that reaches each of its numbers.
 fn project_by(
     slice: &[u8],
@@ -102,16 +115,10 @@ fn project_by(
     out: &mut [u16],
 ) -> Projected
     requires { ⌜ Given (now slice) h (now list) (length (now table)) ⌝ }
-    ensures answer { λ r. ⌜ projectedNumbers r ≡ projectOr (roomRefusal (length (now (out .entry))) (projectOf (sliceFrom (now (slice .entry)) h) (now (list .entry)))) (length (projectOf (sliceFrom (now (slice .entry)) h) (now (list .entry)))) ⌝ }
-    ensures output { λ _. ⌜ now (out .exit) ≡ written (roomRefusal (length (now (out .entry))) (projectOf (sliceFrom (now (slice .entry)) h) (now (list .entry)))) (projectOf (sliceFrom (now (slice .entry)) h) (now (list .entry))) (now (out .entry)) ⌝ }
+    ensures { λ r. ⌜ Answers (projectOf (sliceFrom (now (slice .entry)) h) (now (list .entry))) (now (out .entry)) (now (out .exit)) r ⌝ }
 {
     numbering::own(slice, h.originstart + 2 * h.places, h.transitions, table);
-    if lacks(table, list, out.len()) {
-        return Projected::Refused(13);
-    }
-    let n = write(table, list, out);
-    let number = n as u32;
-    Projected::Count(number)
+    write_if_room(table, list, out)
 }
 
 // The slice's number for each listed transition among its origins, in order; the entries of `out` past those are kept.
