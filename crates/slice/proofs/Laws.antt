@@ -5,7 +5,7 @@ use mathlib.Core.List.{List, [], _∷_, _++_, append-assoc}
 use mathlib.Core.Path.{_≡_, refl, sym, ap, subst, subst⁻¹, _∙_}
 use native.Mathlib.Omega.{arith}
 use lib.ListN.{length, getD, take, length-append}
-use lib.Seq.{sets}
+use lib.Seq.{sets, length-sets}
 use borrow.Author.Tests.{lt-ltb, le-ltb}
 use Rattle.net.specs.Numbers.{among, selected}
 use Rattle.net.specs.Net.{Net, below}
@@ -31,54 +31,50 @@ use Rattle.sets.specs.Member.{member, countBelow}
 use Rattle.sets.specs.declared.KeptSets.{KeptSets}
 use Rattle.slice_members.proofs.Selected.{selected-below, count-selected}
 use Rattle.slice.specs.Kept.{Within, Answers, keptSlice}
-use Rattle.slice.specs.Parts.{Lists, Tables}
+use Rattle.slice.specs.Parts.{Listable, Lists, MembersListed, Tables}
 use Rattle.slice.specs.declared.Cut.{Cut}
 use Rattle.slice.specs.declared.Cut.the-variants.{Written, Refused}
 
--- the members of a set of numbers below P
+-- the words that have the numbers below n
+abbrev pub words-for : ℕ → ℕ
+words-for n = (n + 63) / 64
+
+-- the members of a set in the words for the numbers below n
+module _ {words : List ℕ} {n : ℕ} {list : List ℕ} (l : Listable words n list) where
+  members-are : selected (member words) 0 (words-for n * 64) ≡ selected (member words) 0 n
+  members-are = selected-below (member words) n (words-for n * 64) (l .within) (omega arith)
+
+  pub members-fit : length (selected (member words) 0 (words-for n * 64)) ≤ length list
+  members-fit = omega (arith, ap length members-are, length-selected (member words) 0 n, l .room)
+
+  pub members-listed : (stored : List ℕ) (r : ℕ) → r ≡ countBelow (member words) (words-for n * 64) → stored ≡ sets list 0 (selected (member words) 0 (words-for n * 64)) → MembersListed words n stored r
+  members-listed stored r count e =
+      let counted : length (selected (member words) 0 (words-for n * 64)) ≡ r = omega (arith, count, count-selected (member words) (words-for n * 64)) in
+      record {
+        within = omega (arith, counted, members-fit, ap length e, length-sets list 0 (selected (member words) 0 (words-for n * 64)));
+        members = ap (take r) e ∙ take-sets (selected (member words) 0 (words-for n * 64)) list r counted members-fit ∙ members-are;
+      }
+
 module _ (words : List ℕ) (P : ℕ) (within : (p : ℕ) → member words p ≡ true → p < P) where
-  -- in the first k words
-  module _ (k : ℕ) (reach : P ≤ k * 64) where
-    members-are : selected (member words) 0 (k * 64) ≡ selected (member words) 0 P
-    members-are = selected-below (member words) P (k * 64) within reach
-
-    pub members-fit : length (selected (member words) 0 (k * 64)) ≤ P
-    members-fit = omega (arith, ap length members-are, length-selected (member words) 0 P)
-
-    module _ (n : ℕ) (count : n ≡ countBelow (member words) (k * 64)) where
-      counted : length (selected (member words) 0 (k * 64)) ≡ n
-      counted = omega (arith, count, count-selected (member words) (k * 64))
-
-      pub count-fits : n ≤ P
-      count-fits = omega (arith, counted, members-fit)
-
-      pub members-listed : (l stored : List ℕ) → P ≤ length l → stored ≡ sets l 0 (selected (member words) 0 (k * 64)) → take n stored ≡ selected (member words) 0 P
-      members-listed l stored h e = ap (take n) e ∙ take-sets (selected (member words) 0 (k * 64)) l n counted (omega (arith, members-fit)) ∙ members-are
-
-      pub listed-length : (l stored : List ℕ) → P ≤ length l → stored ≡ sets l 0 (selected (member words) 0 (k * 64)) → n ≡ length (take n stored)
-      listed-length l stored h e = omega (arith, counted, ap length members-are, ap length (members-listed l stored h e))
-
   member-known : (i : ℕ) → i < length (selected (member words) 0 P) → getD (selected (member words) 0 P) i 0 < P
   member-known i l = below-passes (member words) P (getD (selected (member words) 0 P) i 0) (among-at (selected (member words) 0 P) i l) .0
 
 -- the kept numbers as lists
-pub lists-kept : (kept : KeptSets) (h : Header) → Within kept h → h .places ≤ 1024 → h .transitions ≤ 1024 → (ps ts : List ℕ)
-    → ps ≡ selected (member (kept .places)) 0 (h .places) → ts ≡ selected (member (kept .transitions)) 0 (h .transitions) → Lists h ps ts
-lists-kept kept h w p t ps ts e f =
-    subst⁻¹ (λ (l : List ℕ). Lists h l ts) e (subst⁻¹ (Lists h (selected (member (kept .places)) 0 (h .places))) f (record {
-      few-places = omega (arith, length-selected (member (kept .places)) 0 (h .places));
-      few-transitions = omega (arith, length-selected (member (kept .transitions)) 0 (h .transitions));
-      places-rise = selected-rises (member (kept .places)) 0 (h .places);
-      transitions-rise = selected-rises (member (kept .transitions)) 0 (h .transitions);
-      places-known = member-known (kept .places) (h .places) (w .places);
-      transitions-known = member-known (kept .transitions) (h .transitions) (w .transitions);
-    }))
+module _ (s : List ℕ) (h : Header) (kept : KeptSets) {places transitions : List ℕ} {p t : ℕ} (ps : MembersListed (kept .places) (h .places) places p) (ts : MembersListed (kept .transitions) (h .transitions) transitions t) where
+  pub lists-kept : Within kept h → Sound s h → Lists h (take p places) (take t transitions)
+  lists-kept w sound =
+      subst⁻¹ (λ (l : List ℕ). Lists h l (take t transitions)) (ps .members) (subst⁻¹ (Lists h (selected (member (kept .places)) 0 (h .places))) (ts .members) (record {
+        few-places = omega (arith, length-selected (member (kept .places)) 0 (h .places), sound .placed .places);
+        few-transitions = omega (arith, length-selected (member (kept .transitions)) 0 (h .transitions), sound .placed .transitions);
+        places-rise = selected-rises (member (kept .places)) 0 (h .places);
+        transitions-rise = selected-rises (member (kept .transitions)) 0 (h .transitions);
+        places-known = member-known (kept .places) (h .places) (w .places);
+        transitions-known = member-known (kept .transitions) (h .transitions) (w .transitions);
+      }))
 
-pub slice-kept : (s : List ℕ) (h : Header) (kept : KeptSets) (ps ts entry exit : List ℕ) (r : Cut)
-    → ps ≡ selected (member (kept .places)) 0 (h .places) → ts ≡ selected (member (kept .transitions)) 0 (h .transitions)
-    → Answers (keeping (netFrom s h) ps ts) entry exit r → Answers (keptSlice s h kept) entry exit r
-unfolding keptSlice
-slice-kept s h kept ps ts entry exit r e f = subst (λ (S : Slice). Answers S entry exit r) (λ i. keeping (netFrom s h) (e i) (f i))
+  pub slice-kept : {entry exit : List ℕ} {r : Cut} → Answers (keeping (netFrom s h) (take p places) (take t transitions)) entry exit r → Answers (keptSlice s h kept) entry exit r
+  unfolding keptSlice
+  slice-kept {entry} {exit} {r} = subst (λ (S : Slice). Answers S entry exit r) (λ i. keeping (netFrom s h) (ps .members i) (ts .members i))
 
 -- the plan's arcs, by the tables of the new numbers
 module _ (s : List ℕ) (h : Header) (sound : Sound s h) (ps ts places transitions : List ℕ) (tables : Tables h ps ts places transitions) where

@@ -1,11 +1,24 @@
 -- What the parts of the writer know of each other: for its own functions, not for a reader of its contract.
 use Prim.Native.Nat.{ℕ, _≤_, _<_}
+use mathlib.Core.Bool.{true}
 use mathlib.Core.List.{List}
 use mathlib.Core.Path.{_≡_}
-use lib.ListN.{length, getD}
-use Rattle.net.specs.Numbers.{Rising}
+use lib.ListN.{length, getD, take}
+use Rattle.net.specs.Numbers.{Rising, selected}
 use Rattle.file.specs.declared.Header.{Header}
 use Rattle.numbering.specs.Own.{Own}
+use Rattle.sets.specs.Member.{member}
+
+-- the members of a set are below n, and the list has room for them
+pub record Listable (words : List ℕ) (n : ℕ) (list : List ℕ) : Type 0 where
+  pub few : n ≤ 1024
+  pub within : (x : ℕ) → member words x ≡ true → x < n
+  pub room : n ≤ length list
+
+-- the first r entries of the list are the members below n, rising
+pub record MembersListed (words : List ℕ) (n : ℕ) (list : List ℕ) (r : ℕ) : Type 0 where
+  pub within : r ≤ length list
+  pub members : take r list ≡ selected (member words) 0 n
 
 -- rising lists of the plan's places and transitions
 pub record Lists (h : Header) (ps ts : List ℕ) : Type 0 where

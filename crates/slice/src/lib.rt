@@ -9,7 +9,7 @@ ghost use Rattle.file.specs.Layout.{netFrom};
 ghost use Rattle.file.specs.Writing.{sliceBytes};
 ghost use Rattle.promise.specs.Calls.{cutAnswer, written};
 ghost use Rattle.slice.specs.Kept.{cutNumbers, keptSlice, roomRefusal, Answers, Within};
-ghost use Rattle.slice.specs.Parts.{Cleared, Lists, Tables};
+ghost use Rattle.slice.specs.Parts.{Cleared, Listable, Lists, MembersListed, Tables};
 use file::Header;
 use sets::KeptSets;
 use tables::LARGE;
@@ -106,6 +106,17 @@ fn write_lists(
     write_if_room(plan, h, ps, ts, places, transitions, buffer)
 }
 
+// Lists the members of a set, all of them below n, in rising order, and counts them.
+fn list_members(words: &[u64; 16], n: usize, list: &mut [u16]) -> usize
+    requires { ⌜ Listable (now words) n (now list) ⌝ }
+    ensures { λ r. ⌜ MembersListed (now (words .entry)) n (now (list .exit)) r ⌝ }
+{
+    let reach = (n + 63) / 64;
+    let count = sets::count(words, reach);
+    slice_members::members(words, reach, list);
+    count
+}
+
 // The same, once the kept numbers are listed.
 fn write_sets(
     plan: &[u8],
@@ -125,12 +136,8 @@ fn write_sets(
 {
     let kept_places = kept.places;
     let kept_transitions = kept.transitions;
-    let wp = (h.places + 63) / 64;
-    let wt = (h.transitions + 63) / 64;
-    let np = sets::count(&kept_places, wp);
-    let nt = sets::count(&kept_transitions, wt);
-    slice_members::members(&kept_places, wp, ps);
-    slice_members::members(&kept_transitions, wt, ts);
+    let np = list_members(&kept_places, h.places, ps);
+    let nt = list_members(&kept_transitions, h.transitions, ts);
     write_lists(plan, h, &ps[..np], &ts[..nt], places, transitions, buffer)
 }
 

@@ -10,15 +10,27 @@ use Rattle.slice.proofs.Laws.{arcs-known, arcs-are, few-arcs, file-leng
 use Rattle.slice.proofs.write_if_room.Statement.{statement}
 use Rattle.slice.proofs.write_if_room.Tie as tie
 
+-- ---- the states: the call, the arcs counted
+
+abbrev call : tie.After-struct-known → tie.Start
+call c = c .before .before .before .before .before .before .before
+
+abbrev call-2 : tie.After-count-arcs → tie.Start
+call-2 c = call (c .before .before)
+
 -- the length of the file
 whole : (c : tie.Start) → length (sliceBytes (keeping (netFrom (c .args .plan .now) (c .args .h)) (c .args .ps .now) (c .args .ts .now))) ≡ 6 * length (c .args .ps .now) + 8 * length (restrict (c .args .ps .now) (c .args .ts .now) (netFrom (c .args .plan .now) (c .args .h) .arcs)) + 2 * length (c .args .ts .now) + 16
 whole c = file-length (netFrom (c .args .plan .now) (c .args .h)) (c .args .ps .now) (c .args .ts .now)
 
-counted : (c : tie.After-count-arcs) → c .count-arcs .result ≡ length (restrict (c .before .before .before .before .before .before .before .before .before .args .ps .now) (c .before .before .before .before .before .before .before .before .before .args .ts .now) (netFrom (c .before .before .before .before .before .before .before .before .before .args .plan .now) (c .before .before .before .before .before .before .before .before .before .args .h) .arcs))
-counted c = c .count-arcs .ensures ∙ ap length (arcs-are _ _ (c .before .before .before .before .before .before .before .before .before .pre .0) _ _ _ _ (c .before .before .before .before .before .before .before .before .before .pre .1 .1))
+-- the arcs of the slice, which are no more than the plan's
+counted : (c : tie.After-count-arcs) → let s = call-2 c in c .count-arcs .result ≡ length (restrict (s .args .ps .now) (s .args .ts .now) (netFrom (s .args .plan .now) (s .args .h) .arcs))
+counted c = let s = call-2 c in c .count-arcs .ensures ∙ ap length (arcs-are _ _ (s .pre .0) _ _ _ _ (s .pre .1 .1))
+
+fewer : (c : tie.Start) → length (restrict (c .args .ps .now) (c .args .ts .now) (netFrom (c .args .plan .now) (c .args .h) .arcs)) ≤ c .args .h .arcs
+fewer c = few-arcs (c .args .plan .now) (c .args .h) (c .args .ps .now) (c .args .ts .now)
 
 few : (c : tie.After-count-arcs) → c .count-arcs .result ≤ 4096
-few c = omega (arith, counted c, few-arcs (c .before .before .before .before .before .before .before .before .before .args .plan .now) (c .before .before .before .before .before .before .before .before .before .args .h) (c .before .before .before .before .before .before .before .before .before .args .ps .now) (c .before .before .before .before .before .before .before .before .before .args .ts .now), c .before .before .before .before .before .before .before .before .before .pre .0 .placed .arcs)
+few c = let s = call-2 c in omega (arith, counted c, fewer s, s .pre .0 .placed .arcs)
 
 mul-rest : tie.Need-mul-rest
 mul-rest c = search needs
@@ -38,10 +50,12 @@ mul-if1 c = search needs
 add-if1 : tie.Need-add-if1
 add-if1 c = search needs
 
+-- ---- room for all of the plan's arcs
+
 write-parts-requires : tie.Need-write-parts-requires
 write-parts-requires c κs =
-    let start = c .before .before .before .before .before .before .before .before .before in
-    (start .pre .0, (start .pre .1 .0, (start .pre .1 .1, omega (arith, whole start, few-arcs (start .args .plan .now) (start .args .h) (start .args .ps .now) (start .args .ts .now), c .before .if1 .taken))))
+    let s = call (c .before .before) in
+    (s .pre .0, (s .pre .1 .0, (s .pre .1 .1, omega (arith, whole s, fewer s, c .before .if1 .taken))))
 
 same-length : tie.Need-same-length
 same-length c = search needs
@@ -49,24 +63,28 @@ same-length c = search needs
 returns : tie.Need-returns
 returns c = search needs
 
+-- ---- room for those that are kept, or none
+
 count-arcs-requires : tie.Need-count-arcs-requires
-count-arcs-requires c κs = arcs-known _ _ (c .before .before .before .before .before .before .before .before .pre .0) _ _ _ _ (c .before .before .before .before .before .before .before .before .pre .1 .1)
+count-arcs-requires c κs = let s = call (c .before) in arcs-known _ _ (s .pre .0) _ _ _ _ (s .pre .1 .1)
 
 mul-if2 : tie.Need-mul-if2
 mul-if2 c = omega (arith, few c)
 
 add-if2 : tie.Need-add-if2
-add-if2 c = omega (arith, few c, c .before .before .before .before .before .before .before .before .before .pre .1 .0 .few-places, c .before .before .before .before .before .before .before .before .before .pre .1 .0 .few-transitions)
+add-if2 c = let s = call-2 c in omega (arith, few c, s .pre .1 .0 .few-places, s .pre .1 .0 .few-transitions)
 
 returns-2 : tie.Need-returns-2
 returns-2 c =
-    let start = c .before .before .before .before .before .before .before .before .before .before in
-    no-room (keeping (netFrom (start .args .plan .now) (start .args .h)) (start .args .ps .now) (start .args .ts .now)) (start .args .buffer .now) (omega (arith, whole start, counted (c .before), c .if2 .taken))
+    let s = call-2 (c .before) in
+    let S = keeping (netFrom (s .args .plan .now) (s .args .h)) (s .args .ps .now) (s .args .ts .now) in
+    no-room S (s .args .buffer .now) (omega (arith, whole s, counted (c .before), c .if2 .taken))
 
 write-parts-requires-2 : tie.Need-write-parts-requires-2
 write-parts-requires-2 c κs =
-    let start = c .before .before .before .before .before .before .before .before .before .before .before in
-    (start .pre .0, (start .pre .1 .0, (start .pre .1 .1, omega (arith, whole start, counted (c .before .before), c .before .if2 .left))))
+    let arcs = c .before .before in
+    let s = call-2 arcs in
+    (s .pre .0, (s .pre .1 .0, (s .pre .1 .1, omega (arith, whole s, counted arcs, c .before .if2 .left))))
 
 same-length-2 : tie.Need-same-length-2
 same-length-2 c = search needs

@@ -3,37 +3,50 @@ use native.Mathlib.Omega.{arith}
 use Rattle.slice.proofs.write_lists.Statement.{statement}
 use Rattle.slice.proofs.write_lists.Tie as tie
 
+-- ---- the states: the places numbered, the transitions numbered
+
+abbrev call : tie.After-positions → tie.Start
+call c = c .before .before .before .before .before .before .before .before
+
+abbrev places-of : tie.After-positions2 → tie.After-positions
+places-of c = c .before .before .before .before
+
 positions-requires : tie.Need-positions-requires
 positions-requires c κs =
-    let start = c .before .before .before .before .before .before .before in
+    let s = c .before .before .before .before .before .before .before in
+    let lists = s .pre .1 .0 in
+    let places = s .pre .1 .1 .0 in
     record {
-      short = start .pre .1 .0 .few-places;
-      rises = start .pre .1 .0 .places-rise;
-      within = λ i l. omega (arith, start .pre .1 .0 .places-known i l, start .pre .1 .1 .0 .reach);
-      clear = start .pre .1 .1 .0 .clear;
+      short = lists .few-places;
+      rises = lists .places-rise;
+      within = λ i l. omega (arith, lists .places-known i l, places .reach);
+      clear = places .clear;
     }
 
 positions-requires-2 : tie.Need-positions-requires-2
 positions-requires-2 c κs =
-    let start = c .before .before .before .before .before .before .before .before .before .before .before in
+    let s = call (c .before .before .before) in
+    let lists = s .pre .1 .0 in
+    let transitions = s .pre .1 .1 .1 in
     record {
-      short = start .pre .1 .0 .few-transitions;
-      rises = start .pre .1 .0 .transitions-rise;
-      within = λ i l. omega (arith, start .pre .1 .0 .transitions-known i l, start .pre .1 .1 .1 .reach);
-      clear = start .pre .1 .1 .1 .clear;
+      short = lists .few-transitions;
+      rises = lists .transitions-rise;
+      within = λ i l. omega (arith, lists .transitions-known i l, transitions .reach);
+      clear = transitions .clear;
     }
 
 write-if-room-requires : tie.Need-write-if-room-requires
 write-if-room-requires c κs =
-    let start = c .before .before .before .before .before .before .before .before .before .before .before .before .before .before .before .before .before in
-    let places = c .before .before .before .before .before .before .before .before .before .positions .ensures in
-    let transitions = c .before .before .before .before .before .positions2 .ensures in (
-      start .pre .0,
+    let numbered = c .before .before .before .before .before in
+    let s = call (places-of numbered) in
+    let places = places-of numbered .positions .ensures in
+    let transitions = numbered .positions2 .ensures in (
+      s .pre .0,
       (
-        start .pre .1 .0,
+        s .pre .1 .0,
         record {
-          places-reach = omega (arith, places .0, start .pre .1 .1 .0 .reach);
-          transitions-reach = omega (arith, transitions .0, start .pre .1 .1 .1 .reach);
+          places-reach = omega (arith, places .0, s .pre .1 .1 .0 .reach);
+          transitions-reach = omega (arith, transitions .0, s .pre .1 .1 .1 .reach);
           places-own = places .1;
           transitions-own = transitions .1;
         },
