@@ -12,7 +12,7 @@ use Rattle.file.specs.Facts.{Sound}
 use Rattle.file.specs.declared.Header.{Header}
 use Rattle.file.proofs.Laws.{slice-part}
 use Rattle.file.proofs.Opening.{orElse-stop}
-use Rattle.inputs_lists.proofs.Passing.{list-short, list-known, kept-refused}
+use Rattle.inputs_lists.proofs.Passing.{list-short, list-known}
 use Rattle.promise.specs.Calls.{written}
 use Rattle.promise.specs.Firing.{projectOr, listRefusal}
 use Rattle.numbering.specs.Own.{Own, Origins}

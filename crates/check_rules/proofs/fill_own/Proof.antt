@@ -4,7 +4,7 @@ use Rattle.check_rules.proofs.fill_own.Statement.{statement}
 use Rattle.check_rules.proofs.fill_own.Tie as tie
 
 own-requires : tie.Need-own-requires
-own-requires c κs = place-origins _ _ (c .before .before .before .before .pre .0) (c .before .before .before .before .pre .1)
+own-requires c κs = let s = c .before .before .before .before in place-origins _ _ (s .pre .0) (s .pre .1)
 
 mul-own : tie.Need-mul-own
 mul-own c = search needs
@@ -13,7 +13,10 @@ add-own : tie.Need-add-own
 add-own c = search needs
 
 own-requires-2 : tie.Need-own-requires-2
-own-requires-2 c κs = transition-origins _ _ (c .before .before .before .before .before .before .before .before .before .before .pre .0) (c .before .before .before .before .before .before .before .before .before .before .pre .1)
+own-requires-2 c κs =
+    let places = c .before .before .before .before .before in
+    let s = places .before .before .before .before .before in
+    transition-origins _ _ (s .pre .0) (s .pre .1)
 
 same-length : tie.Need-same-length
 same-length c = search needs

@@ -3,6 +3,19 @@ use native.Mathlib.Omega.{arith}
 use Rattle.check_rules.proofs.lent_outcome.Statement.{statement}
 use Rattle.check_rules.proofs.lent_outcome.Tie as tie
 
+-- ---- the states: the starts filled, the own numbers filled
+
+abbrev call : tie.After-fill-starts → tie.Start
+call c =
+    let lent = c .before .before .before .before in
+    lent .before .before .before .before .before .before .before .before
+
+abbrev starts-of : tie.After-fill-own → tie.After-fill-starts
+starts-of c = c .before .before .before .before .before .before .before
+
+abbrev filled : tie.After-links-outcome-arg → tie.After-fill-own
+filled c = c .before .before .before .before .before
+
 fill-starts-requires : tie.Need-fill-starts-requires
 fill-starts-requires c κs = search needs
 
@@ -11,9 +24,10 @@ fill-own-requires c κs = search needs
 
 links-outcome-requires : tie.Need-links-outcome-requires
 links-outcome-requires c κs =
-    let pre = c .before .before .before .before .before .before .before .before .before .before .before .before .before .before .before .before .before .before .before .before .before .before .before .before .before .before .before .before .before .pre in
-    let own = c .before .before .before .before .before .before .before .before .before .before .fill-own .ensures in
-    let starts = c .before .before .before .before .before .before .before .before .before .before .before .before .before .before .before .before .before .fill-starts .ensures in (
+    let numbered = filled (c .before .before .before .before .before) in
+    let own = numbered .fill-own .ensures in
+    let starts = starts-of numbered .fill-starts .ensures in
+    let pre = call (starts-of numbered) .pre in (
       record {
         planned = pre .0 .planned;
         sliced = pre .0 .sliced;
