@@ -19,23 +19,43 @@ Inv-loop places gone marks₀ marks = Marked places (member gone) marks
 abbrev μ-loop : tie.MeasureT-loop
 μ-loop places gone marks₀ marks = countBelow (bit marks) 64
 
+-- ---- the states: the call, a turn, the first marked word found
+
+abbrev Turn : Type 0
+Turn = tie.At-loop Inv-loop μ-loop
+
+abbrev Marked-word : Type 0
+Marked-word = tie.After-first Inv-loop μ-loop
+
+abbrev call : Turn → tie.Start Inv-loop μ-loop
+call c = c .before
+
+abbrev turn-of : Marked-word → Turn
+turn-of c = c .before .before .before
+
+abbrev word-of : tie.After-here Inv-loop μ-loop → Marked-word
+word-of c = c .before .before .before .before .before .before
+
+abbrev passed-word : tie.After-enum-told2 Inv-loop μ-loop → Marked-word
+passed-word c = c .before .before .before .before .before .before
+
 -- the word found is the first that is marked
-first : (c : tie.After-first Inv-loop μ-loop) → IsLowest 64 (bit (c .before .before .before .loop .marks)) (At (c .first .given .0 .0))
-first c = subst (IsLowest 64 (bit (c .before .before .before .loop .marks))) (c .first .given .1) (c .before .before .lowest-bit .ensures)
+first : (c : Marked-word) → IsLowest 64 (bit (turn-of c .loop .marks)) (At (c .first .given .0 .0))
+first c = subst (IsLowest 64 (bit (turn-of c .loop .marks))) (c .first .given .1) (c .before .before .lowest-bit .ensures)
 
 -- it is one of the sixteen
-word : (c : tie.After-first Inv-loop μ-loop) → c .first .given .0 .0 < 16
-word c = let start = c .before .before .before .before in first-word _ _ (start .pre .0) _ (c .before .before .before .loop .inv) _ (first c)
+word : (c : Marked-word) → c .first .given .0 .0 < 16
+word c = let t = turn-of c in first-word _ _ (call t .pre .0) _ (t .loop .inv) _ (first c)
 
 -- the lowest pending place of that word
-abbrev InWord : tie.After-first Inv-loop μ-loop → Found → Type 0
-InWord c = let start = c .before .before .before .before in IsLowest 64 (bit (bitXor (getD (start .args .places .now) (c .first .given .0 .0) 0) (getD (start .args .gone .now) (c .first .given .0 .0) 0)))
+abbrev InWord : Marked-word → Found → Type 0
+InWord c = let s = call (turn-of c) in IsLowest 64 (bit (bitXor (getD (s .args .places .now) (c .first .given .0 .0) 0) (getD (s .args .gone .now) (c .first .given .0 .0) 0)))
 
-here : (c : tie.After-here Inv-loop μ-loop) → InWord (c .before .before .before .before .before .before) (At (c .here .given .0 .0))
-here c = subst (InWord (c .before .before .before .before .before .before)) (c .here .given .1) (c .before .before .lowest-bit2 .ensures)
+here : (c : tie.After-here Inv-loop μ-loop) → InWord (word-of c) (At (c .here .given .0 .0))
+here c = subst (InWord (word-of c)) (c .here .given .1) (c .before .before .lowest-bit2 .ensures)
 
-nothing : (c : tie.After-enum-told2 Inv-loop μ-loop) → InWord (c .before .before .before .before .before .before) Nothing
-nothing c = subst (InWord (c .before .before .before .before .before .before)) (c .enum-told2 .given .1) (c .before .before .lowest-bit2 .ensures)
+nothing : (c : tie.After-enum-told2 Inv-loop μ-loop) → InWord (passed-word c) Nothing
+nothing c = subst (InWord (passed-word c)) (c .enum-told2 .given .1) (c .before .before .lowest-bit2 .ensures)
 
 loop-holds : tie.Need-loop-holds Inv-loop μ-loop
 loop-holds c = c .pre .1
@@ -51,8 +71,8 @@ enum-told c = search needs
 
 returns : tie.Need-returns Inv-loop μ-loop
 returns c =
-    let start = c .before .before .before .before in
-    lowest-none _ _ (start .pre .0) _ (c .before .before .before .loop .inv) (subst (IsLowest 64 (bit (c .before .before .before .loop .marks))) (c .enum-told .given .1) (c .before .before .lowest-bit .ensures))
+    let t = c .before .before .before in
+    lowest-none _ _ (call t .pre .0) _ (t .loop .inv) (subst (IsLowest 64 (bit (t .loop .marks))) (c .enum-told .given .1) (c .before .before .lowest-bit .ensures))
 
 mul-lowest-bit : tie.Need-mul-lowest-bit Inv-loop μ-loop
 mul-lowest-bit c = let l = word (c .before) in search needs
@@ -73,31 +93,36 @@ enum-known-here : tie.Need-enum-known-here Inv-loop μ-loop
 enum-known-here c = search needs
 
 mul-t17 : tie.Need-mul-t17 Inv-loop μ-loop
-mul-t17 c = let l = word (c .before .before .before .before .before .before .before) in search needs
+mul-t17 c = let l = word (word-of (c .before)) in search needs
 
 add-t18 : tie.Need-add-t18 Inv-loop μ-loop
-add-t18 c = omega (arith, word (c .before .before .before .before .before .before .before), here (c .before) .0)
+add-t18 c = omega (arith, word (word-of (c .before)), here (c .before) .0)
 
 returns-2 : tie.Need-returns-2 Inv-loop μ-loop
 returns-2 c =
-    let start = c .before .before .before .before .before .before .before .before .before .before .before in
-    lowest-at _ _ (start .pre .0) _ (c .before .before .before .before .before .before .before .before .before .before .loop .inv) _ (first (c .before .before .before .before .before .before .before)) _ (here (c .before))
+    let w = word-of (c .before) in
+    let t = turn-of w in
+    lowest-at _ _ (call t .pre .0) _ (t .loop .inv) _ (first w) _ (here (c .before))
 
 enum-told-2 : tie.Need-enum-told-2 Inv-loop μ-loop
 enum-told-2 c = search needs
 
 without-requires : tie.Need-without-requires Inv-loop μ-loop
-without-requires c κs = let l = word (c .before .before .before .before .before .before .before) in omega arith
+without-requires c κs = let l = word (passed-word (c .before)) in omega arith
 
 loop-less : tie.Need-loop-less Inv-loop μ-loop
 loop-less c =
-    let start = c .before .before .before .before .before .before .before .before .before .before .before .before in
-    marks-fewer _ _ (start .pre .0) _ (c .before .before .before .before .before .before .before .before .before .before .before .loop .inv) _ (first (c .before .before .before .before .before .before .before .before)) (nothing (c .before .before)) _ (c .without .ensures)
+    let none = c .before .before in
+    let w = passed-word none in
+    let t = turn-of w in
+    marks-fewer _ _ (call t .pre .0) _ (t .loop .inv) _ (first w) (nothing none) _ (c .without .ensures)
 
 loop-again : tie.Need-loop-again Inv-loop μ-loop
 loop-again c =
-    let start = c .before .before .before .before .before .before .before .before .before .before .before .before in
-    marks-less _ _ (start .pre .0) _ (c .before .before .before .before .before .before .before .before .before .before .before .loop .inv) _ (first (c .before .before .before .before .before .before .before .before)) (nothing (c .before .before)) _ (c .without .ensures)
+    let none = c .before .before in
+    let w = passed-word none in
+    let t = turn-of w in
+    marks-less _ _ (call t .pre .0) _ (t .loop .inv) _ (first w) (nothing none) _ (c .without .ensures)
 
 pub lowest-spec : {M : Type 1} → statement M
 lowest-spec =
