@@ -15,8 +15,23 @@ Inv-loop file from t marks places₀ start arcs m₀ j₀ places m j = Inputs fi
 abbrev μ-loop : tie.MeasureT-loop
 μ-loop file from t marks places₀ start arcs m₀ j₀ places m j = arcs - j
 
+-- ---- the states: the call, the head of a turn, its arc read
+
+abbrev Turn : Type 0
+Turn = tie.At-loop Inv-loop μ-loop
+
+abbrev call : Turn → tie.Start Inv-loop μ-loop
+call c = c .before .before
+
+abbrev Read : Type 0
+Read = tie.After-arc Inv-loop μ-loop
+
+abbrev turn-of : Read → Turn
+turn-of c = c .before .before
+
 -- the transition and the direction of the arc as one number
-sum : (c : tie.After-arc Inv-loop μ-loop) → c .arc .result .transition + c .arc .result .direction * 65536 ≡ transitionAt (c .before .before .before .before .args .file .now) (c .before .before .before .before .args .h .arcstart) (c .before .before .loop .j) + directionAt (c .before .before .before .before .args .file .now) (c .before .before .before .before .args .h .arcstart) (c .before .before .loop .j) * 65536
+sum : (c : Read) → let s = call (turn-of c) in let j = turn-of c .loop .j in
+    c .arc .result .transition + c .arc .result .direction * 65536 ≡ transitionAt (s .args .file .now) (s .args .h .arcstart) j + directionAt (s .args .file .now) (s .args .h .arcstart) j * 65536
 sum c = ap (λ (a : Arc). a .transition + a .direction * 65536) (c .arc .ensures .0)
 
 loop-holds : tie.Need-loop-holds Inv-loop μ-loop
@@ -39,16 +54,18 @@ add-if1 c = search needs
 
 returns : tie.Need-returns Inv-loop μ-loop
 returns c =
-    let start = c .before .before .before .before .before .before .before in
-    inputs-stop _ (start .args .h) (start .pre .0) _ _ (start .pre .1) (start .pre .2) _ _ _ _ _ (c .before .before .before .before .before .loop .inv) (c .before .before .before .before .loop-test .taken)
-    (λ e. c .if1 .taken (sum (c .before .before .before) ∙ e))
+    let read = c .before .before .before in
+    let t = turn-of read in
+    let s = call t in
+    inputs-stop _ (s .args .h) (s .pre .0) _ _ (s .pre .1) (s .pre .2) _ _ _ _ _ (t .loop .inv) (read .before .loop-test .taken) (λ e. c .if1 .taken (sum read ∙ e))
 
 keep-requires : tie.Need-keep-requires Inv-loop μ-loop
 keep-requires c κs =
-    let start = c .before .before .before .before .before .before .before .before in (
-      omega (arith, ap (λ (a : Arc). a .place) (c .before .before .before .before .arc .ensures .0), start .pre .0 .placed .places, good-at (start .args .file .now) (start .args .h) (start .pre .0) (c .before .before .before .before .before .before .loop .j) (c .before .before .before .before .before .loop-test .taken) .place),
-      c .before .before .before .before .before .before .loop .inv .kept .long,
-    )
+    let read = c .before .before .before .before in
+    let t = turn-of read in
+    let s = call t in
+    let good = good-at (s .args .file .now) (s .args .h) (s .pre .0) (t .loop .j) (read .before .loop-test .taken) in
+    (omega (arith, ap (λ (a : Arc). a .place) (read .arc .ensures .0), s .pre .0 .placed .places, good .place), t .loop .inv .kept .long)
 
 add-j : tie.Need-add-j Inv-loop μ-loop
 add-j c = search needs
@@ -58,13 +75,16 @@ loop-less c = search needs
 
 loop-again : tie.Need-loop-again Inv-loop μ-loop
 loop-again c =
-    let start = c .before .before .before .before .before .before .before .before .before in
-    inputs-more _ (start .args .h) (start .pre .0) _ _ (start .pre .1) (start .pre .2) _ _ _ _ _ (c .before .before .before .before .before .before .before .loop .inv) (c .before .before .before .before .before .before .loop-test .taken) (sym (sum (c .before .before .before .before .before)) ∙ c .before .before .if1 .left) _ _ _ (ap (λ (a : Arc). a .place) (c .before .before .before .before .before .arc .ensures .0)) (c .keep .ensures)
+    let read = c .before .before .before .before .before in
+    let t = turn-of read in
+    let s = call t in
+    inputs-more _ (s .args .h) (s .pre .0) _ _ (s .pre .1) (s .pre .2) _ _ _ _ _ (t .loop .inv) (read .before .loop-test .taken)
+    (sym (sum read) ∙ c .before .before .if1 .left) _ _ _ (ap (λ (a : Arc). a .place) (read .arc .ensures .0)) (c .keep .ensures)
 
 returns-2 : tie.Need-returns-2 Inv-loop μ-loop
 returns-2 c =
-    let start = c .before .before .before in
-    inputs-all _ (start .args .h) (start .pre .0) _ _ (start .pre .1) (start .pre .2) _ _ _ _ _ (c .before .loop .inv) (c .loop-test .left)
+    let s = call (c .before) in
+    inputs-all _ (s .args .h) (s .pre .0) _ _ (s .pre .1) (s .pre .2) _ _ _ _ _ (c .before .loop .inv) (c .loop-test .left)
 
 pub keep-inputs-spec : {M : Type 1} → statement M
 keep-inputs-spec =

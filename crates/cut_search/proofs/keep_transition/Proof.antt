@@ -12,6 +12,14 @@ use Rattle.cut_search.proofs.Steps.{transition-known, transition-new}
 use Rattle.cut_search.proofs.keep_transition.Statement.{statement}
 use Rattle.cut_search.proofs.keep_transition.Tie as tie
 
+-- ---- the states: the call, the arc read, whether its transition is kept known
+
+abbrev call : tie.After-arc → tie.Start
+call c = c .before .before .before
+
+abbrev read : tie.After-contains → tie.After-arc
+read c = c .before .before
+
 mul-arc : tie.Need-mul-arc
 mul-arc c = search needs
 
@@ -22,36 +30,45 @@ arc-requires : tie.Need-arc-requires
 arc-requires c κs = search needs
 
 -- the transition of the arc, which is one of the net
-same : (c : tie.After-arc) → c .arc .result .transition ≡ transitionAt (c .before .before .before .args .file .now) (c .before .before .before .args .h .arcstart) (c .before .before .before .args .from)
+same : (c : tie.After-arc) → let s = call c in c .arc .result .transition ≡ transitionAt (s .args .file .now) (s .args .h .arcstart) (s .args .from)
 same c = ap (λ (a : Arc). a .transition) (c .arc .ensures .0)
 
-inside : (c : tie.After-arc) → c .arc .result .transition < c .before .before .before .args .h .transitions
-inside c = let start = c .before .before .before in omega (arith, same c, good-at (start .args .file .now) (start .args .h) (start .pre .0 .0) (start .args .from) (start .pre .0 .1) .transition)
+inside : (c : tie.After-arc) → c .arc .result .transition < call c .args .h .transitions
+inside c = let s = call c in omega (arith, same c, good-at (s .args .file .now) (s .args .h) (s .pre .0 .0) (s .args .from) (s .pre .0 .1) .transition)
+
+few : (c : tie.After-arc) → c .arc .result .transition < 1024
+few c = omega (arith, inside c, call c .pre .0 .0 .placed .transitions)
 
 contains-requires : tie.Need-contains-requires
-contains-requires c κs = let l = inside (c .before) in let start = c .before .before .before .before in let u = start .pre .0 .0 .placed .transitions in omega arith
+contains-requires c κs = few (c .before)
 
 returns : tie.Need-returns
 returns c =
-    let start = c .before .before .before .before .before .before in
-    transition-known (takesFrom (netFrom (start .args .file .now) (start .args .h))) _ _ (same (c .before .before .before)) _ _ _ (sym (c .before .contains .ensures) ∙ c .if1 .taken) (start .pre .1)
+    let a = read (c .before) in
+    let s = call a in
+    transition-known (takesFrom (netFrom (s .args .file .now) (s .args .h))) _ _ (same a) _ _ _ (sym (c .before .contains .ensures) ∙ c .if1 .taken) (s .pre .1)
 
 insert-requires : tie.Need-insert-requires
-insert-requires c κs = let l = inside (c .before .before .before .before) in let start = c .before .before .before .before .before .before .before in let u = start .pre .0 .0 .placed .transitions in (omega arith, start .pre .1 .transitions-long)
+insert-requires c κs =
+    let a = read (c .before .before) in
+    (few a, call a .pre .1 .transitions-long)
 
 keep-inputs-requires : tie.Need-keep-inputs-requires
 keep-inputs-requires c κs =
-    let start = c .before .before .before .before .before .before .before .before .before in (
-      start .pre .0 .0,
-      inside (c .before .before .before .before .before .before),
-      subst (λ (t : ℕ). Split (start .args .file .now) (start .args .h .arcstart) (start .args .h .arcs) (2 * t) (start .args .from)) (sym (same (c .before .before .before .before .before .before))) (start .pre .0 .2),
-      start .pre .1 .places-long,
+    let a = read (c .before .before .before .before) in
+    let s = call a in (
+      s .pre .0 .0,
+      inside a,
+      subst (λ (t : ℕ). Split (s .args .file .now) (s .args .h .arcstart) (s .args .h .arcs) (2 * t) (s .args .from)) (sym (same a)) (s .pre .0 .2),
+      s .pre .1 .places-long,
     )
 
 returns-2 : tie.Need-returns-2
 returns-2 c =
-    let start = c .before .before .before .before .before .before .before .before .before .before in
-    transition-new (takesFrom (netFrom (start .args .file .now) (start .args .h))) _ _ (same (c .before .before .before .before .before .before .before)) _ _ _ _ _ _ (sym (c .before .before .before .before .before .contains .ensures) ∙ c .before .before .before .before .if1 .left) (c .before .before .insert .ensures) (c .keep-inputs .ensures)
+    let new = c .before .before .before .before in
+    let a = read (new .before) in
+    let s = call a in
+    transition-new (takesFrom (netFrom (s .args .file .now) (s .args .h))) _ _ (same a) _ _ _ _ _ _ (sym (new .before .contains .ensures) ∙ new .if1 .left) (c .before .before .insert .ensures) (c .keep-inputs .ensures)
 
 pub keep-transition-spec : {M : Type 1} → statement M
 keep-transition-spec =

@@ -8,6 +8,9 @@ use Rattle.cut_search.proofs.Turns.{Halfway, halfway-followed, halfway-
 use Rattle.cut_search.proofs.turn.Statement.{statement}
 use Rattle.cut_search.proofs.turn.Tie as tie
 
+abbrev call : tie.Joined1 → tie.Start
+call c = c .before .before .before .before .before
+
 contains-requires : tie.Need-contains-requires
 contains-requires c κs = search needs
 
@@ -22,17 +25,18 @@ shared-slice-read-follow c = search needs
 
 follow-requires : tie.Need-follow-requires
 follow-requires c κs =
-    let start = c .before .before .before .before .before .before .before .before in (start .pre .0, nexts-of _ (start .args .h) _ _ (start .pre .1), row-lowers _ (start .args .h) _ _ (start .pre .1) _ (start .pre .2), start .pre .3)
+    let s = c .before .before .before .before .before .before .before .before in
+    (s .pre .0, nexts-of _ (s .args .h) _ _ (s .pre .1), row-lowers _ (s .args .h) _ _ (s .pre .1) _ (s .pre .2), s .pre .3)
 
 -- after the row that lowers p, or without it
-halfway : (c : tie.Joined1) → let start = c .before .before .before .before .before in
-    Halfway (start .args .file .now) (start .args .h) (start .args .all || member (start .args .both .now) (start .args .p)) (start .args .p) (start .args .marks) (c .if1 .m) (start .args .places .now) (start .args .transitions .now) (c .if1 .places) (c .if1 .transitions)
+halfway : (c : tie.Joined1) → let s = call c in
+    Halfway (s .args .file .now) (s .args .h) (s .args .all || member (s .args .both .now) (s .args .p)) (s .args .p) (s .args .marks) (c .if1 .m) (s .args .places .now) (s .args .transitions .now) (c .if1 .places) (c .if1 .transitions)
 halfway c =
-    let start = c .before .before .before .before .before in
-    let is = ap (λ (b : Bool). start .args .all || b) (sym (c .before .contains .ensures)) in
+    let s = call c in
+    let is = ap (λ (b : Bool). s .args .all || b) (sym (c .before .contains .ensures)) in
     ⊎-elim
-    (λ w. halfway-followed _ (start .args .h) _ _ _ _ _ (is ∙ w .0 .taken) _ _ _ _ _ _ (w .4 .ensures 0 (start .args .p) (omega arith) (lowers _ (start .args .h) _ _ (start .pre .1) _ (start .pre .2))) (w .5) (w .6) (w .7))
-    (λ w. halfway-none _ (start .args .h) _ _ _ _ _ (is ∙ w .0 .left) (start .pre .3) _ _ _ (w .1) (w .2) (w .3))
+    (λ w. halfway-followed _ (s .args .h) _ _ _ _ _ (is ∙ w .0 .taken) _ _ _ _ _ _ (w .4 .ensures 0 (s .args .p) (omega arith) (lowers _ (s .args .h) _ _ (s .pre .1) _ (s .pre .2))) (w .5) (w .6) (w .7))
+    (λ w. halfway-none _ (s .args .h) _ _ _ _ _ (is ∙ w .0 .left) (s .pre .3) _ _ _ (w .1) (w .2) (w .3))
     (c .if1 .came)
 
 mul-follow-3 : tie.Need-mul-follow-3
@@ -49,10 +53,15 @@ shared-slice-read-follow-2 c = search needs
 
 follow-requires-2 : tie.Need-follow-requires-2
 follow-requires-2 c κs =
-    let start = c .before .before .before .before .before .before .before .before in (start .pre .0, nexts-of _ (start .args .h) _ _ (start .pre .1), row-raises _ (start .args .h) _ _ (start .pre .1) _ (start .pre .2), halfway (c .before .before .before) .grown .sets)
+    let joined = c .before .before .before in
+    let s = call joined in
+    (s .pre .0, nexts-of _ (s .args .h) _ _ (s .pre .1), row-raises _ (s .args .h) _ _ (s .pre .1) _ (s .pre .2), halfway joined .grown .sets)
 
 returns : tie.Need-returns
-returns c = let start = c .before .before .before .before .before .before .before .before .before in turned _ (start .args .h) _ _ _ _ _ _ _ _ _ _ _ _ (halfway (c .before .before .before .before)) (c .follow2 .ensures 1 (start .args .p) (omega arith) (raises _ (start .args .h) _ _ (start .pre .1) _ (start .pre .2)))
+returns c =
+    let joined = c .before .before .before .before in
+    let s = call joined in
+    turned _ (s .args .h) _ _ _ _ _ _ _ _ _ _ _ _ (halfway joined) (c .follow2 .ensures 1 (s .args .p) (omega arith) (raises _ (s .args .h) _ _ (s .pre .1) _ (s .pre .2)))
 
 pub turn-spec : {M : Type 1} → statement M
 turn-spec =
