@@ -9,8 +9,10 @@ use lib.Dec.{T, eqb}
 use lib.ListN.{length, getD, set, length-set}
 use lib.Seq.{getD-set-same, getD-set-other}
 use borrow.Author.Tests.{lt-ltb, le-ltb, ne-eqb, eqb-true, eqb-false}
+use Rattle.net.specs.declared.Arc.{Arc}
 use Rattle.net.proofs.Numbers.{by-cases, holds, fails, is-true}
 use Rattle.file.specs.Facts.{Sound}
+use Rattle.file.specs.Layout.{arcAt}
 use Rattle.file.specs.declared.Header.{Header}
 use Rattle.file.proofs.Rows.{weight-none, good-at}
 use Rattle.arcs_starts.specs.Table.{slotAt, choose, Split}
@@ -560,7 +562,7 @@ linking-none s h head next z = record {
 
 module _ (s : List ℕ) (h : Header) (sound : Sound s h) (before after head next : List ℕ) (last from j : ℕ) (x : Linking s h before after head next last from j) (l : j < h .arcs) where
   -- where the arcs of the transition of arc j start
-  pub start-is : Split s (h .arcstart) (h .arcs) (2 * transitionAt s (h .arcstart) j) (choose (eqb (transitionAt s (h .arcstart) j) last) from j)
+  start-is : Split s (h .arcstart) (h .arcs) (2 * transitionAt s (h .arcstart) j) (choose (eqb (transitionAt s (h .arcstart) j) last) from j)
   start-is = go (ℕ-discrete j 0)
     where
       go : Dec (j ≡ 0) → Split s (h .arcstart) (h .arcs) (2 * transitionAt s (h .arcstart) j) (choose (eqb (transitionAt s (h .arcstart) j) last) from j)
@@ -577,7 +579,7 @@ module _ (s : List ℕ) (h : Header) (sound : Sound s h) (before after head next
           omega (arith, n, r .0, Weights.rises s h sound i (j - 1) (omega arith) (omega arith), Weights.rises s h sound (j - 1) j (omega arith) l))))
 
   -- there is room for it
-  pub room : 2 * h .places ≤ length before → h .arcs ≤ length after → (from′ : ℕ) → from′ ≡ choose (eqb (transitionAt s (h .arcstart) j) last) from j
+  room : 2 * h .places ≤ length before → h .arcs ≤ length after → (from′ : ℕ) → from′ ≡ choose (eqb (transitionAt s (h .arcstart) j) last) from j
       → Room s (h .arcstart) (h .arcs) j from′ (placeAt s (h .arcstart) j) head next
   room hl nl from′ f =
       let p = good-at s h sound j l .place in
@@ -634,7 +636,7 @@ module _ (s : List ℕ) (h : Header) (sound : Sound s h) (before after head next
       rows = rows;
     }
 
-    pub linking-more : (r : ℕ) → Linked s (h .arcstart) (h .arcs) j from′ (placeAt s (h .arcstart) j) (directionAt s (h .arcstart) j) head next head′ next′ r
+    linking-more : (r : ℕ) → Linked s (h .arcstart) (h .arcs) j from′ (placeAt s (h .arcstart) j) (directionAt s (h .arcstart) j) head next head′ next′ r
         → Linking s h before after head′ next′ (transitionAt s (h .arcstart) j) from′ r
     linking-more r y =
         go (ℕ-discrete (getD head (2 * placeAt s (h .arcstart) j + directionAt s (h .arcstart) j) 0 / 65536) (from′ + 1)) (ℕ-discrete (getD head (2 * placeAt s (h .arcstart) j) 0 / 65536) (from′ + 1))
@@ -660,6 +662,23 @@ module _ (s : List ℕ) (h : Header) (sound : Sound s h) (before after head next
             let u : j + 1 ≤ h .arcs = omega arith in
             rw (z .1) (one-more (counts-new s h sound j (j + 1) from′ g u (opens q) split head next (x .rows) o (ℕ-discrete (directionAt s (h .arcstart) j) 0))
             (linked-new s h sound j (j + 1) from′ g u (opens q) split head next (x .rows) head′ next′ p-long j-long o (z .0)))
+
+-- arc a, the next to be linked, the arcs of its transition starting with arc `from`: there is room for it, and once it is linked as many more are
+pub record Next (s : List ℕ) (h : Header) (before after head next : List ℕ) (from j : ℕ) (a : Arc) : Type 0 where
+  pub room : Room s (h .arcstart) (h .arcs) j from (a .place) head next
+  pub way : a .direction ≤ 1
+  pub more : (head′ next′ : List ℕ) → length head′ ≡ length head → length next′ ≡ length next → (r : ℕ)
+      → Linked s (h .arcstart) (h .arcs) j from (a .place) (a .direction) head next head′ next′ r → Linking s h before after head′ next′ (a .transition) from r
+
+pub next-arc : {s : List ℕ} {h : Header} {before after head next : List ℕ} {last from j : ℕ} → Sound s h → Linking s h before after head next last from j → j < h .arcs
+    → 2 * h .places ≤ length before → h .arcs ≤ length after → (a : Arc) → a ≡ arcAt s (h .arcstart + 8 * j) → (from′ : ℕ) → from′ ≡ choose (eqb (a .transition) last) from j
+    → Next s h before after head next from′ j a
+next-arc {s} {h} {before} {after} {head} {next} {last} {from} {j} sound x l hl nl a e from′ =
+    subst (λ (b : Arc). from′ ≡ choose (eqb (b .transition) last) from j → Next s h before after head next from′ j b) (sym e) (λ f. record {
+      room = room s h sound before after head next last from j x l hl nl from′ f;
+      way = good-at s h sound j l .direction;
+      more = λ head′ next′ hs ns. linking-more s h sound before after head next last from j x l hl nl from′ f head′ next′ hs ns;
+    })
 
 pub linking-end : (s : List ℕ) (h : Header) (before after head next : List ℕ) (last from j : ℕ) → Linking s h before after head next last from j → h .arcs ≤ j
     → 2 * h .places ≤ length before → h .arcs ≤ length after → Rows s h head next

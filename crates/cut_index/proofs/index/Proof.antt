@@ -1,14 +1,7 @@
 use borrow.Author.Needs.{needs}
-use Prim.Native.Nat.{_+_, _-_, _≤_, _<_}
-use mathlib.Core.Path.{_≡_, sym, ap, _∙_, subst}
+use Prim.Native.Nat.{_-_}
 use native.Mathlib.Omega.{arith}
-use lib.Dec.{eqb}
-use Rattle.net.specs.declared.Arc.{Arc}
-use Rattle.arcs_starts.specs.Table.{choose}
-use Rattle.arcs_column.specs.Ways.{transitionAt}
-use Rattle.file.proofs.Rows.{good-at}
-use Rattle.cut_index.specs.Steps.{Linked, Room}
-use Rattle.cut_index.proofs.Linking.{Linking, room, linking-none, linking-more, linking-end, linked-on}
+use Rattle.cut_index.proofs.Linking.{Linking, Next, linking-none, linking-end, linked-on, next-arc}
 use Rattle.cut_index.proofs.index.Statement.{statement}
 use Rattle.cut_index.proofs.index.Tie as tie
 
@@ -18,11 +11,30 @@ Inv-loop file h head₀ next₀ last₀ from₀ j₀ head next last from j = Lin
 abbrev μ-loop : tie.MeasureT-loop
 μ-loop file h head₀ next₀ last₀ from₀ j₀ head next last from j = h .arcs - j
 
--- the start of the arcs of the transition
-start-at : (c : tie.After-begin Inv-loop μ-loop) → c .begin .result ≡ choose (eqb (transitionAt (c .before .before .before .before .before .before .before .before .before .args .file .now) (c .before .before .before .before .before .before .before .before .before .args .h .arcstart) (c .before .before .before .before .before .loop .j)) (c .before .before .before .before .before .loop .last)) (c .before .before .before .before .before .loop .from) (c .before .before .before .before .before .loop .j)
-start-at c =
-    let at = c .before .before .before .before .before .loop in
-    c .begin .ensures ∙ ap (λ (a : Arc). choose (eqb (a .transition) (at .last)) (at .from) (at .j)) (c .before .arc .ensures .0)
+-- ---- the states: the call, the head of a turn, the arc read and where its transition's arcs start, the arc linked
+
+abbrev Turn : Type 0
+Turn = tie.At-loop Inv-loop μ-loop
+
+abbrev call : Turn → tie.Start Inv-loop μ-loop
+call c = c .before .before .before .before
+
+abbrev Begun : Type 0
+Begun = tie.After-begin Inv-loop μ-loop
+
+abbrev turn-of : Begun → Turn
+turn-of c = c .before .before .before .before .before
+
+abbrev begun : tie.After-link Inv-loop μ-loop → Begun
+begun c = c .before .before .before
+
+-- the arc of the turn, to be linked
+next-at : (c : Begun) → let t = turn-of c in let s = call t in
+    Next (s .args .file .now) (s .args .h) (s .args .head .now) (s .args .next .now) (t .loop .head) (t .loop .next) (c .begin .result) (t .loop .j) (c .before .arc .result)
+next-at c =
+    let t = turn-of c in
+    let s = call t in
+    next-arc (s .pre .0) (t .loop .inv) (c .before .before .before .if1 .taken) (s .pre .1 .0 .0) (s .pre .1 .0 .1) _ (c .before .arc .ensures .0) _ (c .begin .ensures)
 
 loop-holds : tie.Need-loop-holds Inv-loop μ-loop
 loop-holds c = linking-none _ _ _ _ (c .before .before .before .pre .1 .1)
@@ -40,31 +52,17 @@ begin-requires : tie.Need-begin-requires Inv-loop μ-loop
 begin-requires c κs = search needs
 
 link-requires : tie.Need-link-requires Inv-loop μ-loop
-link-requires c κs =
-    let start = c .before .before .before .before .before .before .before .before .before .before .before in
-    let at = c .before .before .before .before .before .before .before .loop in
-    let s = start .args .file .now in
-    let h = start .args .h in
-    let l = c .before .before .before .before .before .if1 .taken in
-    subst (λ (a : Arc). Room s (h .arcstart) (h .arcs) (at .j) (c .before .before .begin .result) (a .place) (at .head) (at .next) × (a .direction ≤ 1)) (sym (c .before .before .before .arc .ensures .0)) (
-      room s h (start .pre .0) _ _ _ _ _ _ _ (at .inv) l (start .pre .1 .0 .0) (start .pre .1 .0 .1) _ (start-at (c .before .before)),
-      good-at s h (start .pre .0) (at .j) l .direction,
-    )
+link-requires c κs = let n = next-at (c .before .before) in (n .room, n .way)
 
 loop-less : tie.Need-loop-less Inv-loop μ-loop
-loop-less c = let l = c .before .before .before .before .before .before .before .before .before .before .if1 .taken in let g = linked-on (c .before .before .before .before .link .ensures) in omega arith
+loop-less c =
+    let done = c .before .before .before .before in
+    omega (arith, linked-on (done .link .ensures), begun done .before .before .before .if1 .taken)
 
 loop-again : tie.Need-loop-again Inv-loop μ-loop
 loop-again c =
-    let start = c .before .before .before .before .before .before .before .before .before .before .before .before .before .before .before .before in
-    let at = c .before .before .before .before .before .before .before .before .before .before .before .before .loop in
-    let s = start .args .file .now in
-    let h = start .args .h in
-    let l = c .before .before .before .before .before .before .before .before .before .before .if1 .taken in
-    let done = c .before .before .before .before .link in
-    subst (λ (a : Arc). Linking s h (start .args .head .now) (start .args .next .now) (done .last .1 .1 .1 .1 .1 .1 .1 .0) (done .last .1 .1 .1 .1 .1 .1 .1 .1 .0) (a .transition) (c .before .before .before .before .before .before .before .begin .result) (done .result)) (sym (c .before .before .before .before .before .before .before .before .arc .ensures .0))
-    (linking-more s h (start .pre .0) _ _ _ _ _ _ _ (at .inv) l (start .pre .1 .0 .0) (start .pre .1 .0 .1) _ (start-at (c .before .before .before .before .before .before .before)) _ _ (search needs) (search needs) _
-    (subst (λ (a : Arc). Linked s (h .arcstart) (h .arcs) (at .j) (c .before .before .before .before .before .before .before .begin .result) (a .place) (a .direction) (at .head) (at .next) (done .last .1 .1 .1 .1 .1 .1 .1 .0) (done .last .1 .1 .1 .1 .1 .1 .1 .1 .0) (done .result)) (c .before .before .before .before .before .before .before .before .arc .ensures .0) (done .ensures)))
+    let done = c .before .before .before .before in
+    next-at (begun done) .more _ _ (search needs) (search needs) _ (done .link .ensures)
 
 same-length : tie.Need-same-length Inv-loop μ-loop
 same-length c = c .before .before .loop .inv .head-long
@@ -73,7 +71,10 @@ same-length-2 : tie.Need-same-length-2 Inv-loop μ-loop
 same-length-2 c = c .before .before .loop .inv .next-long
 
 returns : tie.Need-returns Inv-loop μ-loop
-returns c = let start = c .before .before .before .before .before .before in linking-end _ _ _ _ _ _ _ _ _ (c .before .before .loop .inv) (c .if1 .left) (start .pre .1 .0 .0) (start .pre .1 .0 .1)
+returns c =
+    let t = c .before .before in
+    let s = call t in
+    linking-end _ _ _ _ _ _ _ _ _ (t .loop .inv) (c .if1 .left) (s .pre .1 .0 .0) (s .pre .1 .0 .1)
 
 pub index-spec : {M : Type 1} → statement M
 index-spec =

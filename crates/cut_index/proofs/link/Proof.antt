@@ -84,7 +84,10 @@ add-link-arc : tie.Need-add-link-arc
 add-link-arc c = search needs
 
 link-arc-requires : tie.Need-link-arc-requires
-link-arc-requires c κs = let x = c .before .before .before .before .before .before .before .before .before .pre .0 in (omega (arith, x .stands .few, x .stands .some), search needs, search needs, search needs)
+link-arc-requires c κs =
+    let other = c .before .before .before .before in
+    let room = other .before .before .before .before .before .pre .0 in
+    (omega (arith, room .stands .few, room .stands .some), search needs, search needs, search needs)
 
 add-result-2 : tie.Need-add-result-2
 add-result-2 c = search needs

@@ -5,6 +5,17 @@ use lib.ListN.{length, length-set}
 use Rattle.cut_index.proofs.link_groups.Statement.{statement}
 use Rattle.cut_index.proofs.link_groups.Tie as tie
 
+-- ---- the states: both groups summed, then the one that gives not the lighter, then not as heavy
+
+abbrev call : tie.After-group2 → tie.Start
+call c = c .before .before .before .before .before .before
+
+abbrev summed : tie.Else1 → tie.After-group2
+summed c = c .before .before .before
+
+abbrev not-less : tie.Else2 → tie.Else1
+not-less c = c .before .before .before .before
+
 mul-i : tie.Need-mul-i
 mul-i c = search needs
 
@@ -30,8 +41,9 @@ group-requires-2 c κs = c .before .before .before .before .before .pre .0 .stan
 
 returns : tie.Need-returns
 returns c =
-    let taken = c .before .before .before .before .group in
-    let given = c .before .before .before .group2 in
+    let sums = c .before .before .before in
+    let taken = sums .before .group in
+    let given = sums .group2 in
     record {
       own = given .ensures .0;
       until = taken .result .end;
@@ -61,8 +73,9 @@ same-length c = search needs
 
 returns-2 : tie.Need-returns-2
 returns-2 c =
-    let taken = c .before .before .before .before .before .before .before .before .group in
-    let given = c .before .before .before .before .before .before .before .group2 in
+    let sums = summed (c .before .before .before .before) in
+    let taken = sums .before .group in
+    let given = sums .group2 in
     record {
       own = given .ensures .0;
       until = taken .result .end;
@@ -79,7 +92,9 @@ add-link-arc : tie.Need-add-link-arc
 add-link-arc c = search needs
 
 link-arc-requires : tie.Need-link-arc-requires
-link-arc-requires c κs = let x = c .before .before .before .before .before .before .before .before .before .before .before .before .before .before .before .pre .0 in (omega (arith, x .stands .few, x .stands .some), search needs, search needs, search needs)
+link-arc-requires c κs =
+    let stands = call (summed (not-less (c .before .before))) .pre .0 .stands in
+    (omega (arith, stands .few, stands .some), search needs, search needs, search needs)
 
 same-length-2 : tie.Need-same-length-2
 same-length-2 c = ap length (c .before .before .before .before .link-arc .ensures .head-is) ∙ simp length-set
@@ -89,14 +104,16 @@ same-length-3 c = search needs
 
 returns-3 : tie.Need-returns-3
 returns-3 c =
-    let taken = c .before .before .before .before .before .before .before .before .before .before .before .before .before .before .before .group in
-    let given = c .before .before .before .before .before .before .before .before .before .before .before .before .before .before .group2 in
+    let more = c .before .before .before .before .before .before .before in
+    let sums = summed (not-less more) in
+    let taken = sums .before .group in
+    let given = sums .group2 in
     record {
       own = given .ensures .0;
       until = taken .result .end;
       group = taken .ensures .0;
-      less = λ l. absurd (omega (arith, l, c .before .before .before .before .before .before .before .before .before .before .before .if1 .left, taken .ensures .1, given .ensures .1));
-      level = λ e. absurd (c .before .before .before .before .before .before .before .if2 .left (taken .ensures .1 ∙ e ∙ sym (given .ensures .1)));
+      less = λ l. absurd (omega (arith, l, not-less more .if1 .left, taken .ensures .1, given .ensures .1));
+      level = λ e. absurd (more .if2 .left (taken .ensures .1 ∙ e ∙ sym (given .ensures .1)));
       more = λ l. c .before .before .before .before .link-arc .ensures;
     }
 
