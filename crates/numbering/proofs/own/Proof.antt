@@ -19,6 +19,14 @@ Inv-loop file start count table₀ i₀ table i = (i ≤ count) × (length table
 abbrev μ-loop : tie.MeasureT-loop
 μ-loop file start count table₀ i₀ table i = count - i
 
+-- ---- the states: the call, the head of a turn
+
+abbrev call : tie.At-loop Inv-loop μ-loop → tie.Start Inv-loop μ-loop
+call c = c .before .before .before .before .before .before .before
+
+abbrev turn-of : tie.After-put Inv-loop μ-loop → tie.In-loop Inv-loop μ-loop
+turn-of c = c .before .before .before
+
 clear-requires : tie.Need-clear-requires Inv-loop μ-loop
 clear-requires c κs = search needs
 
@@ -51,15 +59,13 @@ loop-less c = search needs
 
 loop-again : tie.Need-loop-again Inv-loop μ-loop
 loop-again c =
-    let at = c .before .before .before .before .before .before .loop in
-    let a = c .before .before .before .before .before .before .before .before .before .before .before .before .before .args in
-    let pre = c .before .before .before .before .before .before .before .before .before .before .before .before .before .pre in
-    let long = length-words (now (a .file)) (a .start) (a .count) in (
-      search needs,
-      c .before .before .put .kept .0 ∙ at .inv .1,
-      own-next _ (pre .rise) (at .i) (omega (arith, long)) (at .inv .2)
-          (c .before .before .before .before .get16 .ensures .0 ∙ sym (words-at _ _ _ _ (c .before .before .before .before .before .loop-test .taken))) (c .before .before .put .ensures),
-    )
+    let put = c .before .before in
+    let t = turn-of put in
+    let at = t .before .loop in
+    let s = call (t .before) in
+    let long = length-words (now (s .args .file)) (s .args .start) (s .args .count) in
+    let origin = put .before .before .get16 .ensures .0 ∙ sym (words-at _ _ _ _ (t .loop-test .taken)) in
+    (search needs, put .put .kept .0 ∙ at .inv .1, own-next _ (s .pre .rise) (at .i) (omega (arith, long)) (at .inv .2) origin (put .put .ensures))
 
 same-length : tie.Need-same-length Inv-loop μ-loop
 same-length c = search needs
@@ -67,7 +73,7 @@ same-length c = search needs
 returns : tie.Need-returns Inv-loop μ-loop
 returns c =
     let at = c .before .loop in
-    let a = c .before .before .before .before .before .before .before .before .args in
+    let a = call (c .before) .args in
     let words = wordsFrom (now (a .file)) (a .start) (a .count) in
     let all = length-words (now (a .file)) (a .start) (a .count) in (
       at .inv .1 ∙ c .before .before .before .before .clear .ensures .0,

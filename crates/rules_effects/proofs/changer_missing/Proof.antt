@@ -9,14 +9,34 @@ use Rattle.rules_effects.proofs.Limits.{criterion-fits, first-changer}
 use Rattle.rules_effects.proofs.changer_missing.Statement.{statement}
 use Rattle.rules_effects.proofs.changer_missing.Tie as tie
 
+-- ---- the states: the plan's bytes known, the limits cleared, those of the criterion set
+
+abbrev bytes-of : tie.After-unlimited → tie.After-shared-slice-known
+bytes-of c =
+    let lent = c .before .before in
+    lent .before .before .before .before .before .before .before
+
+abbrev call : tie.After-unlimited → tie.Start
+call c = bytes-of c .before
+
+abbrev cleared : tie.After-limit-criterion → tie.After-unlimited
+cleared c = c .before .before .before .before
+
 unlimited-requires : tie.Need-unlimited-requires
 unlimited-requires c κs = search needs
 
 limit-criterion-requires : tie.Need-limit-criterion-requires
-limit-criterion-requires c κs = let s = c .before .before .before .before .before .before .before .before .before .before .before .before .before in criterion-fits _ _ (s .pre .1 .0) _ (omega (arith, s .pre .1 .1 .0 .reached, s .pre .1 .1 .1, c .before .before .before .unlimited .kept .0))
+limit-criterion-requires c κs =
+    let clear = c .before .before .before in
+    let s = call clear in
+    criterion-fits _ _ (s .pre .1 .0) _ (omega (arith, s .pre .1 .1 .0 .reached, s .pre .1 .1 .1, clear .unlimited .kept .0))
 
 first-mover-requires : tie.Need-first-mover-requires
-first-mover-requires c κs = let s = c .before .before .before .before .before .before .before .before .before .before .before .before .before .before .before .before .before .before in (s .pre .0, (s .pre .1 .1 .0, c .before .before .before .before .limit-criterion .kept .1 .0 ∙ c .before .before .before .before .before .before .before .before .unlimited .kept .0 ∙ s .pre .1 .1 .1))
+first-mover-requires c κs =
+    let limited = c .before .before .before .before in
+    let clear = cleared limited in
+    let s = call clear in
+    (s .pre .0, (s .pre .1 .1 .0, limited .limit-criterion .kept .1 .0 ∙ clear .unlimited .kept .0 ∙ s .pre .1 .1 .1))
 
 same-length : tie.Need-same-length
 same-length c = search needs
@@ -26,13 +46,16 @@ same-length-2 c = search needs
 
 returns : tie.Need-returns
 returns c =
-    let s = c .before .before .before .before .before .before .before .before .before .before .before .before .before .before .before .before .before .before .before .before .before in
-    let u = c .before .before .before .before .before .before .before .before .before .before .before .unlimited in
-    let in-limit : (p : ℕ) → p < s .args .hp .places → p < length (u .last .0) = λ p l. omega (arith, s .pre .1 .1 .0 .reached, s .pre .1 .1 .1, u .kept .0) in (
-      first-changer _ _ _ _ _ _ _ (s .pre .0) (λ i. omega (arith, c .before .before .before .before .before .before .before .before .before .before .before .before .before .before .before .before .before .before .before .before .shared-slice-known .given i)) _ (s .args .criterion .now) (s .pre .1 .0)
-          (λ p l. c .before .before .before .before .before .before .before .limit-criterion .ensures p (in-limit p l) ∙ ap (limitOn (among p (s .args .criterion .now)) 0) (u .ensures p (in-limit p l)))
-          _ (c .before .before .first-mover .ensures .0),
-      c .before .before .first-mover .ensures .1,
+    let found = c .before .before .first-mover .ensures in
+    let limited = c .before .before .before .before .before .before .before in
+    let clear = cleared limited in
+    let s = call clear in
+    let Q = s .args .criterion .now in
+    let in-limit : (p : ℕ) → p < s .args .hp .places → p < length (clear .unlimited .last .0) = λ p l. omega (arith, s .pre .1 .1 .0 .reached, s .pre .1 .1 .1, clear .unlimited .kept .0) in (
+      first-changer _ _ _ _ _ _ _ (s .pre .0) (λ i. omega (arith, bytes-of clear .shared-slice-known .given i)) _ Q (s .pre .1 .0)
+          (λ p l. limited .limit-criterion .ensures p (in-limit p l) ∙ ap (limitOn (among p Q) 0) (clear .unlimited .ensures p (in-limit p l)))
+          _ (found .0),
+      found .1,
     )
 
 pub changer-missing-spec : {M : Type 1} → statement M

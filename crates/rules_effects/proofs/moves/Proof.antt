@@ -4,10 +4,21 @@ use Rattle.rules_effects.proofs.Moving.{Turn, turn}
 use Rattle.rules_effects.proofs.moves.Statement.{statement}
 use Rattle.rules_effects.proofs.moves.Tie as tie
 
+-- ---- the states: the starts known, what is taken gone, what is given added
+
+abbrev call : tie.After-entry3 → tie.Start
+call c = c .before .before .before .before .before .before .before
+
+abbrev starts-of : tie.After-take → tie.After-entry3
+starts-of c = c .before .before
+
+abbrev taken-of : tie.After-give → tie.After-take
+taken-of c = c .before .before .before .before
+
 -- where the arcs of t stand
-turn-at : (c : tie.After-entry3) → let s = c .before .before .before .before .before .before .before in Turn (s .args .plan .now) (s .args .hp) (s .args .t) (c .before .before .entry .result) (c .before .entry2 .result) (c .entry3 .result) (s .args .limit .now) (s .args .column .now)
+turn-at : (c : tie.After-entry3) → let s = call c in Turn (s .args .plan .now) (s .args .hp) (s .args .t) (c .before .before .entry .result) (c .before .entry2 .result) (c .entry3 .result) (s .args .limit .now) (s .args .column .now)
 turn-at c =
-    let s = c .before .before .before .before .before .before .before in
+    let s = call c in
     turn _ _ _ (s .pre .0) (s .pre .1 .0) (λ i. omega (arith, c .before .before .before .before .before .before .shared-slice-known .given i)) _ (s .pre .1 .1 .1 .1) _ _ _
     (c .before .before .entry .ensures .0) (c .before .entry2 .ensures .0) (c .entry3 .ensures .0) _ (s .pre .1 .1 .0) _ (s .pre .1 .1 .1 .0)
 
@@ -39,16 +50,25 @@ take-requires : tie.Need-take-requires
 take-requires c κs = turn-at (c .before) .taking
 
 give-requires : tie.Need-give-requires
-give-requires c κs = turn-at (c .before .before .before .before .before) .giving _ (c .before .before .before .take .ensures)
+give-requires c κs =
+    let taken = c .before .before .before in
+    turn-at (starts-of taken) .giving _ (taken .take .ensures)
 
 pulled-requires : tie.Need-pulled-requires
-pulled-requires c κs = turn-at (c .before .before .before .before .before .before .before .before .before) .pulling _ (c .before .before .before .before .before .before .before .take .ensures) _ (c .before .before .before .give .ensures)
+pulled-requires c κs =
+    let given = c .before .before .before in
+    let taken = taken-of given in
+    turn-at (starts-of taken) .pulling _ (taken .take .ensures) _ (given .give .ensures)
 
 same-length : tie.Need-same-length
 same-length c = search needs
 
 returns : tie.Need-returns
-returns c = turn-at (c .before .before .before .before .before .before .before .before .before .before .before .before) .answer _ (c .before .before .before .before .before .before .before .before .before .before .take .ensures) _ (c .before .before .before .before .before .before .give .ensures) _ _ (c .before .before .pulled .ensures .0) (c .before .before .pulled .ensures .1)
+returns c =
+    let pulled = c .before .before in
+    let given = pulled .before .before .before .before in
+    let taken = taken-of given in
+    turn-at (starts-of taken) .answer _ (taken .take .ensures) _ (given .give .ensures) _ _ (pulled .pulled .ensures .0) (pulled .pulled .ensures .1)
 
 pub moves-spec : {M : Type 1} → statement M
 moves-spec =

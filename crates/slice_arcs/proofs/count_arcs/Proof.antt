@@ -18,15 +18,29 @@ Inv-loop plan start count places transitions total₀ j₀ total j =
 abbrev μ-loop : tie.MeasureT-loop
 μ-loop plan start count places transitions total₀ j₀ total j = count - j
 
--- the arc's transition and its place have entries
-transition-known : (c : tie.After-arc Inv-loop μ-loop) → c .arc .result .transition < length (c .before .before .before .before .before .before .args .transitions .now)
-transition-known c = omega (arith, ap (λ (a : Arc). a .transition) (c .arc .ensures .0), c .before .before .before .before .before .before .pre .transitions-known (c .before .before .loop .j) (c .before .loop-test .taken))
+-- ---- the states: the call, the head of a turn, its arc read
 
-place-known : (c : tie.After-arc Inv-loop μ-loop) → c .arc .result .place < length (c .before .before .before .before .before .before .args .places .now)
-place-known c = omega (arith, ap (λ (a : Arc). a .place) (c .arc .ensures .0), c .before .before .before .before .before .before .pre .places-known (c .before .before .loop .j) (c .before .loop-test .taken))
+abbrev call : tie.At-loop Inv-loop μ-loop → tie.Start Inv-loop μ-loop
+call c = c .before .before .before .before
+
+abbrev Read : Type 0
+Read = tie.After-arc Inv-loop μ-loop
+
+abbrev turn-of : Read → tie.At-loop Inv-loop μ-loop
+turn-of c = c .before .before
+
+-- the arc's transition and its place have entries
+transition-known : (c : Read) → c .arc .result .transition < length (call (turn-of c) .args .transitions .now)
+transition-known c = omega (arith, ap (λ (a : Arc). a .transition) (c .arc .ensures .0), call (turn-of c) .pre .transitions-known (turn-of c .loop .j) (c .before .loop-test .taken))
+
+place-known : (c : Read) → c .arc .result .place < length (call (turn-of c) .args .places .now)
+place-known c = omega (arith, ap (λ (a : Arc). a .place) (c .arc .ensures .0), call (turn-of c) .pre .places-known (turn-of c .loop .j) (c .before .loop-test .taken))
 
 loop-holds : tie.Need-loop-holds Inv-loop μ-loop
-loop-holds c = (omega arith, omega arith, omega (arith, ap (λ (l : List Arc). length (keptArcs (c .before .before .before .args .places .now) (c .before .before .before .args .transitions .now) l)) (arcs-all (c .before .before .before .args .plan .now) (c .before .before .before .args .start) (c .before .before .before .args .count))))
+loop-holds c =
+    let args = c .before .before .before .args in
+    let all = arcs-all (args .plan .now) (args .start) (args .count) in
+    (omega arith, omega arith, omega (arith, ap (λ (l : List Arc). length (keptArcs (args .places .now) (args .transitions .now) l)) all))
 
 mul-arc : tie.Need-mul-arc Inv-loop μ-loop
 mul-arc c = search needs
@@ -63,19 +77,21 @@ loop-less c = search needs
 
 loop-again : tie.Need-loop-again Inv-loop μ-loop
 loop-again c =
-    let start = c .before .before .before .before .before .before .before .before .before in
-    let at = c .before .before .before .before .before .loop in
-    let arc = c .before .before .before .arc in (
+    let a = c .before .before .before in
+    let arc = a .arc .result in
+    let at = turn-of a .loop in
+    let args = call (turn-of a) .args in
+    let next = next-count (args .plan .now) (args .start) (args .places .now) (args .transitions .now) (at .j) (args .count) arc (a .arc .ensures .0) (a .before .loop-test .taken) in (
       omega arith,
       omega (arith, c .one-if-kept .ensures .0, at .inv .1),
-      omega (arith, at .inv .2, c .one-if-kept .ensures .1 (arc .result), next-count (start .args .plan .now) (start .args .start) (start .args .places .now) (start .args .transitions .now) (at .j) (start .args .count) (arc .result) (arc .ensures .0) (c .before .before .before .before .loop-test .taken)),
+      omega (arith, at .inv .2, c .one-if-kept .ensures .1 arc, next),
     )
 
 returns : tie.Need-returns Inv-loop μ-loop
 returns c =
-    let start = c .before .before .before .before .before in
+    let args = call (c .before) .args in
     let at = c .before .loop in
-    omega (arith, at .inv .2, ap length (none-left (start .args .plan .now) (start .args .start) (start .args .places .now) (start .args .transitions .now) (at .j) (start .args .count) (c .loop-test .left)))
+    omega (arith, at .inv .2, ap length (none-left (args .plan .now) (args .start) (args .places .now) (args .transitions .now) (at .j) (args .count) (c .loop-test .left)))
 
 pub count-arcs-spec : {M : Type 1} → statement M
 count-arcs-spec =

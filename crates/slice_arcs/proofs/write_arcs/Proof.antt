@@ -20,15 +20,31 @@ Inv-loop plan start count places transitions first buffer₀ at₀ j₀ buffer a
 abbrev μ-loop : tie.MeasureT-loop
 μ-loop plan start count places transitions first buffer₀ at₀ j₀ buffer at j = count - j
 
--- the arc's transition and its place have entries
-transition-known : (c : tie.After-arc Inv-loop μ-loop) → c .arc .result .transition < length (c .before .before .before .before .before .before .before .args .transitions .now)
-transition-known c = omega (arith, ap (λ (a : Arc). a .transition) (c .arc .ensures .0), c .before .before .before .before .before .before .before .pre .0 .transitions-known (c .before .before .loop .j) (c .before .loop-test .taken))
+-- ---- the states: the call, the head of a turn, its arc read
 
-place-known : (c : tie.After-arc Inv-loop μ-loop) → c .arc .result .place < length (c .before .before .before .before .before .before .before .args .places .now)
-place-known c = omega (arith, ap (λ (a : Arc). a .place) (c .arc .ensures .0), c .before .before .before .before .before .before .before .pre .0 .places-known (c .before .before .loop .j) (c .before .loop-test .taken))
+abbrev call : tie.At-loop Inv-loop μ-loop → tie.Start Inv-loop μ-loop
+call c = c .before .before .before .before .before
+
+abbrev Read : Type 0
+Read = tie.After-arc Inv-loop μ-loop
+
+abbrev turn-of : Read → tie.At-loop Inv-loop μ-loop
+turn-of c = c .before .before
+
+abbrev read : tie.After-write-arc-arg Inv-loop μ-loop → Read
+read c = c .before .before .before
+
+-- the arc's transition and its place have entries
+transition-known : (c : Read) → c .arc .result .transition < length (call (turn-of c) .args .transitions .now)
+transition-known c = omega (arith, ap (λ (a : Arc). a .transition) (c .arc .ensures .0), call (turn-of c) .pre .0 .transitions-known (turn-of c .loop .j) (c .before .loop-test .taken))
+
+place-known : (c : Read) → c .arc .result .place < length (call (turn-of c) .args .places .now)
+place-known c = omega (arith, ap (λ (a : Arc). a .place) (c .arc .ensures .0), call (turn-of c) .pre .0 .places-known (turn-of c .loop .j) (c .before .loop-test .taken))
 
 loop-holds : tie.Need-loop-holds Inv-loop μ-loop
-loop-holds c = (search needs, writing-as (writing-all _ _ _) (ap (λ (l : List Arc). arcsBytes (keptArcs (c .before .before .before .before .args .places .now) (c .before .before .before .before .args .transitions .now) l)) (arcs-all (c .before .before .before .before .args .plan .now) (c .before .before .before .before .args .start) (c .before .before .before .before .args .count))))
+loop-holds c =
+    let args = c .before .before .before .before .args in
+    (search needs, writing-as (writing-all _ _ _) (ap (λ (l : List Arc). arcsBytes (keptArcs (args .places .now) (args .transitions .now) l)) (arcs-all (args .plan .now) (args .start) (args .count))))
 
 mul-arc : tie.Need-mul-arc Inv-loop μ-loop
 mul-arc c = search needs
@@ -53,9 +69,9 @@ shared-slice-read-write-arc-2 c = place-known (c .before .before)
 
 write-arc-requires : tie.Need-write-arc-requires Inv-loop μ-loop
 write-arc-requires c κs =
-    let start = c .before .before .before .before .before .before .before .before .before .before in
-    let at = c .before .before .before .before .before .loop in
-    (c .before .before .before .arc .ensures .1 .direction, omega (arith, at .inv .1 .long, at .inv .1 .count, start .pre .1))
+    let a = read c in
+    let t = turn-of a in
+    (a .arc .ensures .1 .direction, omega (arith, t .loop .inv .1 .long, t .loop .inv .1 .count, call t .pre .1))
 
 add-j : tie.Need-add-j Inv-loop μ-loop
 add-j c = search needs
@@ -65,23 +81,24 @@ loop-less c = search needs
 
 loop-again : tie.Need-loop-again Inv-loop μ-loop
 loop-again c =
-    let start = c .before .before .before .before .before .before .before .before .before .before .before .before .before in
-    let at = c .before .before .before .before .before .before .before .before .loop in
-    let arc = c .before .before .before .before .before .before .arc in
-    let call = c .before .before .write-arc in
-    let next = next-bytes (start .args .plan .now) (start .args .start) (start .args .places .now) (start .args .transitions .now) (at .j) (start .args .count) (arc .result) (arc .ensures .0) (c .before .before .before .before .before .before .before .loop-test .taken) in (
-      omega arith,
-      writing-arc (getD (start .args .transitions .now) (arc .result .transition) 0) (getD (start .args .places .now) (arc .result .place) 0) (arc .result) _ _ _ (writing-as (at .inv .1) next) (call .ensures .1) (call .ensures .0),
-    )
+    let put = c .before .before in
+    let a = read (put .before) in
+    let arc = a .arc .result in
+    let at = turn-of a .loop in
+    let args = call (turn-of a) .args in
+    let ps = args .places .now in
+    let ts = args .transitions .now in
+    let next = next-bytes (args .plan .now) (args .start) ps ts (at .j) (args .count) arc (a .arc .ensures .0) (a .before .loop-test .taken) in
+    (omega arith, writing-arc (getD ts (arc .transition) 0) (getD ps (arc .place) 0) arc _ _ _ (writing-as (at .inv .1) next) (put .write-arc .ensures .1) (put .write-arc .ensures .0))
 
 same-length : tie.Need-same-length Inv-loop μ-loop
 same-length c = c .before .loop .inv .1 .long
 
 returns : tie.Need-returns Inv-loop μ-loop
 returns c =
-    let start = c .before .before .before .before .before .before in
+    let args = call (c .before) .args in
     let at = c .before .loop in
-    written (writing-as (at .inv .1) (no-bytes (none-left (start .args .plan .now) (start .args .start) (start .args .places .now) (start .args .transitions .now) (at .j) (start .args .count) (c .loop-test .left))))
+    written (writing-as (at .inv .1) (no-bytes (none-left (args .plan .now) (args .start) (args .places .now) (args .transitions .now) (at .j) (args .count) (c .loop-test .left))))
 
 pub write-arcs-spec : {M : Type 1} → statement M
 write-arcs-spec =

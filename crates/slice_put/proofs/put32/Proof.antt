@@ -21,9 +21,10 @@ same-length c = search needs
 returns : tie.Need-returns
 unfolding bytes32 bytes16
 returns c =
-    let args = c .before .before .before .before .before .before .before .before .before .args in
-    sets-after (bytes16 (args .n)) (bytes16 (args .n / 65536)) (args .s .now) (args .at) (args .at + 2)
-    (c .before .before .before .before .before .before .put16 .ensures) (c .before .before .put162 .ensures) (omega arith)
+    let high = c .before .before in
+    let low = high .before .before .before .before in
+    let args = low .before .before .before .args in
+    sets-after (bytes16 (args .n)) (bytes16 (args .n / 65536)) (args .s .now) (args .at) (args .at + 2) (low .put16 .ensures) (high .put162 .ensures) (omega arith)
 
 pub put32-spec : {M : Type 1} → statement M
 put32-spec = tie.close (tie.spec put16-requires add-put16 put16-requires-2 same-length returns)

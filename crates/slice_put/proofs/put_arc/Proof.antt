@@ -37,20 +37,24 @@ same-length c = search needs
 returns : tie.Need-returns
 unfolding arcBytes bytes16
 returns c =
-    let start = c .before .before .before .before .before .before .before .before .before .before .before .before .before .before .before .before .before in
+    let weight = c .before .before in
+    let place = weight .before .before .before .before in
+    let direction = place .before .before .before .before in
+    let transition = direction .before .before .before .before in
+    let start = transition .before .before .before in
     let s = start .args .s .now in
     let at = start .args .at in
     let a = start .args .a in
     let low : a .direction % 256 ≡ a .direction = omega (arith, start .pre .1) in
     let high : a .direction / 256 % 256 ≡ 0 = omega (arith, start .pre .1) in
     let same : bytes16 (a .direction) ≡ a .direction ∷ 0 ∷ [] = λ i. low i ∷ high i ∷ [] in
-    let second = c .before .before .before .before .before .before .before .before .before .before .put162 .ensures ∙ ap (λ (l : List ℕ). sets (c .before .before .before .before .before .before .before .before .before .before .before .before .before .before .put16 .last .0) (at + 2) l) same in
+    let second = direction .put162 .ensures ∙ ap (λ (l : List ℕ). sets (transition .put16 .last .0) (at + 2) l) same in
     let T = bytes16 (a .transition) in
     let D : List ℕ = a .direction ∷ 0 ∷ [] in
     let P = bytes16 (a .place) in
     sets-after (T ++ D ++ P) (bytes16 (a .weight)) s at (at + 6)
-    (sets-after (T ++ D) P s at (at + 4) (sets-after T D s at (at + 2) (c .before .before .before .before .before .before .before .before .before .before .before .before .before .before .put16 .ensures) second (omega arith)) (c .before .before .before .before .before .before .put163 .ensures) (omega arith))
-    (c .before .before .put164 .ensures) (omega arith)
+    (sets-after (T ++ D) P s at (at + 4) (sets-after T D s at (at + 2) (transition .put16 .ensures) second (omega arith)) (place .put163 .ensures) (omega arith))
+    (weight .put164 .ensures) (omega arith)
 
 pub put-arc-spec : {M : Type 1} → statement M
 put-arc-spec =
