@@ -1,8 +1,9 @@
 use borrow.Author.Needs.{needs}
-use Prim.Native.Nat.{_-_, _*_, _≤_}
+use Prim.Native.Nat.{ℕ, _-_, _*_, _≤_}
 use mathlib.Core.Path.{_≡_, ap, _∙_}
 use native.Mathlib.Omega.{arith}
 use lib.ListN.{length, getD}
+use lib.Seq.{sets}
 use Rattle.file.specs.Layout.{netFrom}
 use Rattle.file.specs.Word.{bytes32}
 use Rattle.file.proofs.Bytes.{length-32}
@@ -20,6 +21,14 @@ Inv-loop plan h ps buffer₀ i₀ buffer i =
 abbrev μ-loop : tie.MeasureT-loop
 μ-loop plan h ps buffer₀ i₀ buffer i = length ps - i
 
+-- ---- the states: the call, the head of a turn, a marking put
+
+abbrev call : tie.At-loop Inv-loop μ-loop → tie.Start Inv-loop μ-loop
+call c = c .before .before .before .before
+
+abbrev turn-of : tie.After-put32-arg Inv-loop μ-loop → tie.In-loop Inv-loop μ-loop
+turn-of c = c .before .before .before
+
 loop-holds : tie.Need-loop-holds Inv-loop μ-loop
 loop-holds c =
     let args = c .before .before .before .args in
@@ -36,13 +45,20 @@ cast-p : tie.Need-cast-p Inv-loop μ-loop
 cast-p c = omega (arith, c .shared-slice-known3 .given (c .before .before .loop .i))
 
 marking-requires : tie.Need-marking-requires Inv-loop μ-loop
-marking-requires c κs = (c .before .before .before .before .before .before .pre .0, c .before .before .before .before .before .before .pre .1 .0 (c .before .before .loop .i) (c .before .loop-test .taken))
+marking-requires c κs =
+    let t = c .before in
+    let s = call (t .before) in
+    (s .pre .0, s .pre .1 .0 (t .before .loop .i) (t .loop-test .taken))
 
 mul-put32 : tie.Need-mul-put32 Inv-loop μ-loop
-mul-put32 c = omega (arith, c .before .before .before .before .before .before .before .before .pre .1 .1, c .before .before .before .loop-test .taken)
+mul-put32 c =
+    let t = turn-of c in
+    omega (arith, call (t .before) .pre .1 .1, t .loop-test .taken)
 
 put32-requires : tie.Need-put32-requires Inv-loop μ-loop
-put32-requires c κs = omega (arith, c .before .before .before .before .before .before .before .before .pre .1 .1, c .before .before .before .loop-test .taken, c .before .before .before .before .loop .inv .1 .long)
+put32-requires c κs =
+    let t = turn-of c in
+    omega (arith, call (t .before) .pre .1 .1, t .loop-test .taken, t .before .loop .inv .1 .long)
 
 add-i : tie.Need-add-i Inv-loop μ-loop
 add-i c = search needs
@@ -52,24 +68,26 @@ loop-less c = search needs
 
 loop-again : tie.Need-loop-again Inv-loop μ-loop
 loop-again c =
-    let start = c .before .before .before .before .before .before .before .before .before .before .before in
-    let at = c .before .before .before .before .before .before .before .loop in
-    let call = c .before .before .put32 in
-    let M = netFrom (start .args .plan .now) (start .args .h) .marking in
-    let p = getD (start .args .ps .now) (at .i) 0 in
-    let next = markings-next (λ k. M (getD (start .args .ps .now) k 0)) (at .i) (length (start .args .ps .now)) (c .before .before .before .before .before .before .loop-test .taken) in (
-      omega arith,
-      storing-part (bytes32 (M p)) _ _ _ (storing-as (at .inv .1) next) (call .ensures ∙ rw (c .before .before .before .before .marking .ensures .0)) (omega (arith, length-32 (M p))),
-    )
+    let put = c .before .before in
+    let t = turn-of (put .before) in
+    let at = t .before .loop in
+    let s = call (t .before) in
+    let M = netFrom (s .args .plan .now) (s .args .h) .marking in
+    let ps = s .args .ps .now in
+    let p = getD ps (at .i) 0 in
+    let next = markings-next (λ k. M (getD ps k 0)) (at .i) (length ps) (t .loop-test .taken) in
+    let stored = put .put32 .ensures ∙ ap (λ (m : ℕ). sets (at .buffer) (4 * at .i) (bytes32 m)) (put .before .before .marking .ensures .0) in
+    (omega arith, storing-part (bytes32 (M p)) _ _ _ (storing-as (at .inv .1) next) stored (omega (arith, length-32 (M p))))
 
 same-length : tie.Need-same-length Inv-loop μ-loop
 same-length c = c .before .loop .inv .1 .long
 
 returns : tie.Need-returns Inv-loop μ-loop
 returns c =
-    let start = c .before .before .before .before .before in
+    let s = call (c .before) in
     let at = c .before .loop in
-    storing-none (storing-as (at .inv .1) (markings-end (λ k. netFrom (start .args .plan .now) (start .args .h) .marking (getD (start .args .ps .now) k 0)) (at .i) (length (start .args .ps .now)) (c .loop-test .left)))
+    let ps = s .args .ps .now in
+    storing-none (storing-as (at .inv .1) (markings-end (λ k. netFrom (s .args .plan .now) (s .args .h) .marking (getD ps k 0)) (at .i) (length ps) (c .loop-test .left)))
 
 pub write-markings-spec : {M : Type 1} → statement M
 write-markings-spec =

@@ -18,6 +18,14 @@ Inv-loop list start buffer₀ i₀ buffer i =
 abbrev μ-loop : tie.MeasureT-loop
 μ-loop list start buffer₀ i₀ buffer i = length list - i
 
+-- ---- the states: the call, the head of a turn, an origin put
+
+abbrev call : tie.At-loop Inv-loop μ-loop → tie.Start Inv-loop μ-loop
+call c = c .before .before .before
+
+abbrev turn-of : tie.After-put16 Inv-loop μ-loop → tie.In-loop Inv-loop μ-loop
+turn-of c = c .before .before .before
+
 loop-holds : tie.Need-loop-holds Inv-loop μ-loop
 loop-holds c = (search needs, storing-from (let e : c .before .before .args .start ≡ c .before .before .args .start + 2 * 0 = omega arith in e) (storing-all _ _ _))
 
@@ -37,7 +45,9 @@ cast-put16 : tie.Need-cast-put16 Inv-loop μ-loop
 cast-put16 c = omega (arith, c .shared-slice-known2 .given (c .before .before .before .loop .i))
 
 put16-requires : tie.Need-put16-requires Inv-loop μ-loop
-put16-requires c κs = omega (arith, c .before .before .before .before .before .before .pre, c .before .before .loop-test .taken, c .before .before .before .loop .inv .1 .long)
+put16-requires c κs =
+    let t = c .before .before in
+    omega (arith, call (t .before) .pre, t .loop-test .taken, t .before .loop .inv .1 .long)
 
 add-i : tie.Need-add-i Inv-loop μ-loop
 add-i c = search needs
@@ -47,23 +57,22 @@ loop-less c = search needs
 
 loop-again : tie.Need-loop-again Inv-loop μ-loop
 loop-again c =
-    let start = c .before .before .before .before .before .before .before .before .before in
-    let at = c .before .before .before .before .before .before .loop in
-    let call = c .before .before .put16 in
-    let o = getD (start .args .list .now) (at .i) 0 in
-    let next = origins-next (start .args .list .now) (at .i) (c .before .before .before .before .before .loop-test .taken) in (
-      omega arith,
-      storing-part (bytes16 o) _ _ _ (storing-as (at .inv .1) next) (call .ensures) (omega (arith, length-16 o)),
-    )
+    let put = c .before .before in
+    let t = turn-of put in
+    let at = t .before .loop in
+    let list = call (t .before) .args .list .now in
+    let o = getD list (at .i) 0 in
+    let next = origins-next list (at .i) (t .loop-test .taken) in
+    (omega arith, storing-part (bytes16 o) _ _ _ (storing-as (at .inv .1) next) (put .put16 .ensures) (omega (arith, length-16 o)))
 
 same-length : tie.Need-same-length Inv-loop μ-loop
 same-length c = c .before .loop .inv .1 .long
 
 returns : tie.Need-returns Inv-loop μ-loop
 returns c =
-    let start = c .before .before .before .before in
+    let list = call (c .before) .args .list .now in
     let at = c .before .loop in
-    storing-none (storing-as (at .inv .1) (origins-end (start .args .list .now) (at .i) (omega (arith, at .inv .0, c .loop-test .left))))
+    storing-none (storing-as (at .inv .1) (origins-end list (at .i) (omega (arith, at .inv .0, c .loop-test .left))))
 
 pub write-origins-spec : {M : Type 1} → statement M
 write-origins-spec =

@@ -47,7 +47,13 @@ same-length c = search needs
 returns : tie.Need-returns
 unfolding trailerFor bytes32 bytes16
 returns c =
-    let start = c .before .before .before .before .before .before .before .before .before .before .before .before .before .before .before .before .before .before .before .before .before .before .before .before .before in
+    let magic = c .before .before in
+    let version = magic .before .before .before .before in
+    let arcs = version .before .before .before .before in
+    let transitions = arcs .before .before .before .before in
+    let places = transitions .before .before .before .before in
+    let body = places .before .before .before .before in
+    let start = body .before .before .before in
     let s = start .args .buffer .now in
     let b = start .args .body in
     let B = bytes32 b in
@@ -59,11 +65,11 @@ returns c =
     (sets-after (B ++ P ++ T ++ A) K s b (b + 10)
     (sets-after (B ++ P ++ T) A s b (b + 8)
     (sets-after (B ++ P) T s b (b + 6)
-    (sets-after B P s b (b + 4) (c .before .before .before .before .before .before .before .before .before .before .before .before .before .before .before .before .before .before .before .before .before .before .put32 .ensures) (c .before .before .before .before .before .before .before .before .before .before .before .before .before .before .before .before .before .before .put16 .ensures) (omega arith))
-    (c .before .before .before .before .before .before .before .before .before .before .before .before .before .before .put162 .ensures) (omega arith))
-    (c .before .before .before .before .before .before .before .before .before .before .put163 .ensures) (omega arith))
-    (c .before .before .before .before .before .before .put164 .ensures) (omega arith))
-    (c .before .before .put322 .ensures) (omega arith)
+    (sets-after B P s b (b + 4) (body .put32 .ensures) (places .put16 .ensures) (omega arith))
+    (transitions .put162 .ensures) (omega arith))
+    (arcs .put163 .ensures) (omega arith))
+    (version .put164 .ensures) (omega arith))
+    (magic .put322 .ensures) (omega arith)
 
 pub write-trailer-spec : {M : Type 1} → statement M
 write-trailer-spec =
