@@ -25,7 +25,8 @@ slice-aggregate-lent-outcome-6 c = search needs
 
 lent-outcome-requires : tie.Need-lent-outcome-requires
 lent-outcome-requires c κs =
-    let pre = c .before .before .before .before .before .before .before .before .before .pre in (
+    let lent = c .before .before .before .before .before .before in
+    let pre = lent .before .before .before .pre in (
       pre,
       (
         record {

@@ -25,7 +25,8 @@ slice-aggregate-lent-outcome-6 c = search needs
 
 lent-outcome-requires : tie.Need-lent-outcome-requires
 lent-outcome-requires c κs =
-    let pre = c .before .before .before .before .before .before .before .before .before .pre in (
+    let lent = c .before .before .before .before .before .before in
+    let pre = lent .before .before .before .pre in (
       pre .0,
       (
         record { starts = omega (arith, pre .1 .transitions); runs-start = omega (arith, pre .1 .own); places = pre .1 .places; transitions = pre .1 .transitions },

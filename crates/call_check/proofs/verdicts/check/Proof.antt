@@ -10,11 +10,19 @@ use Rattle.call_check.proofs.Checks.{plan-turned, slice-turned, criteri
 use Rattle.call_check.proofs.verdicts.check.Statement.{statement}
 use Rattle.call_check.proofs.verdicts.check.Tie as tie
 
+-- ---- the states: the plan whole, then the slice
+
+abbrev call : tie.After-first → tie.Start
+call c = c .before .before .before .before .before .before
+
+abbrev plan-of : tie.After-second → tie.After-first
+plan-of c = c .before .before .before .before
+
 -- what is known of the two files from here on
-plan-at : (c : tie.After-first) → Opened due.Plan (c .before .before .before .before .before .before .args .plan .now) (c .first .given .0 .0)
+plan-at : (c : tie.After-first) → Opened due.Plan (call c .args .plan .now) (c .first .given .0 .0)
 plan-at c = opened due.Plan _ (c .before .before .read .ensures) (c .first .given .1)
 
-slice-at : (c : tie.After-second) → Opened due.Slice (c .before .before .before .before .before .before .before .before .before .before .args .slice .now) (c .second .given .0 .0)
+slice-at : (c : tie.After-second) → Opened due.Slice (call (plan-of c) .args .slice .now) (c .second .given .0 .0)
 slice-at c = opened due.Slice _ (c .before .before .read2 .ensures) (c .second .given .1)
 
 read-requires : tie.Need-read-requires
@@ -56,18 +64,22 @@ refusal-requires c κs = search needs
 
 returns-3 : tie.Need-returns-3
 returns-3 c =
-    let e = criterion-turned _ _ _ _ (plan-at (c .before .before .before .before .before .before .before)) _ (slice-at (c .before .before .before)) _ (c .before .refusal .ensures) (c .if1 .taken) in
+    let second = c .before .before .before in
+    let e = criterion-turned _ _ _ _ (plan-at (plan-of second)) _ (slice-at second) _ (c .before .refusal .ensures) (c .if1 .taken) in
     (e, when-accepted _ _ _ e)
 
 judge-requires : tie.Need-judge-requires
 judge-requires c κs =
-    let p = plan-at (c .before .before .before .before .before .before .before) in
-    let s = slice-at (c .before .before .before) in
+    let second = c .before .before .before in
+    let p = plan-at (plan-of second) in
+    let s = slice-at second in
     record { planned = p .good; sliced = s .good; kind = slice-kind _ _ [] _ p _ s; criterion = sym (c .before .refusal .ensures) ∙ c .if1 .left }
 
 returns-4 : tie.Need-returns-4
 returns-4 c =
-    let e = c .judge .ensures ∙ judged _ _ _ _ (plan-at (c .before .before .before .before .before .before .before .before)) _ (slice-at (c .before .before .before .before)) (sym (c .before .before .refusal .ensures) ∙ c .before .if1 .left) in
+    let passed = c .before in
+    let second = passed .before .before .before in
+    let e = c .judge .ensures ∙ judged _ _ _ _ (plan-at (plan-of second)) _ (slice-at second) (sym (passed .before .refusal .ensures) ∙ passed .if1 .left) in
     (e, when-accepted _ _ _ e)
 
 pub check-spec : {M : Type 1} → statement M

@@ -6,11 +6,19 @@ use borrow.Author.Needs.{needs}
 use Rattle.call_firing.proofs.projections.project.Statement.{statement}
 use Rattle.call_firing.proofs.projections.project.Tie as tie
 
+-- ---- the states: the plan whole, then the slice
+
+abbrev call : tie.After-first → tie.Start
+call c = c .before .before .before .before .before .before .before
+
+abbrev plan-of : tie.After-second → tie.After-first
+plan-of c = c .before .before .before .before
+
 -- what is known of the two files from here on
-plan-at : (c : tie.After-first) → Opened due.Plan (c .before .before .before .before .before .before .before .args .plan .now) (c .first .given .0 .0)
+plan-at : (c : tie.After-first) → Opened due.Plan (call c .args .plan .now) (c .first .given .0 .0)
 plan-at c = opened due.Plan _ (c .before .before .read .ensures) (c .first .given .1)
 
-slice-at : (c : tie.After-second) → Opened due.Slice (c .before .before .before .before .before .before .before .before .before .before .before .args .slice .now) (c .second .given .0 .0)
+slice-at : (c : tie.After-second) → Opened due.Slice (call (plan-of c) .args .slice .now) (c .second .given .0 .0)
 slice-at c = opened due.Slice _ (c .before .before .read2 .ensures) (c .second .given .1)
 
 read-requires : tie.Need-read-requires
@@ -50,8 +58,9 @@ returns-2 c =
 
 project-requires : tie.Need-project-requires
 project-requires c κs =
-    let o = plan-at (c .before .before .before .before .before .before) in
-    let s = slice-at (c .before .before) in
+    let second = c .before .before in
+    let o = plan-at (plan-of second) in
+    let s = slice-at second in
     (s .good, slice-kind s, o .good .placed .transitions)
 
 same-length : tie.Need-same-length
@@ -59,9 +68,11 @@ same-length c = search needs
 
 returns-3 : tie.Need-returns-3
 returns-3 c =
-    let o = plan-at (c .before .before .before .before .before .before .before .before .before) in
-    let s = slice-at (c .before .before .before .before .before) in
-    (read-answer _ _ _ _ o s _ _ _ (c .before .before .project .ensures .0), read-output _ _ _ _ o s _ _ _ (c .before .before .project .ensures .1))
+    let second = c .before .before .before .before .before in
+    let o = plan-at (plan-of second) in
+    let s = slice-at second in
+    let projected = c .before .before .project .ensures in
+    (read-answer _ _ _ _ o s _ _ _ (projected .0), read-output _ _ _ _ o s _ _ _ (projected .1))
 
 pub project-spec : {M : Type 1} → statement M
 project-spec =

@@ -9,11 +9,19 @@ use Rattle.call_firing.proofs.ArcRuns.{not-read, plan-refused, slice-re
 use Rattle.call_firing.proofs.runs.arc_part.Statement.{statement}
 use Rattle.call_firing.proofs.runs.arc_part.Tie as tie
 
+-- ---- the states: the plan whole, then the slice
+
+abbrev call : tie.After-first → tie.Start
+call c = c .before .before .before .before .before
+
+abbrev plan-of : tie.After-second → tie.After-first
+plan-of c = c .before .before .before .before
+
 -- what is known of the two files from here on
-plan-at : (c : tie.After-first) → Opened due.Plan (c .before .before .before .before .before .args .plan .now) (c .first .given .0 .0)
+plan-at : (c : tie.After-first) → Opened due.Plan (call c .args .plan .now) (c .first .given .0 .0)
 plan-at c = opened due.Plan _ (c .before .before .read .ensures) (c .first .given .1)
 
-slice-at : (c : tie.After-second) → Opened due.Slice (c .before .before .before .before .before .before .before .before .before .args .slice .now) (c .second .given .0 .0)
+slice-at : (c : tie.After-second) → Opened due.Slice (call (plan-of c) .args .slice .now) (c .second .given .0 .0)
 slice-at c = opened due.Slice _ (c .before .before .read2 .ensures) (c .second .given .1)
 
 read-requires : tie.Need-read-requires
@@ -55,13 +63,14 @@ cast-length c = search needs
 
 returns-3 : tie.Need-returns-3
 returns-3 c =
-    let p = plan-at (c .before .before .before .before .before .before .before .before .before) in
-    let q = slice-at (c .before .before .before .before .before) in
+    let second = c .before .before .before .before .before in
+    let p = plan-at (plan-of second) in
+    let q = slice-at second in
     let r = c .before .before .run-part .ensures in
     rw (c .before .before .before .if1 .taken) (r .start ∙ sym (start-of-slice _ _ _ _ p q _), r .long ∙ sym (ap length (of-slice _ _ _ _ p q _)))
 
 run-part-requires-2 : tie.Need-run-part-requires-2
-run-part-requires-2 c κs = plan-at (c .before .before .before .before .before .before) .good
+run-part-requires-2 c κs = plan-at (plan-of (c .before .before)) .good
 
 cast-start-2 : tie.Need-cast-start-2
 cast-start-2 c = search needs
@@ -71,8 +80,9 @@ cast-length-2 c = search needs
 
 returns-4 : tie.Need-returns-4
 returns-4 c =
-    let p = plan-at (c .before .before .before .before .before .before .before .before .before) in
-    let q = slice-at (c .before .before .before .before .before) in
+    let second = c .before .before .before .before .before in
+    let p = plan-at (plan-of second) in
+    let q = slice-at second in
     let r = c .before .before .run-part2 .ensures in
     rw (c .before .before .before .if1 .left) (r .start ∙ sym (start-of-plan _ _ _ _ p q _), r .long ∙ sym (ap length (of-plan _ _ _ _ p q _)))
 

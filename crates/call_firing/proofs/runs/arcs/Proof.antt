@@ -8,11 +8,19 @@ use Rattle.call_firing.proofs.ArcRuns.{not-read, plan-refused, slice-re
 use Rattle.call_firing.proofs.runs.arcs.Statement.{statement}
 use Rattle.call_firing.proofs.runs.arcs.Tie as tie
 
+-- ---- the states: the plan whole, then the slice
+
+abbrev call : tie.After-first → tie.Start
+call c = c .before .before .before .before .before
+
+abbrev plan-of : tie.After-second → tie.After-first
+plan-of c = c .before .before .before .before
+
 -- what is known of the two files from here on
-plan-at : (c : tie.After-first) → Opened due.Plan (c .before .before .before .before .before .args .plan .now) (c .first .given .0 .0)
+plan-at : (c : tie.After-first) → Opened due.Plan (call c .args .plan .now) (c .first .given .0 .0)
 plan-at c = opened due.Plan _ (c .before .before .read .ensures) (c .first .given .1)
 
-slice-at : (c : tie.After-second) → Opened due.Slice (c .before .before .before .before .before .before .before .before .before .args .slice .now) (c .second .given .0 .0)
+slice-at : (c : tie.After-second) → Opened due.Slice (call (plan-of c) .args .slice .now) (c .second .given .0 .0)
 slice-at c = opened due.Slice _ (c .before .before .read2 .ensures) (c .second .given .1)
 
 read-requires : tie.Need-read-requires
@@ -49,13 +57,17 @@ run-requires : tie.Need-run-requires
 run-requires c κs = slice-at (c .before .before) .good
 
 returns-3 : tie.Need-returns-3
-returns-3 c = rw (c .before .if1 .taken) (c .run .ensures ∙ sym (of-slice _ _ _ _ (plan-at (c .before .before .before .before .before .before .before)) (slice-at (c .before .before .before)) _))
+returns-3 c =
+    let second = c .before .before .before in
+    rw (c .before .if1 .taken) (c .run .ensures ∙ sym (of-slice _ _ _ _ (plan-at (plan-of second)) (slice-at second) _))
 
 run-requires-2 : tie.Need-run-requires-2
-run-requires-2 c κs = plan-at (c .before .before .before .before .before .before) .good
+run-requires-2 c κs = plan-at (plan-of (c .before .before)) .good
 
 returns-4 : tie.Need-returns-4
-returns-4 c = rw (c .before .if1 .left) (c .run2 .ensures ∙ sym (of-plan _ _ _ _ (plan-at (c .before .before .before .before .before .before .before)) (slice-at (c .before .before .before)) _))
+returns-4 c =
+    let second = c .before .before .before in
+    rw (c .before .if1 .left) (c .run2 .ensures ∙ sym (of-plan _ _ _ _ (plan-at (plan-of second)) (slice-at second) _))
 
 pub arcs-spec : {M : Type 1} → statement M
 arcs-spec =

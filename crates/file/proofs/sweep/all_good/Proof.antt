@@ -21,22 +21,37 @@ Inv-loop file places transitions start count room at₀ least₀ left₀ at leas
 abbrev μ-loop : tie.MeasureT-loop
 μ-loop file places transitions start count room at₀ least₀ left₀ at least left = left
 
+-- ---- the states: the call, the head of a turn, a pair that fits, the last arc that fits
+
+abbrev call : tie.At-loop Inv-loop μ-loop → tie.Start Inv-loop μ-loop
+call c = c .before .before .before
+
+abbrev turn-of : tie.Else1 Inv-loop μ-loop → tie.In-loop Inv-loop μ-loop
+turn-of c = c .before .before .before .before
+
+abbrev end-of : tie.Else4 Inv-loop μ-loop → tie.At-loop Inv-loop μ-loop
+end-of c = c .before .before .before .before .before
+
 -- both arcs of a pair
-fits-both : (c : tie.Else1 Inv-loop μ-loop) →
-    FitIn (c .before .before .before .before .before .before .before .before .args .places) (c .before .before .before .before .before .before .before .before .args .transitions) (c .before .before .before .word .result)
-    × FitIn (c .before .before .before .before .before .before .before .before .args .places) (c .before .before .before .before .before .before .before .before .args .transitions) (c .before .before .word2 .result)
+fits-both : (c : tie.Else1 Inv-loop μ-loop) → let s = call (turn-of c .before) in let w = c .before .before in
+    FitIn (s .args .places) (s .args .transitions) (w .before .word .result) × FitIn (s .args .places) (s .args .transitions) (w .word2 .result)
 fits-both c =
-    let start = c .before .before .before .before .before .before .before .before in
-    both-fit (start .args .places) (start .args .transitions) (c .before .before .before .word .result) (c .before .before .word2 .result) (start .pre .1 .0) (start .pre .1 .1) (c .before .before .before .word .ok) (c .before .before .word2 .ok)
-    (ap (λ (x : ℕ). bothFit x (c .before .before .before .word .result) (c .before .before .word2 .result)) (sym (c .before .before .before .before .before .before .room .ensures)) ∙ sym (c .before .fit .ensures) ∙ not-false _ (c .if1 .left))
+    let t = turn-of c .before in
+    let s = call t in
+    let w = c .before .before in
+    let first = w .before .word in
+    let second = w .word2 in
+    both-fit (s .args .places) (s .args .transitions) (first .result) (second .result) (s .pre .1 .0) (s .pre .1 .1) (first .ok) (second .ok)
+    (ap (λ (x : ℕ). bothFit x (first .result) (second .result)) (sym (t .before .room .ensures)) ∙ sym (c .before .fit .ensures) ∙ not-false _ (c .if1 .left))
 
 -- the arc that is left over
-fits-last : (c : tie.Else4 Inv-loop μ-loop) →
-    FitIn (c .before .before .before .before .before .before .before .before .args .places) (c .before .before .before .before .before .before .before .before .args .transitions) (c .before .before .word3 .result)
+fits-last : (c : tie.Else4 Inv-loop μ-loop) → let s = call (end-of c) in FitIn (s .args .places) (s .args .transitions) (c .before .before .word3 .result)
 fits-last c =
-    let start = c .before .before .before .before .before .before .before .before in
-    both-fit (start .args .places) (start .args .transitions) (c .before .before .word3 .result) (c .before .before .word3 .result) (start .pre .1 .0) (start .pre .1 .1) (c .before .before .word3 .ok) (c .before .before .word3 .ok)
-    (ap (λ (x : ℕ). bothFit x (c .before .before .word3 .result) (c .before .before .word3 .result)) (sym (c .before .before .before .before .before .before .room .ensures)) ∙ sym (c .before .fit2 .ensures) ∙ not-false _ (c .if4 .left)) .0
+    let t = end-of c in
+    let s = call t in
+    let last = c .before .before .word3 in
+    both-fit (s .args .places) (s .args .transitions) (last .result) (last .result) (s .pre .1 .0) (s .pre .1 .1) (last .ok) (last .ok)
+    (ap (λ (x : ℕ). bothFit x (last .result) (last .result)) (sym (t .before .room .ensures)) ∙ sym (c .before .fit2 .ensures) ∙ not-false _ (c .if4 .left)) .0
 
 room-requires : tie.Need-room-requires Inv-loop μ-loop
 room-requires c κs = search needs
@@ -61,13 +76,14 @@ returns c = λ e. never e
 
 sweep-key-requires : tie.Need-sweep-key-requires Inv-loop μ-loop
 sweep-key-requires c κs =
-    let start = c .before .before .before .before .before .before .before .before in
-    narrow (start .args .places) (start .args .transitions) (c .before .before .before .word .result) (start .pre .1 .0) (start .pre .1 .1) (fits-both c .0)
+    let s = call (turn-of c .before) in
+    narrow (s .args .places) (s .args .transitions) (c .before .before .before .word .result) (s .pre .1 .0) (s .pre .1 .1) (fits-both c .0)
 
 sweep-key-requires-2 : tie.Need-sweep-key-requires-2 Inv-loop μ-loop
 sweep-key-requires-2 c κs =
-    let start = c .before .before .before .before .before .before .before .before .before in
-    narrow (start .args .places) (start .args .transitions) (c .before .before .before .word2 .result) (start .pre .1 .0) (start .pre .1 .1) (fits-both (c .before) .1)
+    let pair = c .before in
+    let s = call (turn-of pair .before) in
+    narrow (s .args .places) (s .args .transitions) (pair .before .before .word2 .result) (s .pre .1 .0) (s .pre .1 .1) (fits-both pair .1)
 
 returns-2 : tie.Need-returns-2 Inv-loop μ-loop
 returns-2 c = λ e. never e
@@ -83,14 +99,18 @@ loop-less c = search needs
 
 loop-again : tie.Need-loop-again Inv-loop μ-loop
 loop-again c =
-    let start = c .before .before .before .before .before .before .before .before .before .before .before in
-    let loop = c .before .before .before .before .before .before .before .before .loop in
+    let pair = c .before .before .before in
+    let t = turn-of pair in
+    let loop = t .before .loop in
+    let s = call (t .before) in
+    let first = pair .before .before .before .word in
+    let second = pair .before .before .word2 in
     let order = or-false _ _ (c .if2 .left) in (
       search needs,
-      two-on (start .args .file .now) (start .args .places) (start .args .transitions) (start .args .start) (start .args .count) (loop .at) (loop .least) (loop .left)
-          (c .before .before .before .before .before .before .word .result) (c .before .before .before .before .before .word2 .result) (c .before .before .sweep-key .result) (c .before .sweep-key2 .result)
-          (start .pre .1 .0) (start .pre .1 .1) (loop .inv .1) (c .before .before .before .before .before .before .before .loop-test .taken)
-          (c .before .before .before .before .before .before .word .ensures) (c .before .before .before .before .before .word2 .ensures) (fits-both (c .before .before .before))
+      two-on (s .args .file .now) (s .args .places) (s .args .transitions) (s .args .start) (s .args .count) (loop .at) (loop .least) (loop .left)
+          (first .result) (second .result) (c .before .before .sweep-key .result) (c .before .sweep-key2 .result)
+          (s .pre .1 .0) (s .pre .1 .1) (loop .inv .1) (t .loop-test .taken)
+          (first .ensures) (second .ensures) (fits-both pair)
           (c .before .before .sweep-key .ensures .0) (c .before .sweep-key2 .ensures .0) (ltb-false _ _ (order .0)) (ltb-false _ _ (order .1)),
     )
 
@@ -108,17 +128,20 @@ returns-4 c = λ e. never e
 
 sweep-key-requires-3 : tie.Need-sweep-key-requires-3 Inv-loop μ-loop
 sweep-key-requires-3 c κs =
-    let start = c .before .before .before .before .before .before .before .before in
-    narrow (start .args .places) (start .args .transitions) (c .before .before .word3 .result) (start .pre .1 .0) (start .pre .1 .1) (fits-last c)
+    let s = call (end-of c) in
+    narrow (s .args .places) (s .args .transitions) (c .before .before .word3 .result) (s .pre .1 .0) (s .pre .1 .1) (fits-last c)
 
 returns-5 : tie.Need-returns-5 Inv-loop μ-loop
 returns-5 c = λ e.
-    let start = c .before .before .before .before .before .before .before .before .before in
-    let loop = c .before .before .before .before .before .before .loop in
-    all-done (start .args .file .now) (start .args .places) (start .args .transitions) (start .args .start) (start .args .count) _ _ (loop .left - 1)
-    (one-on (start .args .file .now) (start .args .places) (start .args .transitions) (start .args .start) (start .args .count) (loop .at) (loop .least) (loop .left)
-    (c .before .before .before .word3 .result) (start .pre .1 .0) (start .pre .1 .1) (loop .inv .1) (omega (arith, c .before .before .before .before .if3 .left)) (c .before .before .before .word3 .ensures) (fits-last (c .before))
-    (rw (← c .sweep-key3 .ensures .0) (leb-true _ _ e))) (omega (arith, c .before .before .before .before .before .loop-test .left))
+    let fits = c .before in
+    let t = end-of fits in
+    let loop = t .loop in
+    let s = call t in
+    let last = fits .before .before in
+    all-done (s .args .file .now) (s .args .places) (s .args .transitions) (s .args .start) (s .args .count) _ _ (loop .left - 1)
+    (one-on (s .args .file .now) (s .args .places) (s .args .transitions) (s .args .start) (s .args .count) (loop .at) (loop .least) (loop .left)
+    (last .word3 .result) (s .pre .1 .0) (s .pre .1 .1) (loop .inv .1) (omega (arith, last .before .if3 .left)) (last .word3 .ensures) (fits-last fits)
+    (rw (← c .sweep-key3 .ensures .0) (leb-true _ _ e))) (omega (arith, last .before .before .loop-test .left))
 
 pub all-good-spec : {M : Type 1} → statement M
 all-good-spec =
