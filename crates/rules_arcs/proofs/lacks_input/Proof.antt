@@ -3,11 +3,14 @@ use Rattle.rules_arcs.proofs.Inputs.{lacks-not, inputs-run, lacks}
 use Rattle.rules_arcs.proofs.lacks_input.Statement.{statement}
 use Rattle.rules_arcs.proofs.lacks_input.Tie as tie
 
+abbrev call : tie.After-entry → tie.Start
+call c = c .before .before .before .before .before .before
+
 entry-requires : tie.Need-entry-requires
 entry-requires c κs = search needs
 
 returns : tie.Need-returns
-returns c = let s = c .before .before .before .before .before .before .before in lacks-not _ _ _ _ _ _ _ (s .pre .0) _ (s .pre .1) _ (c .before .entry .ensures .0) (c .if1 .taken)
+returns c = let s = call (c .before) in lacks-not _ _ _ _ _ _ _ (s .pre .0) _ (s .pre .1) _ (c .before .entry .ensures .0) (c .if1 .taken)
 
 mul-entry : tie.Need-mul-entry
 mul-entry c = search needs
@@ -25,10 +28,15 @@ entry-requires-3 : tie.Need-entry-requires-3
 entry-requires-3 c κs = search needs
 
 unkept-requires : tie.Need-unkept-requires
-unkept-requires c κs = let s = c .before .before .before .before .before .before .before .before .before in inputs-run _ _ _ _ _ _ _ (s .pre .0) _ (s .pre .1) _ _ (c .before .entry2 .ensures .0) (c .entry3 .ensures .0)
+unkept-requires c κs =
+    let s = call (c .before .before .before) in
+    inputs-run _ _ _ _ _ _ _ (s .pre .0) _ (s .pre .1) _ _ (c .before .entry2 .ensures .0) (c .entry3 .ensures .0)
 
 returns-2 : tie.Need-returns-2
-returns-2 c = let s = c .before .before .before .before .before .before .before .before .before .before in lacks _ _ _ _ _ _ _ (s .pre .0) _ (s .pre .1) _ _ (c .before .before .entry2 .ensures .0) (c .before .entry3 .ensures .0) _ (c .before .before .before .before .entry .ensures .0) (c .before .before .before .if1 .left) _ (c .unkept .ensures)
+returns-2 c =
+    let kept = c .before .before .before in
+    let s = call (kept .before) in
+    lacks _ _ _ _ _ _ _ (s .pre .0) _ (s .pre .1) _ _ (c .before .before .entry2 .ensures .0) (c .before .entry3 .ensures .0) _ (kept .before .entry .ensures .0) (kept .if1 .left) _ (c .unkept .ensures)
 
 pub lacks-input-spec : {M : Type 1} → statement M
 lacks-input-spec =
