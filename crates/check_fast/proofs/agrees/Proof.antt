@@ -1,4 +1,5 @@
 use borrow.Author.Tests.{not-false}
+use Rattle.check_fast.specs.Pass.{Ready}
 use Rattle.check_fast.proofs.Filling.{criterion-reached, ready}
 use Rattle.check_fast.proofs.Holding.{agreed}
 use native.Mathlib.Omega.{arith}
@@ -8,6 +9,31 @@ use Rattle.check_fast.proofs.Ends.{apart}
 use borrow.Author.Needs.{needs}
 use Rattle.check_fast.proofs.agrees.Statement.{statement}
 use Rattle.check_fast.proofs.agrees.Tie as tie
+
+-- ---- the states: places numbered, transitions numbered, the criterion kept, marked
+
+abbrev call : tie.After-number → tie.Start
+call c = c .before .before .before .before .before .before .before
+
+abbrev places-of : tie.After-number2 → tie.After-number
+places-of c = c .before .before .before .before .before .before
+
+abbrev numbered : tie.After-all-kept-arg → tie.After-number2
+numbered c = c .before .before .before
+
+abbrev kept-of : tie.After-mark → tie.Else1
+kept-of c = c .before .before
+
+-- the tables are those of the slice
+ready-at : (c : tie.After-mark) → let n = numbered (kept-of c .before .before) in let s = call (places-of n) in
+    Ready (s .args .plan .now) (s .args .hp) (s .args .slice .now) (s .args .hs) (s .args .criterion .now) (c .mark .last .1 .0) (n .number2 .last .1 .1 .1 .1 .0)
+ready-at c =
+    let kept = kept-of c in
+    let n = numbered (kept .before .before) in
+    let p = places-of n in
+    let pre = call p .pre in
+    ready _ _ _ _ _ (pre .0) (pre .1 .0) (pre .1 .1 .0) (pre .1 .1 .1 .0) _ _ (pre .1 .1 .1 .1) _ (p .number .ensures)
+    (kept .before .all-kept .ensures (not-false _ (kept .if1 .left))) _ (c .mark .ensures) _ (n .number2 .ensures)
 
 number-requires : tie.Need-number-requires
 number-requires c κs =
@@ -22,11 +48,15 @@ add-number c = search needs
 
 number-requires-2 : tie.Need-number-requires-2
 number-requires-2 c κs =
-    let pre = c .before .before .before .before .before .before .before .before .before .before .before .before .pre in
+    let places = c .before .before .before .before .before in
+    let pre = call places .pre in
     (transition-origins _ _ (pre .1 .0) (pre .1 .1 .0), (pre .1 .1 .1 .1 .transition-origins, omega arith))
 
 all-kept-requires : tie.Need-all-kept-requires
-all-kept-requires c κs = let pre = c .before .before .before .before .before .before .before .before .before .before .before .before .before .before .before .before .pre in criterion-reached _ _ _ _ _ (pre .0) (pre .1 .0) (pre .1 .1 .0) (pre .1 .1 .1 .0) _ _ (pre .1 .1 .1 .1) _ (c .before .before .before .before .before .before .before .before .before .number .ensures)
+all-kept-requires c κs =
+    let p = places-of (numbered c) in
+    let pre = call p .pre in
+    criterion-reached _ _ _ _ _ (pre .0) (pre .1 .0) (pre .1 .1 .0) (pre .1 .1 .1 .0) _ _ (pre .1 .1 .1 .1) _ (p .number .ensures)
 
 same-length : tie.Need-same-length
 same-length c = search needs
@@ -38,10 +68,13 @@ returns : tie.Need-returns
 returns c = λ e. apart e refl
 
 mark-requires : tie.Need-mark-requires
-mark-requires c κs = let pre = c .before .before .before .before .before .before .before .before .before .before .before .before .before .before .before .before .before .before .before .pre in criterion-reached _ _ _ _ _ (pre .0) (pre .1 .0) (pre .1 .1 .0) (pre .1 .1 .1 .0) _ _ (pre .1 .1 .1 .1) _ (c .before .before .before .before .before .before .before .before .before .before .before .before .number .ensures)
+mark-requires c κs =
+    let p = places-of (numbered (c .before .before .before)) in
+    let pre = call p .pre in
+    criterion-reached _ _ _ _ _ (pre .0) (pre .1 .0) (pre .1 .1 .0) (pre .1 .1 .1 .0) _ _ (pre .1 .1 .1 .1) _ (p .number .ensures)
 
 pass-requires : tie.Need-pass-requires
-pass-requires c κs = let pre = c .before .before .before .before .before .before .before .before .before .before .before .before .before .before .before .before .before .before .before .before .before .before .before .before .pre in ready _ _ _ _ _ (pre .0) (pre .1 .0) (pre .1 .1 .0) (pre .1 .1 .1 .0) _ _ (pre .1 .1 .1 .1) _ (c .before .before .before .before .before .before .before .before .before .before .before .before .before .before .before .before .before .number .ensures) (c .before .before .before .before .before .before .before .all-kept .ensures (not-false _ (c .before .before .before .before .before .before .if1 .left))) _ (c .before .before .before .before .mark .ensures) _ (c .before .before .before .before .before .before .before .before .before .before .before .number2 .ensures)
+pass-requires c κs = ready-at (c .before .before .before .before)
 
 same-length-3 : tie.Need-same-length-3
 same-length-3 c = search needs
@@ -50,9 +83,7 @@ same-length-4 : tie.Need-same-length-4
 same-length-4 c = search needs
 
 returns-2 : tie.Need-returns-2
-returns-2 c = λ e.
-    let pre = c .before .before .before .before .before .before .before .before .before .before .before .before .before .before .before .before .before .before .before .before .before .before .before .before .before .pre in
-    agreed _ _ _ _ _ (c .pass .ensures e) (ready _ _ _ _ _ (pre .0) (pre .1 .0) (pre .1 .1 .0) (pre .1 .1 .1 .0) _ _ (pre .1 .1 .1 .1) _ (c .before .before .before .before .before .before .before .before .before .before .before .before .before .before .before .before .before .before .number .ensures) (c .before .before .before .before .before .before .before .before .all-kept .ensures (not-false _ (c .before .before .before .before .before .before .before .if1 .left))) _ (c .before .before .before .before .before .mark .ensures) _ (c .before .before .before .before .before .before .before .before .before .before .before .before .number2 .ensures) .criterion)
+returns-2 c = λ e. agreed _ _ _ _ _ (c .pass .ensures e) (ready-at (c .before .before .before .before .before) .criterion)
 
 pub agrees-spec : {M : Type 1} → statement M
 agrees-spec =

@@ -16,6 +16,17 @@ Inv-loop plan hp slice hs criterion places transitions at₀ looks₀ at looks =
 abbrev μ-loop : tie.MeasureT-loop
 μ-loop plan hp slice hs criterion places transitions at₀ looks₀ at looks = looks
 
+-- ---- the states: the call, the head of a turn, its arc looked at
+
+abbrev call : tie.At-loop Inv-loop μ-loop → tie.Start Inv-loop μ-loop
+call c = c .before .before .before .before .before .before .before
+
+abbrev loop-of : tie.Then1 Inv-loop μ-loop → tie.At-loop Inv-loop μ-loop
+loop-of c = c .before .before .before
+
+abbrev turn-of : tie.Else3 Inv-loop μ-loop → tie.Then1 Inv-loop μ-loop
+turn-of c = c .before .before .before .before
+
 stretch-requires : tie.Need-stretch-requires Inv-loop μ-loop
 stretch-requires c κs = (c .before .before .before .before .before .pre, walked-start _ _ _ _ _)
 
@@ -29,7 +40,7 @@ returns-2 : tie.Need-returns-2 Inv-loop μ-loop
 returns-2 c = λ e. apart e refl
 
 settled-requires : tie.Need-settled-requires Inv-loop μ-loop
-settled-requires c κs = (c .before .before .before .before .before .before .before .before .before .before .before .before .before .before .pre, c .before .before .before .before .if1 .taken)
+settled-requires c κs = let t = turn-of c in (call (loop-of t) .pre, t .if1 .taken)
 
 returns-3 : tie.Need-returns-3 Inv-loop μ-loop
 returns-3 c = λ e. apart e refl
@@ -38,7 +49,11 @@ add-t15 : tie.Need-add-t15 Inv-loop μ-loop
 add-t15 c = search needs
 
 stretch-requires-2 : tie.Need-stretch-requires-2 Inv-loop μ-loop
-stretch-requires-2 c κs = (c .before .before .before .before .before .before .before .before .before .before .before .before .before .before .before .before .before .pre, walked-past _ _ _ _ _ _ _ _ (c .before .before .before .before .before .before .before .before .before .before .loop .inv) (c .before .before .before .before .before .before .before .if1 .taken) (c .before .before .settled .ensures (not-false _ (c .before .if4 .left))))
+stretch-requires-2 c κs =
+    let looked = c .before .before in
+    let t = turn-of (looked .before) in
+    let l = loop-of t in
+    (call l .pre, walked-past _ _ _ _ _ _ _ _ (l .loop .inv) (t .if1 .taken) (looked .settled .ensures (not-false _ (c .before .if4 .left))))
 
 sub-looks : tie.Need-sub-looks Inv-loop μ-loop
 sub-looks c = search needs
@@ -54,11 +69,13 @@ quiet-requires c κs = search needs
 
 returns-4 : tie.Need-returns-4 Inv-loop μ-loop
 returns-4 c = λ e.
-    let at = c .before .before .before .before .before .before .loop .at in
-    let a = c .before .before .before .before .before .before .before .before .before .before .before .before .before .args in
-    let calm = c .before .before .quiet .result in
-    let h = holds (calm && eqb (at .own) (a .hs .arcs)) e in
-    walked-end _ _ _ _ _ _ _ _ (c .before .before .before .before .before .before .loop .inv) (c .before .before .before .if1 .left) (eqb→eq _ _ (and-right calm (eqb (at .own) (a .hs .arcs)) h)) (sym (c .before .before .quiet .ensures) ∙ is-true calm (and-left calm (eqb (at .own) (a .hs .arcs)) h))
+    let quiet = c .before .before .quiet in
+    let ended = c .before .before .before in
+    let l = ended .before .before .before in
+    let own = l .loop .at .own in
+    let arcs = call l .args .hs .arcs in
+    let h = holds (quiet .result && eqb own arcs) e in
+    walked-end _ _ _ _ _ _ _ _ (l .loop .inv) (ended .if1 .left) (eqb→eq _ _ (and-right (quiet .result) (eqb own arcs) h)) (sym (quiet .ensures) ∙ is-true (quiet .result) (and-left (quiet .result) (eqb own arcs) h))
 
 pub pass-spec : {M : Type 1} → statement M
 pass-spec =

@@ -1,3 +1,4 @@
+use Prim.Native.Nat.{_<_}
 use mir.Facts.{toZ-ofZ}
 use mathlib.Core.Path.{refl, sym, ap, _∙_}
 use native.Mathlib.Omega.{arith}
@@ -8,6 +9,21 @@ use Rattle.check_fast.proofs.Settling.{settled-raise, settled-change, n
 use borrow.Author.Needs.{needs}
 use Rattle.check_fast.proofs.settled.Statement.{statement}
 use Rattle.check_fast.proofs.settled.Tie as tie
+
+-- ---- the states: the call, the arc's word read, its parts known
+
+abbrev call : tie.After-word → tie.Start
+call c = c .before .before .before .before .before .before .before
+
+abbrev word-of : tie.After-arc-of → tie.After-word
+word-of c = c .before .before
+
+-- the arc's transition is one of the plan's
+known : (c : tie.After-arc-of) → c .arc-of .result .transition < call (word-of c) .args .hp .transitions
+known c =
+    let w = word-of c in
+    let s = call w in
+    omega (arith, good-word _ _ _ _ _ _ _ (s .pre .0) _ (s .pre .1) _ (w .word .ensures) (omega arith) .transition, ap (λ (a : Arc). a .transition) (c .arc-of .ensures .0))
 
 mul-word : tie.Need-mul-word
 mul-word c = search needs
@@ -20,31 +36,43 @@ word-requires c κs = search needs
 
 joined-requires : tie.Need-joined-requires
 joined-requires c κs =
-    let f = joined-fits _ _ _ _ _ _ _ (c .before .before .before .before .before .before .before .pre .0) _ (c .before .before .before .before .before .before .before .pre .1) _ (c .word .ensures) (omega arith) in
+    let s = call c in
+    let f = joined-fits _ _ _ _ _ _ _ (s .pre .0) _ (s .pre .1) _ (c .word .ensures) (omega arith) in
     ((f .0, f .1), f .2)
 
 arc-of-requires : tie.Need-arc-of-requires
 arc-of-requires c κs = search needs
 
 effect-requires : tie.Need-effect-requires
-effect-requires c κs = (c .before .before .before .before .before .before .before .before .before .before .pre .0 .planned, omega (arith, good-word _ _ _ _ _ _ _ (c .before .before .before .before .before .before .before .before .before .before .pre .0) _ (c .before .before .before .before .before .before .before .before .before .before .pre .1) _ (c .before .before .before .word .ensures) (omega arith) .transition, ap (λ (a : Arc). a .transition) (c .before .arc-of .ensures .0)))
+effect-requires c κs = let a = c .before in (call (word-of a) .pre .0 .planned, known a)
 
 lowers-requires : tie.Need-lowers-requires
 lowers-requires c κs = search needs
 
 returns : tie.Need-returns
-returns c = λ h. settled-raise _ _ _ _ _ _ _ (c .before .before .before .before .before .before .before .before .before .before .before .before .pre .0) _ (c .before .before .before .before .before .before .before .before .before .before .before .before .pre .1) _ (c .before .before .before .before .before .word .ensures) (omega arith) _ (c .before .before .before .before .joined .ensures) _ (c .before .before .before .arc-of .ensures .0) _ (toZ-ofZ (record { sfits = c .before .effect .ok }) ∙ c .before .effect .ensures) (c .before .before .if1 .taken) (sym (c .lowers .ensures) ∙ h)
+returns c = λ h.
+    let effect = c .before .effect in
+    let a = c .before .before .before in
+    let w = word-of a in
+    let s = call w in
+    settled-raise _ _ _ _ _ _ _ (s .pre .0) _ (s .pre .1) _ (w .word .ensures) (omega arith) _ (a .before .joined .ensures) _ (a .arc-of .ensures .0)
+    _ (toZ-ofZ (record { sfits = effect .ok }) ∙ effect .ensures) (c .before .before .if1 .taken) (sym (c .lowers .ensures) ∙ h)
 
 effect-requires-2 : tie.Need-effect-requires-2
-effect-requires-2 c κs = (c .before .before .before .before .before .before .before .before .before .before .before .pre .0 .planned, omega (arith, good-word _ _ _ _ _ _ _ (c .before .before .before .before .before .before .before .before .before .before .before .pre .0) _ (c .before .before .before .before .before .before .before .before .before .before .before .pre .1) _ (c .before .before .before .before .word .ensures) (omega arith) .transition, ap (λ (a : Arc). a .transition) (c .before .before .arc-of .ensures .0)))
+effect-requires-2 c κs = let a = c .before .before in (call (word-of a) .pre .0 .planned, known a)
 
 balances-requires : tie.Need-balances-requires
 balances-requires c κs = search needs
 
 returns-2 : tie.Need-returns-2
 returns-2 c = λ h.
+    let effect = c .before .effect2 in
+    let a = c .before .before .before .before in
+    let w = word-of a in
+    let s = call w in
     let f = nine-ten _ (c .before .before .if2 .taken) in
-    settled-change _ _ _ _ _ _ _ (c .before .before .before .before .before .before .before .before .before .before .before .before .before .pre .0) _ (c .before .before .before .before .before .before .before .before .before .before .before .before .before .pre .1) _ (c .before .before .before .before .before .before .word .ensures) (omega arith) _ (c .before .before .before .before .before .joined .ensures) _ (c .before .before .before .before .arc-of .ensures .0) _ (toZ-ofZ (record { sfits = c .before .effect2 .ok }) ∙ c .before .effect2 .ensures) (f .0) (f .1) (sym (c .balances .ensures) ∙ h)
+    settled-change _ _ _ _ _ _ _ (s .pre .0) _ (s .pre .1) _ (w .word .ensures) (omega arith) _ (a .before .joined .ensures) _ (a .arc-of .ensures .0)
+    _ (toZ-ofZ (record { sfits = effect .ok }) ∙ effect .ensures) (f .0) (f .1) (sym (c .balances .ensures) ∙ h)
 
 returns-3 : tie.Need-returns-3
 returns-3 c = λ e. apart e refl

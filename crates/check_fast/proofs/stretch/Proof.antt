@@ -14,6 +14,20 @@ Inv-loop plan hp slice hs criterion places transitions start first j₀ k₀ dif
 abbrev μ-loop : tie.MeasureT-loop
 μ-loop plan hp slice hs criterion places transitions start first j₀ k₀ differs₀ j k differs = hp .arcs - j
 
+-- ---- the states: the call, the head of a turn, an arc left, its word read
+
+abbrev call : tie.At-loop Inv-loop μ-loop → tie.Start Inv-loop μ-loop
+call c = c .before .before .before .before .before .before
+
+abbrev loop-of : tie.Then1 Inv-loop μ-loop → tie.At-loop Inv-loop μ-loop
+loop-of c = c .before .before
+
+abbrev turn-of : tie.After-word Inv-loop μ-loop → tie.Then1 Inv-loop μ-loop
+turn-of c = c .before .before .before
+
+abbrev word-of : tie.After-step Inv-loop μ-loop → tie.After-word Inv-loop μ-loop
+word-of c = c .before .before .before .before .before .before
+
 loop-holds : tie.Need-loop-holds Inv-loop μ-loop
 loop-holds c = c .before .before .before .before .before .pre .1
 
@@ -31,7 +45,8 @@ word-requires c κs = search needs
 
 joined-requires : tie.Need-joined-requires Inv-loop μ-loop
 joined-requires c κs =
-    let f = joined-fits _ _ _ _ _ _ _ (c .before .before .before .before .before .before .before .before .before .before .before .pre .0) _ (c .before .before .before .if1 .taken) _ (c .word .ensures) (omega arith) in
+    let t = turn-of c in
+    let f = joined-fits _ _ _ _ _ _ _ (call (loop-of t) .pre .0) _ (t .if1 .taken) _ (c .word .ensures) (omega arith) in
     ((f .0, f .1), f .2)
 
 odd-requires : tie.Need-odd-requires Inv-loop μ-loop
@@ -56,7 +71,10 @@ step-requires : tie.Need-step-requires Inv-loop μ-loop
 step-requires c κs = search needs
 
 add-k : tie.Need-add-k Inv-loop μ-loop
-add-k c = omega (arith, c .step .ensures, counted-one (keptOf (c .before .before .before .before .before .joined .result)), c .before .before .before .before .before .before .before .before .before .before .before .loop .inv .behind, c .before .before .before .before .before .before .before .before .before .before .before .loop .inv .within, c .before .before .before .before .before .before .before .before .before .before .before .before .before .before .before .before .before .pre .0 .planned .placed .arcs)
+add-k c =
+    let l = loop-of (turn-of (word-of c)) in
+    let z = c .before .before .before .before .before .joined .result in
+    omega (arith, c .step .ensures, counted-one (keptOf z), l .loop .inv .behind, l .loop .inv .within, call l .pre .0 .planned .placed .arcs)
 
 add-j : tie.Need-add-j Inv-loop μ-loop
 add-j c = search needs
@@ -65,7 +83,15 @@ loop-less : tie.Need-loop-less Inv-loop μ-loop
 loop-less c = search needs
 
 loop-again : tie.Need-loop-again Inv-loop μ-loop
-loop-again c = walked-next _ _ _ _ _ _ _ (c .before .before .before .before .before .before .before .before .before .before .before .before .before .before .before .before .before .pre .0) _ (c .before .before .before .before .before .before .before .before .before .if1 .taken) _ (c .before .before .before .before .before .before .word .ensures) (omega arith) _ _ (c .before .before .before .before .before .before .before .before .before .before .before .loop .inv) _ (c .before .before .before .before .before .joined .ensures) (sym (c .before .before .before .before .odd .ensures) ∙ c .before .before .before .if3 .left) _ (c .before .before .word2 .ensures) _ (ap (bitOr (c .before .before .before .before .before .before .before .before .before .before .before .loop .differs)) (c .before .unlike .ensures)) _ (ap (λ (n : ℕ). c .before .before .before .before .before .before .before .before .before .before .before .loop .k + n) (c .step .ensures))
+loop-again c =
+    let w = word-of c in
+    let t = turn-of w in
+    let l = loop-of t in
+    let even = c .before .before .before in
+    let odd = even .before in
+    let own = c .before .before .word2 in
+    walked-next _ _ _ _ _ _ _ (call l .pre .0) _ (t .if1 .taken) _ (w .word .ensures) (omega arith) _ _ (l .loop .inv) _ (odd .before .joined .ensures) (sym (odd .odd .ensures) ∙ even .if3 .left)
+    _ (own .ensures) _ (ap (bitOr (l .loop .differs)) (c .before .unlike .ensures)) _ (ap (λ (n : ℕ). l .loop .k + n) (c .step .ensures))
 
 returns-3 : tie.Need-returns-3 Inv-loop μ-loop
 returns-3 c = c .before .before .loop .inv
