@@ -6,6 +6,9 @@ use Rattle.arcs_effect.proofs.Parts.{inputs-in, outputs-in, effect-is}
 use Rattle.arcs_effect.proofs.effect.Statement.{statement}
 use Rattle.arcs_effect.proofs.effect.Tie as tie
 
+abbrev call : tie.After-first-from3 → tie.Start
+call c = c .before .before .before .before
+
 mul-first-from : tie.Need-mul-first-from
 mul-first-from c = search needs
 
@@ -31,16 +34,22 @@ first-from-requires-3 : tie.Need-first-from-requires-3
 first-from-requires-3 c κs = ordered _ _ (c .before .before .before .pre .0)
 
 weight-requires : tie.Need-weight-requires
-weight-requires c κs = inputs-in _ _ (c .before .before .before .before .pre .0) _ _ _ _ (c .before .before .first-from .ensures) (c .before .first-from2 .ensures) (c .first-from3 .ensures)
+weight-requires c κs = inputs-in _ _ (call c .pre .0) _ _ _ _ (c .before .before .first-from .ensures) (c .before .first-from2 .ensures) (c .first-from3 .ensures)
 
 weight-requires-2 : tie.Need-weight-requires-2
-weight-requires-2 c κs = outputs-in _ _ (c .before .before .before .before .before .pre .0) _ _ _ _ (c .before .before .before .first-from .ensures) (c .before .before .first-from2 .ensures) (c .before .first-from3 .ensures)
+weight-requires-2 c κs =
+    let found = c .before in
+    outputs-in _ _ (call found .pre .0) _ _ _ _ (found .before .before .first-from .ensures) (found .before .first-from2 .ensures) (found .first-from3 .ensures)
 
 difference-requires : tie.Need-difference-requires
 difference-requires c κs = search needs
 
 returns : tie.Need-returns
-returns c = toZ-ofZ (record { sfits = c .difference .ok }) ∙ c .difference .ensures ∙ effect-is _ _ (c .before .before .before .before .before .before .before .pre .0) _ _ _ _ (c .before .before .before .before .before .first-from .ensures) (c .before .before .before .before .first-from2 .ensures) (c .before .before .before .first-from3 .ensures) _ _ _ (c .before .before .weight .ensures .0) (c .before .weight2 .ensures .0)
+returns c =
+    let found = c .before .before .before in
+    toZ-ofZ (record { sfits = c .difference .ok })
+    ∙ c .difference .ensures
+    ∙ effect-is _ _ (call found .pre .0) _ _ _ _ (found .before .before .first-from .ensures) (found .before .first-from2 .ensures) (found .first-from3 .ensures) _ _ _ (c .before .before .weight .ensures .0) (c .before .weight2 .ensures .0)
 
 pub effect-spec : {M : Type 1} → statement M
 effect-spec =

@@ -9,11 +9,27 @@ use Rattle.rules_effects.proofs.Columns.{still-long, written}
 use Rattle.rules_effects.proofs.limit_kept.Statement.{statement}
 use Rattle.rules_effects.proofs.limit_kept.Tie as tie
 
+-- the limit of a place with this entry
+abbrev due : ℕ → ℕ
+due n = limitOn (eqb n 0) 4294967295 1073741824
+
 abbrev Inv-loop : tie.InvT-loop
-Inv-loop places ownp limit₀ p₀ limit p = (p ≤ places) × (length limit ≡ length limit₀) × ((q : ℕ) → q < p → getD limit q 0 ≡ limitOn (eqb (getD ownp q 0) 0) 4294967295 1073741824)
+Inv-loop places ownp limit₀ p₀ limit p = (p ≤ places) × (length limit ≡ length limit₀) × ((q : ℕ) → q < p → getD limit q 0 ≡ due (getD ownp q 0))
 
 abbrev μ-loop : tie.MeasureT-loop
 μ-loop places ownp limit₀ p₀ limit p = places - p
+
+-- ---- the states: the call, the head of a turn
+
+abbrev call : tie.At-loop Inv-loop μ-loop → tie.Start Inv-loop μ-loop
+call c = c .before .before .before
+
+abbrev turn-of : tie.After-raise-limit Inv-loop μ-loop → tie.In-loop Inv-loop μ-loop
+turn-of c = c .before .before
+
+-- the place has an entry
+within : (c : tie.In-loop Inv-loop μ-loop) → c .before .loop .p < length (c .before .loop .limit)
+within c = omega (arith, c .loop-test .taken, c .before .loop .inv .1, call (c .before) .pre .1)
 
 loop-holds : tie.Need-loop-holds Inv-loop μ-loop
 loop-holds c = (omega arith, refl, λ q l. absurd (omega arith))
@@ -28,7 +44,7 @@ mul-limit : tie.Need-mul-limit Inv-loop μ-loop
 mul-limit c = search needs
 
 slice-write-limit : tie.Need-slice-write-limit Inv-loop μ-loop
-slice-write-limit c = omega (arith, c .before .before .loop-test .taken, c .before .before .before .loop .inv .1, c .before .before .before .before .before .before .pre .1)
+slice-write-limit c = within (turn-of c)
 
 add-p : tie.Need-add-p Inv-loop μ-loop
 add-p c = search needs
@@ -37,7 +53,14 @@ loop-less : tie.Need-loop-less Inv-loop μ-loop
 loop-less c = search needs
 
 loop-again : tie.Need-loop-again Inv-loop μ-loop
-loop-again c = (omega arith, still-long (c .before .before .before .loop .limit) (c .before .before .before .loop .p) (c .raise-limit .result) _ (c .before .before .before .loop .inv .1), written (λ q. limitOn (eqb (getD (c .before .before .before .before .before .before .args .ownp .now) q 0) 0) 4294967295 1073741824) (c .before .before .before .loop .limit) (c .before .before .before .loop .p) (c .raise-limit .result) (omega (arith, c .before .before .loop-test .taken, c .before .before .before .loop .inv .1, c .before .before .before .before .before .before .pre .1)) (c .before .before .before .loop .inv .2) (c .raise-limit .ensures ∙ ap (λ (n : ℕ). limitOn (eqb n 0) 4294967295 1073741824) (c .before .entry .ensures .0)))
+loop-again c =
+    let t = turn-of c in
+    let at = t .before .loop in
+    let ownp = call (t .before) .args .ownp .now in (
+      omega arith,
+      still-long (at .limit) (at .p) (c .raise-limit .result) _ (at .inv .1),
+      written (λ q. due (getD ownp q 0)) (at .limit) (at .p) (c .raise-limit .result) (within t) (at .inv .2) (c .raise-limit .ensures ∙ ap due (c .before .entry .ensures .0)),
+    )
 
 same-length : tie.Need-same-length Inv-loop μ-loop
 same-length c = c .before .loop .inv .1

@@ -17,9 +17,20 @@ Inv-loop criterion places ownp k₀ k = (k ≤ length criterion) × ((i : ℕ) �
 abbrev μ-loop : tie.MeasureT-loop
 μ-loop criterion places ownp k₀ k = length criterion - k
 
+-- ---- the states: the call, the head of a turn
+
+abbrev call : tie.At-loop Inv-loop μ-loop → tie.Start Inv-loop μ-loop
+call c = c .before .before .before
+
+abbrev turn-of : tie.After-wide Inv-loop μ-loop → tie.In-loop Inv-loop μ-loop
+turn-of c = c .before .before
+
 -- the place has an entry
-inside : (c : tie.After-wide Inv-loop μ-loop) → c .wide .result < length (now (c .before .before .before .before .before .before .args .ownp))
-inside c = omega (arith, c .wide .ensures .0, c .before .before .before .before .before .before .pre .1, passed _ _ (c .before .before .before .before .before .before .pre .0) .known-at (c .before .before .before .loop .k) (c .before .before .loop-test .taken))
+inside : (c : tie.After-wide Inv-loop μ-loop) → c .wide .result < length (now (call (turn-of c .before) .args .ownp))
+inside c =
+    let t = turn-of c in
+    let pre = call (t .before) .pre in
+    omega (arith, c .wide .ensures .0, pre .1, passed _ _ (pre .0) .known-at (t .before .loop .k) (t .loop-test .taken))
 
 loop-holds : tie.Need-loop-holds Inv-loop μ-loop
 loop-holds c = (omega arith, λ k l. absurd (omega arith))
@@ -41,13 +52,15 @@ shared-slice-read-if1 c = omega (arith, inside (c .before))
 
 returns : tie.Need-returns Inv-loop μ-loop
 returns c = λ N S e o.
-    let pre = c .before .before .before .before .before .before .before .before .pre in
+    let place = c .before .before in
+    let t = turn-of place in
+    let at = t .before .loop in
+    let pre = call (t .before) .pre in
     let w = passed _ _ (pre .0) in
-    let i = c .before .before .before .before .before .loop .k in
-    c .before .before .wide .ensures .0
-    ∙ missing-found N S _ (w .rise) (λ k l. omega (arith, w .known-at k l)) i (c .before .before .before .before .loop-test .taken)
-    (λ k l. is-kept _ _ o _ (omega (arith, pre .1, w .known-at k (omega (arith, c .before .before .before .before .loop-test .taken)))) (c .before .before .before .before .before .loop .inv .1 k l))
-    (left-out _ _ o _ (omega (arith, pre .1, w .known-at i (c .before .before .before .before .loop-test .taken))) (rw (← c .before .before .wide .ensures .0) (c .if1 .taken)))
+    place .wide .ensures .0
+    ∙ missing-found N S _ (w .rise) (λ k l. omega (arith, w .known-at k l)) (at .k) (t .loop-test .taken)
+    (λ k l. is-kept _ _ o _ (omega (arith, pre .1, w .known-at k (omega (arith, t .loop-test .taken)))) (at .inv .1 k l))
+    (left-out _ _ o _ (omega (arith, pre .1, w .known-at (at .k) (t .loop-test .taken))) (rw (← place .wide .ensures .0) (c .if1 .taken)))
 
 add-k : tie.Need-add-k Inv-loop μ-loop
 add-k c = search needs
@@ -56,14 +69,13 @@ loop-less : tie.Need-loop-less Inv-loop μ-loop
 loop-less c = search needs
 
 loop-again : tie.Need-loop-again Inv-loop μ-loop
-loop-again c = (
-  search needs,
-  below-more _ _ (c .before .before .before .before .before .loop .inv .1) (λ z. c .if1 .left (rw (c .before .before .wide .ensures .0) z)),
-)
+loop-again c =
+    let place = c .before .before in
+    (search needs, below-more _ _ (turn-of place .before .loop .inv .1) (λ z. c .if1 .left (rw (place .wide .ensures .0) z)))
 
 returns-2 : tie.Need-returns-2 Inv-loop μ-loop
 returns-2 c = λ N S e o.
-    let pre = c .before .before .before .before .pre in
+    let pre = call (c .before) .pre in
     let w = passed _ _ (pre .0) in
     sym e
     ∙ missing-none N S _ (w .rise) (λ k l. omega (arith, w .known-at k l))

@@ -22,14 +22,34 @@ abbrev μ-loop : tie.MeasureT-loop
 loop-holds : tie.Need-loop-holds Inv-loop μ-loop
 loop-holds c = (omega arith, λ k l. absurd (omega arith))
 
--- the origin that was read
-origin-is : (c : tie.After-get16 Inv-loop μ-loop) → c .get16 .result ≡ getD (sliceFrom (now (c .before .before .before .before .before .args .slice)) (c .before .before .before .before .before .args .hs) .placeOrigins) (c .before .before .loop .i) 0
-origin-is c =
-    let a = c .before .before .before .before .before .args in
-    c .get16 .ensures .0 ∙ sym (words-at (now (a .slice)) (a .hs .originstart) (a .hs .places) (c .before .before .loop .i) (c .before .loop-test .taken))
+-- ---- the states: the call, the head of a turn, its origin read, both markings read
 
-inside : (c : tie.In-loop Inv-loop μ-loop) → c .before .loop .i < length (sliceFrom (now (c .before .before .before .before .args .slice)) (c .before .before .before .before .args .hs) .placeOrigins)
-inside c = let a = c .before .before .before .before .args in omega (arith, length-words (now (a .slice)) (a .hs .originstart) (a .hs .places), c .loop-test .taken)
+abbrev call : tie.At-loop Inv-loop μ-loop → tie.Start Inv-loop μ-loop
+call c = c .before .before .before
+
+abbrev turn-of : tie.After-get16 Inv-loop μ-loop → tie.In-loop Inv-loop μ-loop
+turn-of c = c .before
+
+abbrev origin-of : tie.After-marking2 Inv-loop μ-loop → tie.After-get16 Inv-loop μ-loop
+origin-of c = c .before .before
+
+-- the origin that was read
+origin-is : (c : tie.After-get16 Inv-loop μ-loop) → let t = turn-of c .before in let a = call t .args in c .get16 .result ≡ getD (sliceFrom (now (a .slice)) (a .hs) .placeOrigins) (t .loop .i) 0
+origin-is c =
+    let t = turn-of c in
+    let a = call (t .before) .args in
+    c .get16 .ensures .0 ∙ sym (words-at (now (a .slice)) (a .hs .originstart) (a .hs .places) (t .before .loop .i) (t .loop-test .taken))
+
+inside : (c : tie.In-loop Inv-loop μ-loop) → let a = call (c .before) .args in c .before .loop .i < length (sliceFrom (now (a .slice)) (a .hs) .placeOrigins)
+inside c = let a = call (c .before) .args in omega (arith, length-words (now (a .slice)) (a .hs .originstart) (a .hs .places), c .loop-test .taken)
+
+-- the plan's tokens of that place
+tokens-are : (c : tie.After-marking2 Inv-loop μ-loop) → let o = origin-of c in let t = turn-of o .before in let a = call t .args in
+    c .before .marking .result ≡ netFrom (now (a .plan)) (a .hp) .marking (getD (sliceFrom (now (a .slice)) (a .hs) .placeOrigins) (t .loop .i) 0)
+tokens-are c =
+    let o = origin-of c in
+    let a = call (turn-of o .before) .args in
+    c .before .marking .ensures .0 ∙ ap (netFrom (now (a .plan)) (a .hp) .marking) (origin-is o)
 
 mul-get16 : tie.Need-mul-get16 Inv-loop μ-loop
 mul-get16 c = search needs
@@ -39,25 +59,32 @@ add-get16 c = search needs
 
 get16-requires : tie.Need-get16-requires Inv-loop μ-loop
 get16-requires c κs =
-    let w = place-origins _ _ (c .before .before .before .before .pre .1 .0) (c .before .before .before .before .pre .1 .1 .0) .fit in
+    let pre = call (c .before) .pre in
+    let w = place-origins _ _ (pre .1 .0) (pre .1 .1 .0) .fit in
     omega (arith, c .loop-test .taken)
 
 marking-requires : tie.Need-marking-requires Inv-loop μ-loop
 marking-requires c κs =
-    let known = c .before .before .before .before .before .pre .1 .1 .1 .at (c .before .before .loop .i) (inside (c .before)) in
-    (c .before .before .before .before .before .pre .0 .placed, rw (origin-is c) known)
+    let t = turn-of c in
+    let pre = call (t .before) .pre in
+    let known = pre .1 .1 .1 .at (t .before .loop .i) (inside t) in
+    (pre .0 .placed, rw (origin-is c) known)
 
 marking-requires-2 : tie.Need-marking-requires-2 Inv-loop μ-loop
-marking-requires-2 c κs = (c .before .before .before .before .before .before .pre .1 .0 .placed, c .before .before .loop-test .taken)
+marking-requires-2 c κs =
+    let t = turn-of (c .before) in
+    (call (t .before) .pre .1 .0 .placed, t .loop-test .taken)
 
 returns : tie.Need-returns Inv-loop μ-loop
 returns c =
-    let pre = c .before .before .before .before .before .before .before .before .pre in
-    let a = c .before .before .before .before .before .before .before .before .args in
-    let p = origin-is (c .before .before .before) in
-    p
-    ∙ marking-found _ _ (no-caps (now (a .plan)) (a .hp)) (no-caps (now (a .slice)) (a .hs)) (pre .1 .0 .placeOrigins (pre .1 .1 .0)) (pre .1 .1 .1) (c .before .before .before .before .before .loop .i) (inside (c .before .before .before .before)) (c .before .before .before .before .before .loop .inv .1)
-    (λ e. c .if1 .taken (c .before .marking2 .ensures .0 ∙ e ∙ ap (netFrom (now (c .before .before .before .before .before .before .before .before .args .plan)) (c .before .before .before .before .before .before .before .before .args .hp) .marking) (sym p) ∙ sym (c .before .before .marking .ensures .0)))
+    let read = c .before in
+    let t = turn-of (origin-of read) in
+    let s = call (t .before) in
+    let a = s .args in
+    let pre = s .pre in
+    origin-is (origin-of read)
+    ∙ marking-found _ _ (no-caps (now (a .plan)) (a .hp)) (no-caps (now (a .slice)) (a .hs)) (pre .1 .0 .placeOrigins (pre .1 .1 .0)) (pre .1 .1 .1) (t .before .loop .i) (inside t) (t .before .loop .inv .1)
+    (λ e. c .if1 .taken (read .marking2 .ensures .0 ∙ e ∙ sym (tokens-are read)))
 
 add-i : tie.Need-add-i Inv-loop μ-loop
 add-i c = search needs
@@ -66,16 +93,16 @@ loop-less : tie.Need-loop-less Inv-loop μ-loop
 loop-less c = search needs
 
 loop-again : tie.Need-loop-again Inv-loop μ-loop
-loop-again c = (
-  omega (arith, c .before .before .before .before .loop-test .taken),
-  below-more _ _ (c .before .before .before .before .before .loop .inv .1)
-      (record { tokens = sym (c .before .marking2 .ensures .0) ∙ c .if1 .left ∙ c .before .before .marking .ensures .0 ∙ ap (netFrom (now (c .before .before .before .before .before .before .before .before .args .plan)) (c .before .before .before .before .before .before .before .before .args .hp) .marking) (origin-is (c .before .before .before)) }),
-)
+loop-again c =
+    let read = c .before in
+    let t = turn-of (origin-of read) in
+    (omega (arith, t .loop-test .taken), below-more _ _ (t .before .loop .inv .1) (record { tokens = sym (read .marking2 .ensures .0) ∙ c .if1 .left ∙ tokens-are read }))
 
 returns-2 : tie.Need-returns-2 Inv-loop μ-loop
 returns-2 c =
-    let pre = c .before .before .before .before .pre in
-    let a = c .before .before .before .before .args in
+    let s = call (c .before) in
+    let a = s .args in
+    let pre = s .pre in
     let long = length-words (now (a .slice)) (a .hs .originstart) (a .hs .places) in
     marking-none _ _ (no-caps (now (a .plan)) (a .hp)) (no-caps (now (a .slice)) (a .hs)) (pre .1 .0 .placeOrigins (pre .1 .1 .0)) (pre .1 .1 .1) (λ k l. c .before .loop .inv .1 k (omega (arith, c .loop-test .left)))
 
