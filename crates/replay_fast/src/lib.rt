@@ -7,6 +7,7 @@ use file::Header;
 use file::arcs::arc;
 use tables::LARGE_ARCS;
 use tables::MIDDLE_ARCS;
+use tables::SMALL_ARCS;
 use tables::entry;
 
 // Where a move has its place; below it stands what the arc adds, modulo 2^54.
@@ -157,6 +158,11 @@ pub fn ahead(file: &[u8], h: Header, table: &[u16], list: &[u16], marking: &mut 
 {
     if list.len() < 64 {
         return 0;
+    }
+    if h.arcs <= SMALL_ARCS {
+        let mut moves = [0u64; SMALL_ARCS];
+        moves_of(file, h, &mut moves);
+        return ahead_by(file, h, table, list, &moves, marking);
     }
     if h.arcs <= MIDDLE_ARCS {
         let mut moves = [0u64; MIDDLE_ARCS];
