@@ -31,31 +31,44 @@ mul-entry : tie.Need-mul-entry Inv-loop μ-loop
 mul-entry c = omega (arith, c .shared-slice-known3 .given (c .before .before .loop .i))
 
 shared-slice-read-entry : tie.Need-shared-slice-read-entry Inv-loop μ-loop
-shared-slice-read-entry c = c .before .before .before .loop .inv .reached .known (c .before .before .before .loop .i) (listed (c .before .before .before .loop .inv) (c .before .before .loop-test .taken))
+shared-slice-read-entry c =
+    let at = c .before .before .before .loop in
+    at .inv .reached .known (at .i) (listed (at .inv) (c .before .before .loop-test .taken))
 
 wrapping-sub-u16-requires : tie.Need-wrapping-sub-u16-requires Inv-loop μ-loop
 wrapping-sub-u16-requires c κs = search needs
 
 mul-out : tie.Need-mul-out Inv-loop μ-loop
-mul-out c = omega (arith, c .before .before .before .before .loop .inv .few, c .before .before .before .before .loop .inv .within, c .before .before .before .before .loop .inv .last .within, c .before .before .before .before .loop .inv .reached .short)
+mul-out c =
+    let x = c .before .before .before .before .loop .inv in
+    omega (arith, x .few, x .within, x .last .within, x .reached .short)
 
 slice-write-out : tie.Need-slice-write-out Inv-loop μ-loop
-slice-write-out c = omega (arith, fits (c .before .before .before .before .loop .inv) (c .before .before .before .loop-test .taken), c .before .before .before .before .loop .inv .room, c .before .before .before .before .loop .inv .long)
+slice-write-out c =
+    let x = c .before .before .before .before .loop .inv in
+    omega (arith, fits x (c .before .before .before .loop-test .taken), x .room, x .long)
 
 share-requires : tie.Need-share-requires Inv-loop μ-loop
 share-requires c κs = search needs
 
 add-n : tie.Need-add-n Inv-loop μ-loop
-add-n c = omega (arith, c .share .ensures .1, c .before .before .before .before .before .loop .inv .few, c .before .before .before .before .before .loop .inv .within, c .before .before .before .before .before .loop .inv .last .within, c .before .before .before .before .before .loop .inv .reached .short)
+add-n c =
+    let x = c .before .before .before .before .before .loop .inv in
+    omega (arith, c .share .ensures .1, x .few, x .within, x .last .within, x .reached .short)
 
 add-i : tie.Need-add-i Inv-loop μ-loop
-add-i c = omega (arith, c .before .before .before .before .before .loop .inv .within, c .before .before .before .before .before .loop .inv .last .within, c .before .before .before .before .before .loop .inv .reached .short)
+add-i c =
+    let x = c .before .before .before .before .before .loop .inv in
+    omega (arith, x .within, x .last .within, x .reached .short)
 
 loop-less : tie.Need-loop-less Inv-loop μ-loop
 loop-less c = search needs
 
 loop-again : tie.Need-loop-again Inv-loop μ-loop
-loop-again c = written-next (c .before .before .before .before .before .loop .inv) (c .before .before .before .before .loop-test .taken) (c .before .wrapping-sub-u16 .ok) (c .before .wrapping-sub-u16 .ensures) (c .share .ensures)
+loop-again c =
+    let t = c .before .before .before .before in
+    let less = c .before .wrapping-sub-u16 in
+    written-next (t .before .loop .inv) (t .loop-test .taken) (less .ok) (less .ensures) (c .share .ensures)
 
 same-length : tie.Need-same-length Inv-loop μ-loop
 same-length c = c .before .loop .inv .long
