@@ -1,0 +1,127 @@
+# shellcheck shell=bash disable=SC2154
+# Building, in the repository: the program is proved, compiled and linked where a source changed since.
+# The stamp holds one number for all sources, and its time is from before they were read. A call asks for files that changed
+# after that time, and reads the sources again only where there are some.
+stamp=$here/target/nesfoal.sum
+archive=$here/target/staticlib/libnesfoal.a
+
+# changed SINCE KIND..: has crates.txt, or a file or folder of crates/*/KIND, changed after the time of the file SINCE? By the time
+# at which it was changed here (ctime): an older file that is put in its place counts.
+changed() {
+    local since=$1 kind
+    local -a folders=()
+    shift
+    for kind; do folders+=("$here"/crates/*/"$kind"); done
+    [ -n "$(find "$here/crates.txt" "${folders[@]}" -cnewer "$since" -print -quit 2>&1)" ]
+}
+
+# One number for all sources, whatever the locale: names in byte order.
+sources() {
+    (
+        shopt -s globstar nullglob
+        cd -- "$here" || exit
+        files=()
+        for f in crates.txt crates/*/{src,specs,proofs}/**; do
+            [ -f "$f" ] && files+=("$f")
+        done
+        sha256sum -- "${files[@]}" | sha256sum
+    )
+}
+
+# The crates of the repository that the program is made of, one a line.
+declare -A uses seen
+needed() {
+    local d
+    [ -n "${uses[$1]+x}" ] || return 0
+    [ -z "${seen[$1]+x}" ] || return 0
+    seen[$1]=1
+    for d in ${uses[$1]}; do needed "$d"; done
+    echo "$1"
+}
+
+# toolchain WORDS..: runs rt in a process group of its own, which ends with this call, and gives `line` each line that it writes.
+toolchain() {
+    local line
+    command -v rt > /dev/null || fail "the toolchain's command rt is not in PATH"
+    mkfifo -- "$room/lines" || fail 'the build could not be started'
+    set -m
+    (cd -- "$here" && exec rt "$@") > "$room/lines" 2>&1 < /dev/null &
+    child=$!
+    set +m
+    while IFS= read -r line; do heard "$line"; done < "$room/lines"
+    wait "$child"
+    code=$?
+    child=''
+    rm -f -- "$room/lines"
+}
+
+# What rt says: a crate that is proved is a line; another line of rt's own is shown with the lines before it, which give its reason.
+heard() {
+    case $1 in
+        'rt: '*' proved ('*)
+            left=$((left - 1))
+            echo "  ${1#rt: }, $left left" >&2
+            kept=''
+            ;;
+        'rt: '*)
+            printf '%s  %s\n' "$kept" "${1#rt: }" >&2
+            kept=''
+            ;;
+        *) kept+="  $1"$'\n' ;;
+    esac
+}
+
+# Proves and links, with a line for each crate and how many are left.
+build() {
+    local line name
+    local -a all
+    while IFS=: read -r name line; do
+        case $name in '' | '#'*) ;; *) uses[$name]=${line%%#*} ;; esac
+    done < "$here/crates.txt"
+    mapfile -t all < <(needed slicer)
+    left=${#all[@]} kept='' code=''
+    echo "nesfoal: building: $left crates are proved, then the program is compiled and linked" >&2
+    rm -f -- "$stamp"
+    toolchain check slicer
+    if [ "$code" -ne 0 ]; then
+        printf '%s' "$kept" >&2
+        fail "the program was not built: 'rt check slicer' ended with status $code, and said what stands above"
+    fi
+    [ -x "$program" ] || fail "the program was not built: 'rt check slicer' left no target/bin/slicer"
+}
+
+# began: a file whose time is a second ago, so that a change at this very moment is later.
+began() {
+    more room
+    make_room
+    : > "$room/began"
+    touch -d '1 second ago' -- "$room/began"
+}
+
+# ready KIND..: builds where the program is not that of the sources. Only changes of the KINDs are looked for: a proof that changes
+# does not change the program that was proved, so a call does without proofs, and `build` looks for them too.
+ready() {
+    local sum
+    if [ -x "$program" ] && [ -f "$stamp" ] && ! changed "$stamp" "$@"; then return; fi
+    began
+    sum=$(sources)
+    if [ ! -x "$program" ] || [ ! -f "$stamp" ] || [ "$(< "$stamp")" != "$sum" ]; then
+        build
+        printf '%s\n' "$sum" > "$stamp"
+    fi
+    touch -r "$room/began" -- "$stamp" 2> /dev/null
+}
+
+# The library's archive, made again where a source changed since.
+library() {
+    if [ -f "$archive" ] && ! changed "$archive" src specs; then return; fi
+    left=1 kept='' code=''
+    echo 'nesfoal: building: the library is proved and written' >&2
+    began
+    toolchain staticlib nesfoal
+    if [ "$code" -ne 0 ] || [ ! -f "$archive" ]; then
+        printf '%s' "$kept" >&2
+        fail "the library was not built: 'rt staticlib nesfoal' ended with status $code, and said what stands above"
+    fi
+    touch -r "$room/began" -- "$archive"
+}

@@ -1,0 +1,42 @@
+# shellcheck shell=bash disable=SC2034,SC2154
+# Temporary files, which go on the way out, also by a signal; and what the system says, in the program's words.
+if [ -n "${room+x}" ]; then return 0; fi
+room=''    # a folder for temporary files
+beside=''  # a temporary file beside OUT
+child=''   # the process group of a build
+running='' # set while the program runs that $! is
+
+# Nothing stays behind, and nothing goes on.
+leave() {
+    if [ -n "$child" ]; then kill -TERM -- "-$child"; fi 2> /dev/null
+    if [ -n "$running" ]; then kill -TERM "$!"; fi 2> /dev/null
+    if [ -n "$beside" ]; then rm -f -- "$beside" "$beside".??????; fi
+    if [ -n "$room" ]; then rm -rf -- "$room"; fi
+}
+trap leave EXIT
+trap 'exit 129' HUP
+trap 'exit 130' INT
+trap 'exit 143' TERM
+
+make_room() {
+    [ -z "$room" ] || return 0
+    room=$(mktemp -d "${TMPDIR:-/tmp}/nesfoal.XXXXXX" 2> /dev/null) || fail "no temporary folder can be made in ${TMPDIR:-/tmp}"
+}
+
+# reason TEXT: why a command failed, which says it last.
+reason() {
+    case ${1##*: } in
+        'No such file or directory') echo 'no such file or folder' ;;
+        'Permission denied') echo 'no permission' ;;
+        'Operation not permitted') echo 'not permitted' ;;
+        'Not a directory') echo 'a part of the path is no folder' ;;
+        'Is a directory') echo 'it is a folder' ;;
+        'File name too long') echo 'the name is too long' ;;
+        'File too large') echo 'too large' ;;
+        'No space left on device' | 'Disk quota exceeded') echo 'the disk is full' ;;
+        'Read-only file system') echo 'the disk is read-only' ;;
+        'Too many levels of symbolic links') echo 'a loop of links' ;;
+        'Input/output error') echo 'a read or write failed' ;;
+        *) printf '%s\n' "${1##*: }" ;;
+    esac
+}
