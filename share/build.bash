@@ -29,7 +29,7 @@ sources() {
 }
 
 # The crates of the repository that the program is made of, one a line.
-declare -A uses seen
+declare -gA uses=() seen=()
 needed() {
     local d
     [ -n "${uses[$1]+x}" ] || return 0
@@ -42,7 +42,6 @@ needed() {
 # toolchain WORDS..: runs rt in a process group of its own, which ends with this call, and gives `line` each line that it writes.
 toolchain() {
     local line
-    command -v rt > /dev/null || fail "the toolchain's command rt is not in PATH"
     mkfifo -- "$room/lines" || fail 'the build could not be started'
     set -m
     (cd -- "$here" && exec rt "$@") > "$room/lines" 2>&1 < /dev/null &
@@ -75,6 +74,7 @@ heard() {
 build() {
     local line name
     local -a all
+    command -v rt > /dev/null || fail "the toolchain's command rt is not in PATH"
     while IFS=: read -r name line; do
         case $name in '' | '#'*) ;; *) uses[$name]=${line%%#*} ;; esac
     done < "$here/crates.txt"
@@ -115,6 +115,7 @@ ready() {
 # The library's archive, made again where a source changed since.
 library() {
     if [ -f "$archive" ] && ! changed "$archive" src specs; then return; fi
+    command -v rt > /dev/null || fail "the toolchain's command rt is not in PATH"
     left=1 kept='' code=''
     echo 'nesfoal: building: the library is proved and written' >&2
     began
