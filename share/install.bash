@@ -3,15 +3,16 @@
 # Nothing in it names PREFIX, so that the whole may be moved.
 more room
 listing=share/nesfoal/installed
+removed=0
 
 # folder NAME: makes it below the prefix, and what it stands in, and lists what was made.
 folder() {
     local path=$prefix part
-    [ -d "$path" ] || mkdir -p -- "$path" || fail "$prefix: the folder could not be made"
+    [ -d "$path" ] || mkdir -p -- "$path" 2> /dev/null || fail "$prefix: the folder could not be made"
     while read -r part; do
         path+=/$part
         [ -d "$path" ] && continue
-        mkdir -- "$path" || fail "$path: the folder could not be made"
+        mkdir -- "$path" 2> /dev/null || fail "$path: the folder could not be made"
         made=("${path#"$prefix/"}/" "${made[@]}")
     done < <(tr / '\n' <<< "$1")
 }
@@ -33,7 +34,7 @@ install_at() {
     if [ -f "$prefix/$listing" ]; then take_away; fi
     put 755 bin/nesfoal < "$here/nesfoal"
     put 755 libexec/nesfoal/slicer < "$program"
-    for f in "$share"/*.bash "$share"/json.awk "$share"/help.txt; do put 644 "share/nesfoal/${f##*/}" < "$f"; done
+    for f in "$share"/{room,help,inputs,cuts,checks,install}.bash "$share"/{json.awk,help.txt}; do put 644 "share/nesfoal/${f##*/}" < "$f"; done
     put 644 include/nesfoal.h < "$header"
     put 644 lib/libnesfoal.a < "$archive"
     put 644 lib/pkgconfig/nesfoal.pc < <(package)
@@ -45,7 +46,6 @@ install_at() {
 }
 
 uninstall_at() {
-    local removed=0
     prefix=${1%/}
     [ -f "$prefix/$listing" ] || fail "$1: no nesfoal is installed there"
     take_away
