@@ -84,20 +84,26 @@ END
 
 # The manual, from the words of help.
 manual() {
-    local v line
+    local v
     more help
-    printf '%s\n' '.TH NESFOAL 1 "" "nesfoal '"$(version)"'" "Nesfoal"' '.SH NAME' \
-        'nesfoal \- cut, check and replay place/transition nets' '.SH SYNOPSIS' \
-        '.B nesfoal' '[\-\-json] [\-\-force] VERB ..' '.SH DESCRIPTION' '.nf'
+    printf '%s\n' ".TH NESFOAL 1 \"\" \"nesfoal $(version)\" Nesfoal" '.SH NAME' 'nesfoal \- cut, check and replay place/transition nets' \
+        '.SH SYNOPSIS' '.B nesfoal' '[\-\-json] [\-\-force] VERB ..' '.SH DESCRIPTION'
     section '' | roff
-    printf '%s\n' '.fi' '.SH VERBS'
+    echo '.SH VERBS'
     while IFS= read -r v; do
-        printf '.SS %s\n.nf\n' "$v"
+        printf '.SS %s\n' "$v"
         entry "$v" | roff
-        printf '%s\n' '.fi'
     done < <(verbs)
-    printf '%s\n' '.SH FILES' 'What a killed run may leave: an empty or unfinished file .nesfoal\-* beside OUT, and a folder nesfoal.* in TMPDIR.'
+    printf '%s\n' '.SH FILES' 'A run that is killed may leave a file .nesfoal\-* beside OUT, and a folder nesfoal.* in TMPDIR.'
 }
 
-# roff: lines as they are.
-roff() { sed 's/\\/\\e/g; s/-/\\-/g; s/^[.'\'']/\\\&&/'; }
+# roff: indented lines as they are, the others filled.
+roff() {
+    sed 's/\\/\\e/g; s/-/\\-/g' | awk '
+        function put(s) { print (s ~ /^[.\047]/ ? "\\&" s : s) }
+        /^    / { if (!kept) print ".RS\n.nf"; kept = 1; put(substr($0, 5)); next }
+        kept { print ".fi\n.RE"; kept = 0 }
+        $0 == "" { print ".PP"; next }
+        { put($0) }
+        END { if (kept) print ".fi\n.RE" }'
+}
