@@ -44,10 +44,10 @@ toolchain() {
     local line
     mkfifo -- "$room/lines" || fail 'the build could not be started'
     set -m
-    (cd -- "$here" && exec rt "$@") > "$room/lines" 2>&1 < /dev/null &
+    (cd -- "$here" && LC_ALL=$locale && exec rt "$@") > "$room/lines" 2>&1 < /dev/null &
     child=$!
     set +m
-    while IFS= read -r line; do heard "$line"; done < "$room/lines"
+    while IFS= read -r line || [ -n "$line" ]; do heard "$line"; done < "$room/lines"
     wait "$child"
     code=$?
     child=''

@@ -23,7 +23,7 @@ check_many() {
             ;;
     esac
     for slice in "${slices[@]}"; do
-        name=${shown[$slice]-$slice}
+        named "$slice"
         ask check "$plan" "$slice" "${criterion[@]}"
         case $answer in
             "error: $name: "*) answer="error: ${answer#"error: $name: "}" ;;
@@ -47,7 +47,7 @@ check_many() {
 # draw dot FILE, draw dot PLAN SLICE Q..: the picture; and a note where the slice is not a part of the plan by rules 1 to 4, which
 # do not depend on the criterion.
 draw() {
-    local picture note=''
+    local picture name note=''
     ask "$@"
     picture=$answer
     case "$# $picture" in
@@ -56,12 +56,13 @@ draw() {
             ask check "$2" "$3" 0
             case $answer in 'refused '*) ask check "$2" "$3" ;; esac
             case $answer in
-                'rule '[1-4]' '*) note="$(named "$3") is not accepted as a part of $(named "$2"): $answer" ;;
+                'rule '[1-4]' '*)
+                    named "$3" && note="$name is not accepted as a part of "
+                    named "$2" && note+="$name: $answer"
+                    ;;
             esac
             ;;
     esac
     NESFOAL_NOTE=$note tell "$picture"
     if [ -n "$note" ] && [ -z "$json" ]; then printf 'note: %s\n' "$note" >&2; fi
 }
-
-named() { printf '%s\n' "${shown[$1]-$1}"; }

@@ -1,4 +1,4 @@
-# shellcheck shell=bash disable=SC2004,SC2034,SC2154
+# shellcheck shell=bash disable=SC2034,SC2154
 # The cuts: where OUT may be written, and that it appears whole or not at all. The program writes a temporary file in OUT's folder, which
 # gets OUT's mode and name once it is whole.
 more room
@@ -59,10 +59,10 @@ begin() {
         { true > "$try"; } 2> /dev/null && beside=$try
         set +C
         [ -z "$beside" ] || break
-        [ -e "$try" ] || fail "$1: $(reason "$({ true > "$try"; } 2>&1)")"
+        [ -e "$try" ] || fail "$1: $(reason "$(set -C && { true > "$try"; } 2>&1)")"
     done
     [ -n "$beside" ] || fail "$1: no temporary file can be made beside it"
-    shown[$beside]=$1
+    named "$beside" "$1"
 }
 
 # end OUT: gives the file beside the mode, and OUT's name. A file system without modes is no hindrance.
@@ -84,7 +84,7 @@ write() {
         'written '*) end "$3" ;;
         *) rm -f -- "$beside" ;;
     esac
-    unset "shown[$beside]"
+    unset 'temporary[-1]' 'names[-1]'
     beside=''
     tell "$answer"
 }
@@ -103,6 +103,7 @@ cut_to() {
         cut_through "$@"
         return
     fi
+    if [ "${#3}" -gt 4095 ]; then fail "${3:0:60}..: the name is too long"; fi
     if out_bad "$3" "$2" "$list"; then fail "$3: $why"; fi
     write "$@"
 }
@@ -112,7 +113,7 @@ cut_through() {
     answers=2
     if [ -t 1 ] && [ -z "$force" ]; then fail '-: standard output is a terminal, and a slice is no text'; fi
     make_room
-    shown[$room/slice]=-
+    named "$room/slice" -
     ask "$1" "$2" "$room/slice" "${@:4}"
     case $answer in
         'written '*) cat -- "$room/slice" 2> /dev/null || fail '-: the slice could not be written' ;;

@@ -1,4 +1,4 @@
-# shellcheck shell=bash disable=SC2004,SC2034,SC2154
+# shellcheck shell=bash disable=SC2034,SC2154
 # Standard input and lists. The program reads files, and lists of two bytes an entry; here - becomes a file, and a list in text
 # becomes such a list. A file with nothing but text in it is no list of two bytes an entry: its numbers would all be above
 # 2,312, and no net has so many places or transitions.
@@ -39,7 +39,7 @@ standard_input() {
     taken=1
     make_room
     said=$({ head -c "$1" > "$room/input"; } 2>&1) || fail "-: $(reason "$said")"
-    shown[$room/input]=-
+    named "$room/input" -
 }
 
 # list_at INDEX: the list that this word names.
@@ -54,7 +54,7 @@ list_at() {
         make_room
         head -c $((longest + 1)) < "$file" > "$room/list-input" 2> /dev/null
         file=$room/list-input
-        shown[$file]=$name
+        named "$file" "$name"
         words[$1]=@$file
     fi
     if [ -f "$file" ] && [ -r "$file" ] && [ -s "$file" ] && is_text "$file"; then

@@ -23,6 +23,19 @@ make_room() {
     room=$(mktemp -d "${TMPDIR:-/tmp}/nesfoal.XXXXXX" 2> /dev/null) || fail "no temporary folder can be made in ${TMPDIR:-/tmp}"
 }
 
+# named FILE [NAME]: from now on a temporary file has this name; without one, its name, or that of any other file, into `name`.
+named() {
+    local i
+    if [ "$#" -eq 2 ]; then
+        temporary+=("$1") names+=("$2")
+        return
+    fi
+    name=$1
+    for i in "${!temporary[@]}"; do
+        if [ "$1" = "${temporary[i]}" ]; then name=${names[i]}; fi
+    done
+}
+
 # reason TEXT: why a command failed, which says it last.
 reason() {
     case ${1##*: } in
@@ -32,11 +45,12 @@ reason() {
         'Not a directory') echo 'a part of the path is no folder' ;;
         'Is a directory') echo 'it is a folder' ;;
         'File name too long') echo 'the name is too long' ;;
+        'File exists') echo 'it exists' ;;
         'File too large') echo 'too large' ;;
         'No space left on device' | 'Disk quota exceeded') echo 'the disk is full' ;;
         'Read-only file system') echo 'the disk is read-only' ;;
-        'Too many levels of symbolic links') echo 'a loop of links' ;;
-        'Input/output error') echo 'a read or write failed' ;;
+        'Too many levels of symbolic links') echo 'links that lead in a circle' ;;
+        'Input/output error') echo 'the device failed to read or write (5)' ;;
         *) printf '%s\n' "${1##*: }" ;;
     esac
 }
