@@ -39,7 +39,7 @@ needed() {
     echo "$1"
 }
 
-# toolchain WORDS..: runs rt in a process group of its own, which ends with this call, and gives `line` each line that it writes.
+# toolchain WORDS..: runs rt in a process group of its own, which ends with this call; each line that it writes is `heard`.
 toolchain() {
     local line
     mkfifo -- "$room/lines" || fail 'the build could not be started'

@@ -67,12 +67,11 @@ begin() {
 
 # end OUT: gives the file beside the mode, and OUT's name. A file system without modes is no hindrance.
 end() {
-    local said mask
-    if [ -z "$mode" ]; then
-        mask=$(umask)
-        [ "$mask" = 0022 ] || printf -v mode %o $((0666 & ~0$mask))
-    fi
-    [ -z "$mode" ] || chmod "$mode" -- "$beside" 2> /dev/null
+    local said mask new
+    mask=$(umask)
+    printf -v new %o $((0666 & ~0$mask))
+    mode=${mode:-$new}
+    [ "$mode $new" = '644 644' ] || chmod "$mode" -- "$beside" 2> /dev/null
     said=$(mv -fT -- "$beside" "$1" 2>&1) || fail "$1: $(reason "$said")"
 }
 

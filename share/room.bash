@@ -36,6 +36,19 @@ named() {
     done
 }
 
+# steady INDEX..: these words of the command name files that are read more than once, so what is no plain file is copied.
+steady() {
+    local i
+    for i; do
+        if [ -e "${words[i]-}" ] && [ ! -f "${words[i]}" ] && [ ! -d "${words[i]}" ]; then
+            make_room
+            head -c 65537 < "${words[i]}" > "$room/file$i" 2> /dev/null
+            named "$room/file$i" "${words[i]}"
+            words[i]=$room/file$i
+        fi
+    done
+}
+
 # reason TEXT: why a command failed, which says it last.
 reason() {
     case ${1##*: } in
