@@ -50,19 +50,16 @@ draw() {
     local picture name note=''
     ask "$@"
     picture=$answer
-    case "$# $picture" in
-        [12]' '*) ;;
-        *' digraph '*)
-            ask check "$2" "$3" 0
-            case $answer in 'refused '*) ask check "$2" "$3" ;; esac
-            case $answer in
-                'rule '[1-4]' '*)
-                    named "$3" && note="$name is not accepted as a part of "
-                    named "$2" && note+="$name: $answer"
-                    ;;
-            esac
-            ;;
-    esac
+    if [[ $# -gt 2 && $picture == 'digraph '* ]]; then
+        ask check "$2" "$3" 0
+        case $answer in 'refused '*) ask check "$2" "$3" ;; esac # no place 0
+        case $answer in
+            'rule '[1-4]' '*)
+                named "$3" && note="$name is not accepted as a part of "
+                named "$2" && note+="$name: $answer"
+                ;;
+        esac
+    fi
     NESFOAL_NOTE=$note tell "$picture"
     if [ -n "$note" ] && [ -z "$json" ]; then printf 'note: %s\n' "$note" >&2; fi
 }
