@@ -6,8 +6,9 @@ beside=''  # a temporary file beside OUT
 child=''   # the process group of a build
 running='' # set while the program runs that $! is
 
-# Nothing stays behind, and nothing goes on.
+# Nothing stays behind, and nothing goes on. A second signal does not hinder it.
 leave() {
+    trap '' HUP INT TERM
     if [ -n "$child" ]; then kill -TERM -- "-$child"; fi 2> /dev/null
     if [ -n "$running" ]; then kill -TERM "$!"; fi 2> /dev/null
     if [ -n "$beside" ]; then rm -f -- "$beside" "$beside".??????; fi
@@ -20,7 +21,7 @@ trap 'exit 143' TERM
 
 make_room() {
     [ -z "$room" ] || return 0
-    room=$(mktemp -d "${TMPDIR:-/tmp}/nesfoal.XXXXXX" 2> /dev/null) || fail "no temporary folder can be made in ${TMPDIR:-/tmp}"
+    room=$(mktemp -d --tmpdir nesfoal.XXXXXX 2> /dev/null) || fail 'no temporary folder can be made (TMPDIR says where)'
 }
 
 # named FILE [NAME]: from now on a temporary file has this name; without one, its name, or that of any other file, into `name`.
