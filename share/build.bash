@@ -1,8 +1,7 @@
 # shellcheck shell=bash disable=SC2154
 # Building, in the repository: the program is proved, compiled and linked where a source changed since.
-# The stamp holds one number for all sources, and its time is from before they were read. A call asks for files that changed
-# after that time, and reads the sources again only where there are some.
-stamp=$here/target/nesfoal.sum
+# The stamp holds one number for all sources, and its time is from before they were read for it: where nothing changed after that time, they
+# are not read again.
 archive=$here/target/staticlib/libnesfoal.a
 
 # changed SINCE KIND..: has crates.txt, or a file or folder of crates/*/KIND, changed after the time of the file SINCE? By the time
@@ -98,11 +97,10 @@ began() {
     touch -d '1 second ago' -- "$room/began"
 }
 
-# ready KIND..: builds where the program is not that of the sources. Only changes of the KINDs are looked for: a proof that changes
-# does not change the program that was proved, so a call does without proofs, and `build` looks for them too.
+# ready: builds where the program is not that of the sources.
 ready() {
     local sum
-    if [ -x "$program" ] && [ -f "$stamp" ] && ! changed "$stamp" "$@"; then return; fi
+    if [ -x "$program" ] && [ -f "$stamp" ] && ! changed "$stamp" src specs proofs; then return; fi
     began
     sum=$(sources)
     if [ ! -x "$program" ] || [ ! -f "$stamp" ] || [ "$(< "$stamp")" != "$sum" ]; then

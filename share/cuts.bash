@@ -67,8 +67,9 @@ begin() {
 
 # end OUT: gives the file beside the mode, and OUT's name. A file system without modes is no hindrance.
 end() {
-    local said mask new
-    mask=$(umask)
+    local said mask new key
+    # the umask, where the system tells it without another process
+    { read -r _ && read -r key mask; } 2> /dev/null < /proc/self/status && [ "$key" = Umask: ] || mask=$(umask)
     printf -v new %o $((0666 & ~0$mask))
     mode=${mode:-$new}
     [ "$mode $new" = '644 644' ] || chmod "$mode" -- "$beside" 2> /dev/null
