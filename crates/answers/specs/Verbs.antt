@@ -1,8 +1,11 @@
--- The verbs by name and number, how many words each takes, and where its numbers start.
+-- The verbs by name, and how many words each takes.
 use Prim.Native.Nat.{ℕ}
-use mathlib.Core.Bool.{Bool, true, false, not, _&&_, _||_}
+use mathlib.Core.Bool.{Bool, true, false, _&&_}
 use mathlib.Core.List.{List, [], _∷_}
-use lib.Dec.{eqb, leb, ltb}
+use lib.Dec.{eqb, leb}
+use Rattle.answers.specs.declared.verbs.Verb.{Verb}
+use Rattle.answers.specs.declared.verbs.Words.{Words}
+use Rattle.answers.specs.declared.verbs.Verb.the-variants.{Unknown, Show, Dot, Effect, Replay, Safety, Branching, DotSlice, Arcs, Check, Project}
 
 -- do two byte strings hold the same bytes?
 unfoldable pub same : List ℕ → List ℕ → Bool
@@ -10,11 +13,6 @@ same [] [] = true
 same [] (b ∷ bs) = false
 same (a ∷ as′) [] = false
 same (a ∷ as′) (b ∷ bs) = eqb a b && same as′ bs
-
--- a where the test holds, else b
-abbrev pub pick : Bool → ℕ → ℕ → ℕ
-pick true a b = a
-pick false a b = b
 
 -- the names, in bytes
 abbrev pub show : List ℕ
@@ -44,30 +42,37 @@ check = 99 ∷ 104 ∷ 101 ∷ 99 ∷ 107 ∷ []
 abbrev pub project : List ℕ
 project = 112 ∷ 114 ∷ 111 ∷ 106 ∷ 101 ∷ 99 ∷ 116 ∷ []
 
--- the verbs on one file
-unfoldable pub ofOne : List ℕ → ℕ
-ofOne w = pick (same w show) 1 (pick (same w effect) 3 (pick (same w replay) 4 (pick (same w safety) 5 (pick (same w branching) 6 0))))
+-- a where the test holds, else b
+abbrev pub pick : Bool → Verb → Verb → Verb
+pick true a b = a
+pick false a b = b
 
--- the verbs on two files
-unfoldable pub ofTwo : List ℕ → ℕ
-ofTwo w = pick (same w dot) 7 (pick (same w arcs) 8 (pick (same w check) 9 (pick (same w project) 10 0)))
+-- the verbs on two files, and dot: of one file where there are at most 3 words
+unfoldable pub ofTwo : List ℕ → ℕ → Verb
+ofTwo w count =
+    pick (same w dot) (pick (leb count 3) Dot DotSlice)
+    (pick (same w arcs) Arcs (pick (same w check) Check (pick (same w project) Project Unknown)))
 
--- the verb of a command of so many words: dot is 2 where it has one file
-unfoldable pub verbOf : List ℕ → ℕ → ℕ
-verbOf w count = pick (not (eqb (ofOne w) 0)) (ofOne w) (pick (eqb (ofTwo w) 7 && leb count 3) 2 (ofTwo w))
+-- the verb of a command of so many words, the program's name among them
+unfoldable pub verbOf : List ℕ → ℕ → Verb
+verbOf w count =
+    pick (same w show) Show
+    (pick (same w effect) Effect
+    (pick (same w replay) Replay (pick (same w safety) Safety (pick (same w branching) Branching (ofTwo w count)))))
 
--- the fewest words, the program's name among them
-abbrev pub fewestOf : ℕ → ℕ
-fewestOf v = pick (eqb v 1 || eqb v 2 || eqb v 4) 3 (pick (eqb v 3) 5 (pick (eqb v 8) 6 4))
+abbrev pub row : ℕ → ℕ → ℕ → Words
+row fewest most list = record { fewest = fewest; most = most; list = list }
 
--- the most
-abbrev pub mostOf : ℕ → ℕ → ℕ
-mostOf v count = pick (eqb v 1 || eqb v 2) 3 (pick (eqb v 3) 5 (pick (eqb v 8) 6 count))
-
--- a verb with as many words as it takes
-abbrev pub fitting : ℕ → ℕ → Bool
-fitting v count = not (eqb v 0) && leb (fewestOf v) count && leb count (mostOf v count)
-
--- the word where its numbers start
-abbrev pub listAt : ℕ → ℕ
-listAt v = pick (ltb v 5) 3 (pick (eqb v 8) 5 4)
+-- the fewest words that a verb takes, the most, and the first of its numbers; no verb takes none
+abbrev pub takenBy : Verb → ℕ → Words
+takenBy Unknown count = row 4 0 4
+takenBy Show count = row 3 3 3
+takenBy Dot count = row 3 3 3
+takenBy Effect count = row 5 5 3
+takenBy Replay count = row 3 count 3
+takenBy Safety count = row 4 count 4
+takenBy Branching count = row 4 count 4
+takenBy DotSlice count = row 4 count 4
+takenBy Arcs count = row 6 6 5
+takenBy Check count = row 4 count 4
+takenBy Project count = row 4 count 4

@@ -1,6 +1,7 @@
 // replay: the marking after all firings, or where the list is stuck.
 ghost use mathlib.Core.Path.{_≡_};
 ghost use lib.ListN.{getD};
+use terminal::phrases;
 use terminal::say;
 
 // The tokens on place p.
@@ -13,32 +14,24 @@ fn entry(marking: &[u64], p: usize) -> u64
     0
 }
 
-fn tokens(marking: &[u64], p: usize) {
-    say::form(b" %", &[entry(marking, p) as usize]);
-}
-
-// The tokens of each of the `count` places.
-fn marking_of(marking: &[u64], count: usize) {
+// The tokens of each of so many places.
+pub fn fired(count: usize, marking: &[u64], places: usize) {
+    say::one(phrases::FIRED, count);
     let mut p = 0;
-    while p < count {
-        tokens(marking, p);
+    while p < places {
+        say::one(phrases::ENTRY, entry(marking, p) as usize);
         p += 1;
     }
-}
-
-pub fn fired(count: usize, marking: &[u64], places: usize) {
-    say::text(b"fired ");
-    say::counted(count, b"transition");
-    say::text(b", ending");
-    marking_of(marking, places);
-    say::text(b"\n");
+    say::plain(phrases::END);
 }
 
 pub fn stuck(list: &[u16], index: u32, place: u32, amount: u32) {
     let i = index as usize;
-    let t = blame::numbers::entry(list, i);
-    say::form(
-        b"stuck at index %: transition %, place % is short of %\n",
-        &[i, t, place as usize, amount as usize],
+    say::four(
+        phrases::STUCK,
+        i,
+        blame::numbers::entry(list, i),
+        place as usize,
+        amount as usize,
     );
 }

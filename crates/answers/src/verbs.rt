@@ -1,112 +1,103 @@
-// The verbs that ask about files, by number: 1 show, 2 dot of one file, 3 effect, 4 replay, 5 safety, 6 branching, all on one file;
-// 7 dot of two files, 8 arcs, 9 check, 10 project, on a plan and a slice; 0 none of them.
+// The verbs that ask about files.
 ghost use mathlib.Core.Path.{_≡_};
-ghost use Rattle.answers.specs.Verbs.{ofOne, ofTwo, verbOf, fewestOf, mostOf, fitting, listAt};
+ghost use mathlib.Core.Bool.{_&&_};
+ghost use lib.Dec.{leb};
+ghost use Rattle.answers.specs.Verbs.{ofTwo, verbOf, row, takenBy};
 
-// On one file.
-fn first(word: &[u8]) -> u8
-    ensures { λ r. ⌜ r ≡ ofOne (now (word .entry)) ⌝ }
-{
-    if check::same(word, b"show") {
-        return 1;
-    }
-    if check::same(word, b"effect") {
-        return 3;
-    }
-    if check::same(word, b"replay") {
-        return 4;
-    }
-    if check::same(word, b"safety") {
-        return 5;
-    }
-    if check::same(word, b"branching") {
-        return 6;
-    }
-    0
+// Dot is of one file, DotSlice of a plan and a slice.
+pub enum Verb {
+    Unknown,
+    Show,
+    Dot,
+    Effect,
+    Replay,
+    Safety,
+    Branching,
+    DotSlice,
+    Arcs,
+    Check,
+    Project,
 }
 
-// On two.
-fn second(word: &[u8]) -> u8
-    ensures { λ r. ⌜ r ≡ ofTwo (now (word .entry)) ⌝ }
+// The verbs on two files, and dot.
+fn second(word: &[u8], count: usize) -> Verb
+    ensures { λ r. ⌜ r ≡ ofTwo (now (word .entry)) count ⌝ }
 {
     if check::same(word, b"dot") {
-        return 7;
+        if count <= 3 {
+            return Verb::Dot;
+        }
+        return Verb::DotSlice;
     }
     if check::same(word, b"arcs") {
-        return 8;
+        return Verb::Arcs;
     }
     if check::same(word, b"check") {
-        return 9;
+        return Verb::Check;
     }
     if check::same(word, b"project") {
-        return 10;
+        return Verb::Project;
     }
-    0
+    Verb::Unknown
 }
 
 // The verb that a word is, in a command of so many words, the program's name among them.
-pub fn named(word: &[u8], count: usize) -> u8
+pub fn named(word: &[u8], count: usize) -> Verb
     ensures { λ r. ⌜ r ≡ verbOf (now (word .entry)) count ⌝ }
 {
-    let one = first(word);
-    if one != 0 {
-        return one;
+    if check::same(word, b"show") {
+        return Verb::Show;
     }
-    let two = second(word);
-    if (two == 7) & (count <= 3) {
-        return 2;
+    if check::same(word, b"effect") {
+        return Verb::Effect;
     }
-    two
+    if check::same(word, b"replay") {
+        return Verb::Replay;
+    }
+    if check::same(word, b"safety") {
+        return Verb::Safety;
+    }
+    if check::same(word, b"branching") {
+        return Verb::Branching;
+    }
+    second(word, count)
 }
 
-// The fewest words that the verb takes.
-fn fewest(verb: u8) -> usize
-    ensures { λ r. ⌜ r ≡ fewestOf verb ⌝ }
-{
-    if (verb == 1) | (verb == 2) | (verb == 4) {
-        return 3;
-    }
-    if verb == 3 {
-        return 5;
-    }
-    if verb == 8 {
-        return 6;
-    }
-    4
+// How many words a verb takes at least and at most, and which is the first of its numbers.
+pub struct Words {
+    pub fewest: usize,
+    pub most: usize,
+    pub list: usize,
 }
 
-// The most: as many as there are, for a verb that takes a list.
-fn most(verb: u8, count: usize) -> usize
-    ensures { λ r. ⌜ r ≡ mostOf verb count ⌝ }
+fn row(fewest: usize, most: usize, list: usize) -> Words
+    ensures { λ r. ⌜ r ≡ row fewest most list ⌝ }
 {
-    if (verb == 1) | (verb == 2) {
-        return 3;
+    Words { fewest, most, list }
+}
+
+// The words of a verb in a command of so many: a list takes as many as there are.
+pub fn taken(verb: Verb, count: usize) -> Words
+    ensures { λ r. ⌜ r ≡ takenBy verb count ⌝ }
+{
+    match verb {
+        Verb::Unknown => row(4, 0, 4),
+        Verb::Show => row(3, 3, 3),
+        Verb::Dot => row(3, 3, 3),
+        Verb::Effect => row(5, 5, 3),
+        Verb::Replay => row(3, count, 3),
+        Verb::Safety => row(4, count, 4),
+        Verb::Branching => row(4, count, 4),
+        Verb::DotSlice => row(4, count, 4),
+        Verb::Arcs => row(6, 6, 5),
+        Verb::Check => row(4, count, 4),
+        Verb::Project => row(4, count, 4),
     }
-    if verb == 3 {
-        return 5;
-    }
-    if verb == 8 {
-        return 6;
-    }
-    count
 }
 
 // Are there as many words as the verb takes?
-pub fn fits(verb: u8, count: usize) -> bool
-    ensures { λ r. ⌜ r ≡ fitting verb count ⌝ }
+pub fn fits(w: Words, count: usize) -> bool
+    ensures { λ r. ⌜ r ≡ (leb (w .fewest) count && leb count (w .most)) ⌝ }
 {
-    (verb != 0) & (fewest(verb) <= count) & (count <= most(verb, count))
-}
-
-// Where the verb's numbers start.
-pub fn list_at(verb: u8) -> usize
-    ensures { λ r. ⌜ r ≡ listAt verb ⌝ }
-{
-    if verb < 5 {
-        return 3;
-    }
-    if verb == 8 {
-        return 5;
-    }
-    4
+    (w.fewest <= count) & (count <= w.most)
 }

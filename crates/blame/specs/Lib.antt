@@ -2,3 +2,4 @@ pub mod Head
 pub mod Arcs
 pub mod Origins
 pub mod Numbers
+pub mod Conditions

@@ -9,6 +9,7 @@ use crate::picture;
 use file::Due;
 use file::Header;
 use file::Reading;
+use terminal::phrases;
 use terminal::say;
 use words::refusal;
 
@@ -44,17 +45,11 @@ fn mark(criterion: &[u16], shades: &mut [u8])
     }
 }
 
-fn unknown(p: usize, places: usize) {
-    say::form(b"error: the plan has no place %: it has ", &[p]);
-    say::counted(places, b"place");
-    say::text(b", numbered from 0\n");
-}
-
 // A net by itself.
 pub fn one(file: &[u8]) {
     let whole = file::read(file, Due::Either);
     let Reading::Whole(h) = whole else {
-        refusal::of_file(file::number(whole), b"file", file);
+        refusal::of_file(file::number(whole), 2, file);
         return;
     };
     picture::whole(file, h);
@@ -83,7 +78,11 @@ fn drawn(plan: &[u8], p: Header, slice: &[u8], s: Header, criterion: &[u16])
 {
     let k = blame::numbers::below(criterion, p.places);
     if k < criterion.len() {
-        unknown(blame::numbers::entry(criterion, k), p.places);
+        say::two(
+            phrases::NO_PLACE,
+            blame::numbers::entry(criterion, k),
+            p.places,
+        );
         return;
     }
     kept(plan, p, slice, s, criterion);
@@ -93,12 +92,12 @@ fn drawn(plan: &[u8], p: Header, slice: &[u8], s: Header, criterion: &[u16])
 pub fn two(plan: &[u8], slice: &[u8], criterion: &[u16]) {
     let first = file::read(plan, Due::Plan);
     let Reading::Whole(p) = first else {
-        refusal::of_file(file::number(first), b"plan", plan);
+        refusal::of_file(file::number(first), 2, plan);
         return;
     };
     let second = file::read(slice, Due::Slice);
     let Reading::Whole(s) = second else {
-        refusal::of_file(file::number(second), b"slice", slice);
+        refusal::of_file(file::number(second), 3, slice);
         return;
     };
     drawn(plan, p, slice, s, criterion);

@@ -1,4 +1,5 @@
 // A net in words and as a picture.
 pub mod dot;
+mod notes;
 pub mod picture;
 pub mod show;

@@ -5,6 +5,7 @@ ghost use lib.ListN.{getD};
 ghost use Rattle.file.specs.Facts.{Sound};
 use file::Header;
 use net::Arc;
+use terminal::phrases;
 use terminal::say;
 
 // The shade of number i.
@@ -20,22 +21,22 @@ fn shade(shades: &[u8], i: usize) -> u8
 // The colours of a shade, and the end of the line.
 fn colour(s: u8) {
     match s {
-        0 => say::text(b"\" color=grey75 fontcolor=grey65]\n"),
-        2 => say::text(b"\" color=firebrick penwidth=2.5]\n"),
-        _ => say::text(b"\" color=black]\n"),
+        0 => say::plain(phrases::LEFT_OUT),
+        2 => say::plain(phrases::MARKED),
+        _ => say::plain(phrases::DRAWN),
     }
 }
 
 fn tokens(n: usize) {
     if n != 0 {
-        say::form(b"\\n%", &[n]);
+        say::one(phrases::INSIDE, n);
     }
 }
 
 fn place(file: &[u8], h: Header, p: usize, s: u8)
     requires { ⌜ Sound (now file) h × (p < h .places) ⌝ }
 {
-    say::form(b"  p% [shape=circle label=\"p%", &[p, p]);
+    say::two(phrases::CIRCLE, p, p);
     tokens(file::marking(file, h, p));
     colour(s);
 }
@@ -52,7 +53,7 @@ fn places(file: &[u8], h: Header, shades: &[u8])
 }
 
 fn transition(t: usize, s: u8) {
-    say::form(b"  t% [shape=box label=\"t%", &[t, t]);
+    say::two(phrases::BOX, t, t);
     colour(s);
 }
 
@@ -68,27 +69,27 @@ fn transitions(h: Header, shades: &[u8]) {
 // From place to transition, or back.
 fn ends(a: Arc) {
     if a.direction == 0 {
-        say::form(b"  p% -> t% [", &[a.place, a.transition]);
+        say::two(phrases::FROM_PLACE, a.place, a.transition);
         return;
     }
-    say::form(b"  t% -> p% [", &[a.transition, a.place]);
+    say::two(phrases::FROM_TRANSITION, a.transition, a.place);
 }
 
 fn weight(n: usize) {
     if n != 1 {
-        say::form(b" label=\"%\"]\n", &[n]);
+        say::one(phrases::LABEL, n);
         return;
     }
-    say::text(b"]\n");
+    say::plain(phrases::NO_LABEL);
 }
 
 // Grey where an end is left out.
 fn line(a: Arc, place: u8, transition: u8) {
     ends(a);
     if (place == 0) | (transition == 0) {
-        say::text(b"color=grey75 fontcolor=grey65");
+        say::plain(phrases::GREY);
     } else {
-        say::text(b"color=black");
+        say::plain(phrases::BLACK);
     }
     weight(a.weight);
 }
@@ -111,25 +112,15 @@ fn arcs(file: &[u8], h: Header, places: &[u8], transitions: &[u8])
     }
 }
 
-fn head() {
-    say::text(
-        b"digraph net {
-  rankdir=LR
-  node [fontname=\"Helvetica\" fontsize=12]
-  edge [fontname=\"Helvetica\" fontsize=11]
-",
-    );
-}
-
 // The whole picture.
 pub fn draw(file: &[u8], h: Header, places_as: &[u8], transitions_as: &[u8])
     requires { ⌜ Sound (now file) h ⌝ }
 {
-    head();
+    say::plain(phrases::GRAPH);
     places(file, h, places_as);
     transitions(h, transitions_as);
     arcs(file, h, places_as, transitions_as);
-    say::text(b"}\n");
+    say::plain(phrases::GRAPH_END);
 }
 
 // The whole net, nothing left out.

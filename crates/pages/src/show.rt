@@ -1,65 +1,36 @@
 // A file in words: its counts, each place, each transition.
 ghost use mathlib.Core.Path.{_≡_};
-ghost use Prim.Native.Nat.{_<_};
+ghost use Prim.Native.Nat.{_+_, _<_};
 ghost use Rattle.file.specs.Facts.{Sound};
+use crate::notes;
 use file::Due;
 use file::Header;
 use file::Reading;
+use terminal::phrases;
 use terminal::say;
 use words::refusal;
 use words::steps;
 
-fn kind(h: Header) {
-    if h.kind == 1 {
-        say::text(b"slice of ");
-        return;
-    }
-    say::text(b"plan of ");
-}
-
 fn counts(h: Header, length: usize) {
-    kind(h);
-    say::counted(h.places, b"place");
-    say::text(b", ");
-    say::counted(h.transitions, b"transition");
-    say::text(b", ");
-    say::counted(h.arcs, b"arc");
-    say::text(b" in ");
-    say::counted(length, b"byte");
-    note(h);
-}
-
-// The end of the line.
-fn note(h: Header) {
-    if h.markstart == 0 {
-        say::text(b"\n");
-        return;
+    if h.kind == 1 {
+        say::four(phrases::SLICE_OF, h.places, h.transitions, h.arcs, length);
+    } else {
+        say::four(phrases::PLAN_OF, h.places, h.transitions, h.arcs, length);
     }
-    say::text(b", a note of ");
-    say::counted(h.markstart, b"byte");
-    say::text(b" first\n");
+    if h.markstart != 0 {
+        say::one(phrases::NOTE, h.markstart);
+    }
+    say::plain(phrases::END);
 }
 
-// Where the file is a slice: the number in the plan of its place p.
-fn place_origin(file: &[u8], h: Header, p: usize)
-    requires { ⌜ Sound (now file) h × (p < h .places) ⌝ }
+// Where the file is a slice: the number in the plan of its place k, and of its transitions after the places.
+fn origin(file: &[u8], h: Header, k: usize)
+    requires { ⌜ Sound (now file) h × (k < h .places + h .transitions) ⌝ }
 {
     if h.kind == 1 {
-        say::form(
-            b" (the plan's %)",
-            &[file::word::get16(file, h.originstart + 2 * p)],
-        );
-    }
-}
-
-// The same for its transition t.
-fn transition_origin(file: &[u8], h: Header, t: usize)
-    requires { ⌜ Sound (now file) h × (t < h .transitions) ⌝ }
-{
-    if h.kind == 1 {
-        say::form(
-            b" (the plan's %)",
-            &[file::word::get16(file, h.originstart + 2 * h.places + 2 * t)],
+        say::one(
+            phrases::ORIGIN,
+            file::word::get16(file, h.originstart + 2 * k),
         );
     }
 }
@@ -67,11 +38,9 @@ fn transition_origin(file: &[u8], h: Header, t: usize)
 fn place(file: &[u8], h: Header, p: usize)
     requires { ⌜ Sound (now file) h × (p < h .places) ⌝ }
 {
-    say::form(b"place %", &[p]);
-    place_origin(file, h, p);
-    say::text(b": ");
-    say::counted(file::marking(file, h, p), b"token");
-    say::text(b"\n");
+    say::one(phrases::PLACE, p);
+    origin(file, h, p);
+    say::one(phrases::TOKENS, file::marking(file, h, p));
 }
 
 fn places(file: &[u8], h: Header)
@@ -88,8 +57,8 @@ fn places(file: &[u8], h: Header)
 fn transition(file: &[u8], h: Header, t: usize)
     requires { ⌜ Sound (now file) h × (t < h .transitions) ⌝ }
 {
-    say::form(b"transition %", &[t]);
-    transition_origin(file, h, t);
+    say::one(phrases::TRANSITION, t);
+    origin(file, h, h.places + t);
     steps::line(arcs_effect::run(file, h, t));
 }
 
@@ -104,10 +73,20 @@ fn transitions(file: &[u8], h: Header)
     }
 }
 
+// The bytes before the body.
+fn note(file: &[u8], h: Header) {
+    let from = 0;
+    let end = h.markstart;
+    if end <= file.len() {
+        notes::line(&file[from..end]);
+    }
+}
+
 fn lines(file: &[u8], h: Header)
     requires { ⌜ Sound (now file) h ⌝ }
 {
     counts(h, file.len());
+    note(file, h);
     places(file, h);
     transitions(file, h);
 }
@@ -115,7 +94,7 @@ fn lines(file: &[u8], h: Header)
 pub fn answer(file: &[u8]) {
     let whole = file::read(file, Due::Either);
     let Reading::Whole(h) = whole else {
-        refusal::of_file(file::number(whole), b"file", file);
+        refusal::of_file(file::number(whole), 2, file);
         return;
     };
     lines(file, h);

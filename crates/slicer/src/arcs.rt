@@ -1,7 +1,8 @@
 // arcs PLAN SLICE plan|slice TRANSITION
 use answers::arcs;
 use terminal::args;
-use words::help;
+use terminal::phrases;
+use terminal::say;
 
 fn of<'a>(plan: &'a [u8], slice: &'a [u8], inslice: bool, transition: u16) {
     let run = call_firing::runs::arcs(plan, slice, inslice, transition);
@@ -15,13 +16,11 @@ fn of<'a>(plan: &'a [u8], slice: &'a [u8], inslice: bool, transition: u16) {
 pub fn answer<'a>(plan: &'a [u8], slice: &'a [u8], numbers: &[u16]) {
     let inslice = args::is(4, b"slice");
     let inplan = args::is(4, b"plan");
-    if inslice == inplan {
-        help::usage(8);
-        return;
+    if inslice != inplan {
+        if numbers.len() == 1 {
+            of(plan, slice, inslice, numbers[0]);
+            return;
+        }
     }
-    if numbers.len() != 1 {
-        help::usage(8);
-        return;
-    }
-    of(plan, slice, inslice, numbers[0]);
+    say::one(phrases::USAGE_OF, 1);
 }

@@ -1,7 +1,8 @@
 // effect FILE PLACE TRANSITION
 use answers::effect;
 use call_firing::effects::Change;
-use words::help;
+use terminal::phrases;
+use terminal::say;
 
 pub fn of(file: &[u8], place: u16, transition: u16) {
     let c = call_firing::effects::effect(file, place, transition);
@@ -13,7 +14,7 @@ pub fn of(file: &[u8], place: u16, transition: u16) {
 
 pub fn answer(file: &[u8], numbers: &[u16]) {
     if numbers.len() != 2 {
-        help::usage(3);
+        say::one(phrases::USAGE_OF, 1);
         return;
     }
     of(file, numbers[0], numbers[1]);

@@ -9,95 +9,84 @@ mod verdict;
 
 use answers::input;
 use answers::verbs;
+use answers::verbs::Verb;
 use pages::dot;
 use pages::show;
 use terminal::entries;
 use terminal::files;
-use words::help;
-
-// The answers to questions on one file.
-fn one(verb: u8, file: &[u8], list: &[u16]) {
-    match verb {
-        1 => show::answer(file),
-        2 => dot::one(file),
-        3 => effect::answer(file, list),
-        4 => replays::answer(file, list),
-        5 => cuts::safety(file, list),
-        _ => cuts::branching(file, list),
-    }
-}
+use terminal::phrases;
+use terminal::say;
 
 // The answers to questions on a plan and a slice.
-fn two<'a>(verb: u8, plan: &'a [u8], slice: &'a [u8], list: &[u16]) {
+fn two<'a>(verb: Verb, plan: &'a [u8], slice: &'a [u8], list: &[u16]) {
     match verb {
-        7 => dot::two(plan, slice, list),
-        8 => arcs::answer(plan, slice, list),
-        9 => verdict::answer(plan, slice, list),
-        _ => projects::answer(plan, slice, list),
+        Verb::Arcs => arcs::answer(plan, slice, list),
+        Verb::Check => verdict::answer(plan, slice, list),
+        Verb::Project => projects::answer(plan, slice, list),
+        _ => dot::two(plan, slice, list),
     }
 }
 
-fn with_slice<'a>(verb: u8, plan: &'a [u8], slice: &'a [u8]) {
-    let mut list = input::list_room();
-    let l = entries::load(verbs::list_at(verb), &mut list);
-    if !l.good {
-        return;
-    }
-    let n = l.length;
-    two(verb, plan, slice, &list[..n]);
-}
-
-fn with_plan(verb: u8, plan: &[u8]) {
+fn with_plan(verb: Verb, plan: &[u8], list: &[u16]) {
     let mut slice = input::room();
-    let l = files::load(3, &mut slice);
+    let l = files::read(3, 0, &mut slice);
     if !l.good {
         return;
     }
     let n = l.length;
-    with_slice(verb, plan, &slice[..n]);
+    two(verb, plan, &slice[..n], list);
 }
 
-fn with_file(verb: u8, file: &[u8]) {
-    let mut list = input::list_room();
-    let l = entries::load(verbs::list_at(verb), &mut list);
-    if !l.good {
-        return;
+// The answers to questions on one file; for the others the slice is read too.
+fn one(verb: Verb, file: &[u8], list: &[u16]) {
+    match verb {
+        Verb::Show => show::answer(file),
+        Verb::Dot => dot::one(file),
+        Verb::Effect => effect::answer(file, list),
+        Verb::Replay => replays::answer(file, list),
+        Verb::Safety => cuts::safety(file, list),
+        Verb::Branching => cuts::branching(file, list),
+        _ => with_plan(verb, file, list),
     }
-    let n = l.length;
-    one(verb, file, &list[..n]);
 }
 
-// Reads what the verb asks about, and answers.
-fn asked(verb: u8) {
+fn with_list(verb: Verb, list: &[u16]) {
     let mut file = input::room();
-    let l = files::load(2, &mut file);
+    let l = files::read(2, 0, &mut file);
     if !l.good {
         return;
     }
     let n = l.length;
-    if verb < 7 {
-        with_file(verb, &file[..n]);
-        return;
-    }
-    with_plan(verb, &file[..n]);
+    one(verb, &file[..n], list);
 }
 
-// The answer to a command whose first word after the program's name is `word`.
-fn answer(word: &[u8], count: usize) {
-    if check::same(word, b"help") {
-        help::page();
+// Reads what the verb asks about, its list from argument `at` on, and answers.
+fn asked(verb: Verb, at: usize) {
+    let mut list = input::list_room();
+    let l = entries::load(at, &mut list);
+    if !l.good {
         return;
     }
+    let n = l.length;
+    with_list(verb, &list[..n]);
+}
+
+// The answer to a command whose first word after the program's name is `word`. Where it cannot be told what is asked, `usage` and the verb, if it is one.
+fn answer(word: &[u8], count: usize) {
     if check::same(word, b"demo") {
         demo::run();
         return;
     }
     let verb = verbs::named(word, count);
-    if verbs::fits(verb, count) {
-        asked(verb);
+    let words = verbs::taken(verb, count);
+    if verbs::fits(words, count) {
+        asked(verb, words.list);
         return;
     }
-    help::usage(verb);
+    match verb {
+        Verb::Unknown => say::plain(phrases::USAGE),
+        _ => say::one(phrases::USAGE_OF, 1),
+    }
 }
 
 fn main() {

@@ -9,6 +9,6 @@ pub fn answer(file: &[u8], list: &[u16]) {
     match o {
         Outcome::Fired => replays::fired(list.len(), &marking, blame::numbers::places(file)),
         Outcome::Stuck(i, p, n) => replays::stuck(list, i, p, n),
-        Outcome::Refused(n) => refusal::one(n, b"file", file, list),
+        Outcome::Refused(n) => refusal::one(n, 2, file, list),
     }
 }

@@ -1,12 +1,7 @@
 // Words and numbers of the command line.
+use crate::phrases;
 use crate::say;
 use numerals::Value;
-
-fn no_number(t: &[u8]) {
-    say::text(b"error: '");
-    say::text(t);
-    say::text(b"' is not a number from 0 to 65535\n");
-}
 
 // Argument i as a number; where it is none, a line says so.
 pub fn number(i: usize) -> Value {
@@ -14,7 +9,7 @@ pub fn number(i: usize) -> Value {
     let n = os::arg(i, &mut buf);
     let r = numerals::parsed(&buf[..n]);
     if !r.good {
-        no_number(&buf[..n]);
+        say::one(phrases::NO_NUMBER, i);
     }
     r
 }
@@ -26,10 +21,16 @@ pub fn is(i: usize, word: &[u8]) -> bool {
     check::same(&buf[..n], word)
 }
 
-// Writes argument i.
+// Writes argument i; of one that is longer than a path can be the start.
 pub fn write(i: usize) {
     let mut buf = io::buffer();
     let n = os::arg(i, &mut buf);
+    if os::errno() == libc::ENAMETOOLONG {
+        let start = io::count(60, &buf);
+        say::text(&buf[..start]);
+        say::text(b"..");
+        return;
+    }
     say::text(&buf[..n]);
 }
 

@@ -4,6 +4,7 @@ ghost use Rattle.terminal.specs.Entries.{Decoded};
 use crate::args;
 use crate::files;
 use crate::files::Loaded;
+use crate::phrases;
 use crate::say;
 
 // The arguments from `from` on, as many as `to` takes.
@@ -37,12 +38,6 @@ fn numbers(from: usize, to: &mut [u16]) -> Loaded
     }
 }
 
-fn odd(path: &[u8]) {
-    say::text(b"error: ");
-    say::text(path);
-    say::text(b": a list has two bytes an entry, and this file has an odd number of bytes\n");
-}
-
 // The entries that the bytes hold, as many as `to` takes.
 fn decoded(bytes: &[u8], to: &mut [u16]) -> usize
     ensures { λ r. ⌜ Decoded (now (bytes .entry)) (now (to .exit)) r ⌝ }
@@ -57,58 +52,35 @@ fn decoded(bytes: &[u8], to: &mut [u16]) -> usize
     n
 }
 
-// The entries of a list file, as many as `to` takes.
-fn from_file(path: &[u8], to: &mut [u16]) -> Loaded
+// The entries of the list file that argument i names after its @, as many as `to` takes, by way of a buffer.
+fn through(i: usize, bytes: &mut [u8], to: &mut [u16]) -> Loaded
+    ensures { λ r. ⌜ Counts (r .length) (now (to .exit)) ⌝ }
+{
+    let l = files::read(i, 1, bytes);
+    let n = l.length;
+    let length = decoded(&bytes[..n], to);
+    let whole = n % 2 == 0;
+    if l.good & !whole {
+        say::one(phrases::ODD_LIST, i);
+    }
+    Loaded {
+        good: l.good & whole,
+        length,
+    }
+}
+
+fn from_file(i: usize, to: &mut [u16]) -> Loaded
     ensures { λ r. ⌜ Counts (r .length) (now (to .exit)) ⌝ }
 {
     let mut bytes = [0u8; 131072];
-    let l = files::read(path, &mut bytes);
-    let n = l.length;
-    let length = decoded(&bytes[..n], to);
-    if !l.good {
-        return Loaded {
-            good: false,
-            length,
-        };
-    }
-    if n % 2 != 0 {
-        odd(path);
-        return Loaded {
-            good: false,
-            length,
-        };
-    }
-    Loaded { good: true, length }
+    through(i, &mut bytes, to)
 }
 
-// The entries of the list file that argument i, the last one, names after its @.
-fn load_file(i: usize, to: &mut [u16]) -> Loaded
-    ensures { λ r. ⌜ Counts (r .length) (now (to .exit)) ⌝ }
-{
-    let mut path = io::buffer();
-    let n = os::arg(i, &mut path);
-    if n < 2 {
-        say::text(b"error: a list is numbers, or one @FILE\n");
-        return Loaded {
-            good: false,
-            length: 0,
-        };
-    }
-    if args::more_than(i) {
-        say::text(b"error: a list is numbers, or one @FILE\n");
-        return Loaded {
-            good: false,
-            length: 0,
-        };
-    }
-    from_file(&path[1..n], to)
-}
-
-// Does argument i start with @?
+// Is argument i @ and a name?
 fn is_file(i: usize) -> bool {
     let mut path = io::buffer();
     let n = os::arg(i, &mut path);
-    (0 < n) & (path[0] == b'@')
+    (1 < n) & (path[0] == b'@')
 }
 
 // The list that the arguments from i on are: numbers, or one @FILE. `to` takes no more than fits: a list
@@ -116,8 +88,15 @@ fn is_file(i: usize) -> bool {
 pub fn load(i: usize, to: &mut [u16]) -> Loaded
     ensures { λ r. ⌜ Counts (r .length) (now (to .exit)) ⌝ }
 {
-    if is_file(i) {
-        return load_file(i, to);
+    if !is_file(i) {
+        return numbers(i, to);
     }
-    numbers(i, to)
+    if args::more_than(i) {
+        say::plain(phrases::NO_LIST);
+        return Loaded {
+            good: false,
+            length: 0,
+        };
+    }
+    from_file(i, to)
 }

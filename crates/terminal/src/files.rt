@@ -1,6 +1,8 @@
 // Files, read whole and written whole.
 ghost use Rattle.io.specs.Counts.{Counts};
-ghost use Rattle.terminal.specs.Names.{Beside};
+ghost use mathlib.Core.Path.{_≡_};
+ghost use Rattle.terminal.specs.Names.{listed};
+use crate::phrases;
 use crate::say;
 
 // How many entries were loaded, where that went well.
@@ -9,30 +11,87 @@ pub struct Loaded {
     pub length: usize,
 }
 
-fn reason(e: i32) {
-    match e {
-        2 => say::text(b"no such file or folder"),
-        13 => say::text(b"no permission"),
-        17 => say::text(b"it exists"),
-        20 => say::text(b"a part of the path is no folder"),
-        21 => say::text(b"it is a folder"),
-        22 => say::text(b"no such name"),
-        27 => say::text(b"too large"),
-        28 => say::text(b"the disk is full"),
-        30 => say::text(b"the disk is read-only"),
-        36 => say::text(b"the name is too long"),
-        _ => say::text(b"a system error"),
+// The error's number where the page below has words for it, else 0.
+fn listed(e: usize) -> usize
+    ensures { λ r. ⌜ r ≡ listed e ⌝ }
+{
+    if 40 < e {
+        return 0;
     }
+    e
 }
 
-// Says why the last call on a file failed.
-fn failed(path: &[u8]) {
-    let e = os::errno();
-    say::text(b"error: ");
-    say::text(path);
-    say::text(b": ");
+// Says what error e is: form e of the page.
+fn reason(e: usize) {
+    say::line(
+        b"system error %
+|not permitted
+|no such file or folder
+|system error %
+|interrupted
+|the device failed to read or write (5)
+|no such device
+|system error %
+|system error %
+|it is not open
+|system error %
+|it is not ready
+|no memory
+|no permission
+|system error %
+|system error %
+|it is in use
+|it exists
+|it is on another disk
+|no such device
+|a part of the path is no folder
+|it is a folder
+|no such name
+|too many files are open
+|too many files are open
+|system error %
+|it is a program that runs
+|too large
+|the disk is full
+|system error %
+|the disk is read-only
+|too many links
+|nobody reads it
+|system error %
+|system error %
+|system error %
+|the name is too long
+|system error %
+|system error %
+|system error %
+|links that lead in a circle
+",
+        listed(e),
+        &[e],
+    );
+}
+
+// Says why the last call on the file that argument i names failed.
+fn failed(i: usize) {
+    let e = say::size(os::errno()) as usize;
+    say::one(phrases::ERROR_OF, i);
     reason(e);
-    say::text(b"\n");
+}
+
+// Opens the file whose name is argument i from byte `from` on: made or emptied, and written, where it is new, else read. -1 where that fails.
+fn open(i: usize, from: usize, new: bool) -> i32 {
+    let mut path = io::buffer();
+    let n = os::arg(i, &mut path);
+    if os::errno() != 0 {
+        return -1;
+    }
+    if n < from {
+        return -1;
+    }
+    if new {
+        return os::open_overwrite(&path[from..n]);
+    }
+    os::open_read(&path[from..n])
 }
 
 // Is nothing left to read, and did no read fail?
@@ -41,13 +100,13 @@ fn ended(fd: i32) -> bool {
     libc::read(fd, &mut one) == 0
 }
 
-// Reads a file from its start, as much as `to` takes. Where that fails, a line says why.
-pub fn read(path: &[u8], to: &mut [u8]) -> Loaded
+// Reads the file whose name is argument i from byte `from` on, as much as `to` takes. Where that fails, a line says why.
+pub fn read(i: usize, from: usize, to: &mut [u8]) -> Loaded
     ensures { λ r. ⌜ Counts (r .length) (now (to .exit)) ⌝ }
 {
-    let fd = os::open_read(path);
+    let fd = open(i, from, false);
     if fd < 0 {
-        failed(path);
+        failed(i);
         return Loaded {
             good: false,
             length: 0,
@@ -56,108 +115,31 @@ pub fn read(path: &[u8], to: &mut [u8]) -> Loaded
     let length = io::read_full(fd, to);
     let good = (length == to.len()) | ended(fd);
     if !good {
-        failed(path);
+        failed(i);
     }
     libc::close(fd);
     Loaded { good, length }
 }
 
-// The same for the file that argument i names.
-pub fn load(i: usize, to: &mut [u8]) -> Loaded
-    ensures { λ r. ⌜ Counts (r .length) (now (to .exit)) ⌝ }
-{
-    let mut path = io::buffer();
-    let n = os::arg(i, &mut path);
-    if os::errno() != 0 {
-        failed(b"the file's name");
-        return Loaded {
-            good: false,
-            length: 0,
-        };
-    }
-    read(&path[..n], to)
-}
-
-// Puts a dot and six X after the first n bytes of a name, and answers how many bytes that is; 0 where they do not fit.
-fn beside(name: &mut [u8], n: usize) -> usize
-    ensures { λ r. ⌜ Beside (now (name .entry)) (now (name .exit)) n r ⌝ }
-{
-    if 4088 < n {
-        return 0;
-    }
-    if name.len() < 4096 {
-        return 0;
-    }
-    name[n] = b'.';
-    name[n + 1] = b'X';
-    name[n + 2] = b'X';
-    name[n + 3] = b'X';
-    name[n + 4] = b'X';
-    name[n + 5] = b'X';
-    name[n + 6] = b'X';
-    n + 7
-}
-
-// Writes all of a new file, for everyone to read, and has it kept by the disk.
+// Writes all of an open file, and has it kept by the disk.
 fn fill(fd: i32, bytes: &[u8]) -> bool {
     if !io::write_all(fd, bytes) {
-        return false;
-    }
-    if libc::fchmod(fd, 0o644) != 0 {
         return false;
     }
     libc::fsync(fd) == 0
 }
 
-// Says why, and removes the file beside.
-fn give_up(temporary: &[u8], path: &[u8]) {
-    failed(path);
-    os::unlink(temporary);
-}
-
-// Fills the file beside, then gives it the name.
-fn renamed(fd: i32, bytes: &[u8], temporary: &[u8], path: &[u8]) -> bool {
-    if !fill(fd, bytes) {
-        libc::close(fd);
-        give_up(temporary, path);
-        return false;
-    }
-    if libc::close(fd) != 0 {
-        give_up(temporary, path);
-        return false;
-    }
-    if os::rename(temporary, path) != 0 {
-        give_up(temporary, path);
-        return false;
-    }
-    true
-}
-
-// Makes the file beside, under a name that ends in six X.
-fn replace(path: &[u8], bytes: &[u8], temporary: &mut [u8]) -> bool {
-    let fd = os::create_temp(temporary);
-    if fd < 0 {
-        failed(path);
-        return false;
-    }
-    renamed(fd, bytes, temporary, path)
-}
-
-fn save_as(i: usize, path: &[u8], bytes: &[u8]) -> bool {
-    let mut name = io::buffer();
-    let n = os::arg(i, &mut name);
-    let end = beside(&mut name, n);
-    replace(path, bytes, &mut name[..end])
-}
-
-// Writes the file that argument i names, whole or not at all: beside it, then renamed. Where that fails, a line says why,
-// and a file of that name stays as it was.
+// Writes the file that argument i names. Where that fails, a line says why.
 pub fn save(i: usize, bytes: &[u8]) -> bool {
-    let mut path = io::buffer();
-    let n = os::arg(i, &mut path);
-    if os::errno() != 0 {
-        failed(b"the file's name");
+    let fd = open(i, 0, true);
+    if fd < 0 {
+        failed(i);
         return false;
     }
-    save_as(i, &path[..n], bytes)
+    let good = fill(fd, bytes);
+    if !good {
+        failed(i);
+    }
+    libc::close(fd);
+    good
 }

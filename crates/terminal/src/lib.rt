@@ -1,5 +1,6 @@
-// What a program at a terminal needs: words, numbers and lists from its arguments, files read and written whole, text.
+// What a program at a terminal needs: words, numbers and lists from its arguments, files, and what it says.
 pub mod args;
 pub mod entries;
 pub mod files;
+pub mod phrases;
 pub mod say;

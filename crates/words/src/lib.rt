@@ -1,5 +1,3 @@
-// The program's sentences: the page of help, refusals and broken rules in words, the arcs of a transition in words.
-pub mod help;
+// Refusals in words, and the arcs of a transition.
 pub mod refusal;
-pub mod rules;
 pub mod steps;

@@ -2,23 +2,24 @@
 ghost use Prim.Native.Nat.{_+_, _≤_};
 ghost use lib.ListN.{length};
 use net::Arc;
+use terminal::phrases;
 use terminal::say;
 
 // `takes 1 from place 0`, `adds 1 to place 2`.
 fn step(a: Arc) {
     if a.direction == 0 {
-        say::form(b"takes % from place %", &[a.weight, a.place]);
+        say::two(phrases::TAKES, a.weight, a.place);
         return;
     }
-    say::form(b"adds % to place %", &[a.weight, a.place]);
+    say::two(phrases::ADDS, a.weight, a.place);
 }
 
 fn before(at: usize) {
     if at == 0 {
-        say::text(b": ");
+        say::plain(phrases::FIRST);
         return;
     }
-    say::text(b", ");
+    say::plain(phrases::NEXT);
 }
 
 fn step_at(run: &[u8], at: usize)
@@ -28,16 +29,12 @@ fn step_at(run: &[u8], at: usize)
     step(file::arcs::arc(run, at));
 }
 
-fn steps(run: &[u8]) {
+// Each arc of a run, and the end of the line.
+pub fn line(run: &[u8]) {
     let mut left = run.len();
     while 8 <= left {
         step_at(run, run.len() - left);
         left -= 8;
     }
-}
-
-// Each arc of a run, and the end of the line.
-pub fn line(run: &[u8]) {
-    steps(run);
-    say::text(b"\n");
+    say::plain(phrases::END);
 }

@@ -1,26 +1,105 @@
-use borrow.Author.Tests.{eq-eqb, ne-eqb, lt-ltb, le-ltb}
-use Rattle.answers.specs.Verbs.{verbOf}
+use Rattle.answers.specs.Verbs.{verbOf, show, effect, replay, safety, branching}
+use Rattle.answers.proofs.Words.{same-yes, same-no}
 use borrow.Author.Needs.{needs}
 use Rattle.answers.proofs.verbs.named.Statement.{statement}
 use Rattle.answers.proofs.verbs.named.Tie as tie
 
-first-requires : tie.Need-first-requires
-first-requires c κs = search needs
+slice-aggregate-same : tie.Need-slice-aggregate-same
+slice-aggregate-same c = search needs
+
+same-requires : tie.Need-same-requires
+same-requires c κs = search needs
 
 returns : tie.Need-returns
 unfolding verbOf
-returns c = rw (← c .before .first .ensures, ne-eqb _ 0 (c .if1 .taken))
+returns c =
+    rw (same-yes _ show _ (c .before .same .ensures) (c .if1 .taken))
+
+slice-aggregate-same-2 : tie.Need-slice-aggregate-same-2
+slice-aggregate-same-2 c = search needs
+
+same-requires-2 : tie.Need-same-requires-2
+same-requires-2 c κs = search needs
+
+returns-2 : tie.Need-returns-2
+unfolding verbOf
+returns-2 c =
+    let show-not = c .before .before .before in
+    rw (same-no _ show _ (show-not .before .same .ensures) (show-not .if1 .left), same-yes _ effect _ (c .before .same2 .ensures) (c .if2 .taken))
+
+slice-aggregate-same-3 : tie.Need-slice-aggregate-same-3
+slice-aggregate-same-3 c = search needs
+
+same-requires-3 : tie.Need-same-requires-3
+same-requires-3 c κs = search needs
+
+returns-3 : tie.Need-returns-3
+unfolding verbOf
+returns-3 c =
+    let effect-not = c .before .before .before in
+    let show-not = effect-not .before .before .before in
+    rw (same-no _ show _ (show-not .before .same .ensures) (show-not .if1 .left), same-no _ effect _ (effect-not .before .same2 .ensures) (effect-not .if2 .left), same-yes _ replay _ (c .before .same3 .ensures) (c .if3 .taken))
+
+slice-aggregate-same-4 : tie.Need-slice-aggregate-same-4
+slice-aggregate-same-4 c = search needs
+
+same-requires-4 : tie.Need-same-requires-4
+same-requires-4 c κs = search needs
+
+returns-4 : tie.Need-returns-4
+unfolding verbOf
+returns-4 c =
+    let replay-not = c .before .before .before in
+    let effect-not = replay-not .before .before .before in
+    let show-not = effect-not .before .before .before in
+    rw (same-no _ show _ (show-not .before .same .ensures) (show-not .if1 .left), same-no _ effect _ (effect-not .before .same2 .ensures) (effect-not .if2 .left), same-no _ replay _ (replay-not .before .same3 .ensures) (replay-not .if3 .left), same-yes _ safety _ (c .before .same4 .ensures) (c .if4 .taken))
+
+slice-aggregate-same-5 : tie.Need-slice-aggregate-same-5
+slice-aggregate-same-5 c = search needs
+
+same-requires-5 : tie.Need-same-requires-5
+same-requires-5 c κs = search needs
+
+returns-5 : tie.Need-returns-5
+unfolding verbOf
+returns-5 c =
+    let safety-not = c .before .before .before in
+    let replay-not = safety-not .before .before .before in
+    let effect-not = replay-not .before .before .before in
+    let show-not = effect-not .before .before .before in
+    rw (same-no _ show _ (show-not .before .same .ensures) (show-not .if1 .left), same-no _ effect _ (effect-not .before .same2 .ensures) (effect-not .if2 .left), same-no _ replay _ (replay-not .before .same3 .ensures) (replay-not .if3 .left), same-no _ safety _ (safety-not .before .same4 .ensures) (safety-not .if4 .left), same-yes _ branching _ (c .before .same5 .ensures) (c .if5 .taken))
 
 second-requires : tie.Need-second-requires
 second-requires c κs = search needs
 
-returns-2 : tie.Need-returns-2
+returns-6 : tie.Need-returns-6
 unfolding verbOf
-returns-2 c = rw (← c .before .before .before .first .ensures, eq-eqb _ 0 (c .before .before .if1 .left), ← c .before .second .ensures, c .if2 .taken)
-
-returns-3 : tie.Need-returns-3
-unfolding verbOf
-returns-3 c = rw (← c .before .before .before .first .ensures, eq-eqb _ 0 (c .before .before .if1 .left), ← c .before .second .ensures, c .if2 .left)
+returns-6 c =
+    let last = c .before in
+    let safety-not = last .before .before .before in
+    let replay-not = safety-not .before .before .before in
+    let effect-not = replay-not .before .before .before in
+    let show-not = effect-not .before .before .before in
+    rw (same-no _ show _ (show-not .before .same .ensures) (show-not .if1 .left), same-no _ effect _ (effect-not .before .same2 .ensures) (effect-not .if2 .left), same-no _ replay _ (replay-not .before .same3 .ensures) (replay-not .if3 .left), same-no _ safety _ (safety-not .before .same4 .ensures) (safety-not .if4 .left), same-no _ branching _ (last .before .same5 .ensures) (last .if5 .left)) (c .second .ensures)
 
 pub named-spec : {M : Type 1} → statement M
-named-spec = tie.close (tie.spec first-requires returns second-requires returns-2 returns-3)
+named-spec =
+    tie.close
+    (tie.spec
+    slice-aggregate-same
+    same-requires
+    returns
+    slice-aggregate-same-2
+    same-requires-2
+    returns-2
+    slice-aggregate-same-3
+    same-requires-3
+    returns-3
+    slice-aggregate-same-4
+    same-requires-4
+    returns-4
+    slice-aggregate-same-5
+    same-requires-5
+    returns-5
+    second-requires
+    returns-6)

@@ -8,8 +8,8 @@ below-requires c κs = search needs
 entry-requires : tie.Need-entry-requires
 entry-requires c κs = search needs
 
-unknown-requires : tie.Need-unknown-requires
-unknown-requires c κs = search needs
+two-requires : tie.Need-two-requires
+two-requires c κs = search needs
 
 returns : tie.Need-returns
 returns c = search needs
@@ -23,4 +23,4 @@ returns-2 c = search needs
 pub drawn-spec : {M : Type 1} → statement M
 drawn-spec =
     tie.close
-    (tie.spec below-requires entry-requires unknown-requires returns kept-requires returns-2)
+    (tie.spec below-requires entry-requires two-requires returns kept-requires returns-2)

@@ -20,7 +20,7 @@ slice-aggregate-keep-2 : tie.Need-slice-aggregate-keep-2
 slice-aggregate-keep-2 c = search needs
 
 keep-requires-2 : tie.Need-keep-requires-2
-keep-requires-2 c κs = omega (arith, origins-fit (c .before .before .before .before .before .before .before .before .before .pre .1) (c .before .before .before .before .before .before .before .before .before .pre .2))
+keep-requires-2 c κs = let shaded = c .before .before .before .before .before in let pre = shaded .before .before .before .before .pre in omega (arith, origins-fit (pre .1) (pre .2))
 
 slice-aggregate-mark : tie.Need-slice-aggregate-mark
 slice-aggregate-mark c = search needs

@@ -21,9 +21,6 @@ enum-told c = search needs
 number-requires : tie.Need-number-requires
 number-requires c κs = search needs
 
-slice-aggregate-of-file : tie.Need-slice-aggregate-of-file
-slice-aggregate-of-file c = search needs
-
 of-file-requires : tie.Need-of-file-requires
 of-file-requires c κs = search needs
 
@@ -44,7 +41,6 @@ one-spec =
     enum-known-whole
     enum-told
     number-requires
-    slice-aggregate-of-file
     of-file-requires
     returns
     whole-requires

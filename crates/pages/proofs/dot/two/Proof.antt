@@ -1,3 +1,5 @@
+use Prim.Native.Nat.{ℕ}
+use mathlib.Core.List.{List}
 use borrow.Author.Tests.{eqb-true, not-false}
 use Rattle.file.specs.Facts.{Opened}
 use Rattle.file.specs.declared.Due.the-variants as due
@@ -10,7 +12,10 @@ use Rattle.pages.proofs.dot.two.Tie as tie
 plan-at : (c : tie.After-first) → Opened due.Plan (c .before .before .before .before .before .before .args .plan .now) (c .first .given .0 .0)
 plan-at c = opened due.Plan _ (c .before .before .read .ensures) (c .first .given .1)
 
-slice-at : (c : tie.After-second) → Opened due.Slice (c .before .before .before .before .before .before .before .before .before .before .args .slice .now) (c .second .given .0 .0)
+abbrev slice-of : tie.After-first → List ℕ
+slice-of c = c .before .before .before .before .before .before .args .slice .now
+
+slice-at : (c : tie.After-second) → Opened due.Slice (slice-of (c .before .before .before .before)) (c .second .given .0 .0)
 slice-at c = opened due.Slice _ (c .before .before .read2 .ensures) (c .second .given .1)
 
 read-requires : tie.Need-read-requires
@@ -24,9 +29,6 @@ enum-told c = search needs
 
 number-requires : tie.Need-number-requires
 number-requires c κs = search needs
-
-slice-aggregate-of-file : tie.Need-slice-aggregate-of-file
-slice-aggregate-of-file c = search needs
 
 of-file-requires : tie.Need-of-file-requires
 of-file-requires c κs = search needs
@@ -45,9 +47,6 @@ enum-told-2 c = search needs
 
 number-requires-2 : tie.Need-number-requires-2
 number-requires-2 c κs = search needs
-
-slice-aggregate-of-file-2 : tie.Need-slice-aggregate-of-file-2
-slice-aggregate-of-file-2 c = search needs
 
 of-file-requires-2 : tie.Need-of-file-requires-2
 of-file-requires-2 c κs = search needs
@@ -71,14 +70,12 @@ two-spec =
     enum-known-first
     enum-told
     number-requires
-    slice-aggregate-of-file
     of-file-requires
     returns
     read-requires-2
     enum-known-second
     enum-told-2
     number-requires-2
-    slice-aggregate-of-file-2
     of-file-requires-2
     returns-2
     drawn-requires

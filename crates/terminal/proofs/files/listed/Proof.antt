@@ -1,0 +1,13 @@
+use borrow.Author.Tests.{lt-ltb, le-ltb}
+use borrow.Author.Needs.{needs}
+use Rattle.terminal.proofs.files.listed.Statement.{statement}
+use Rattle.terminal.proofs.files.listed.Tie as tie
+
+returns : tie.Need-returns
+returns c = rw (lt-ltb _ _ (c .if1 .taken))
+
+returns-2 : tie.Need-returns-2
+returns-2 c = rw (le-ltb _ _ (c .if1 .left))
+
+pub listed-spec : {M : Type 1} → statement M
+listed-spec = tie.close (tie.spec returns returns-2)

@@ -1,0 +1,225 @@
+// What the program says, but for why a file failed: forms on one page. A condition of the refusals 1 to 7 has the form CONDITION and its
+// number (blame::conditions), a rule of the checker RULE and its number less 1.
+use crate::say;
+
+pub const ERROR_OF: usize = 0;
+
+pub const NO_NUMBER: usize = 1;
+
+pub const NO_LIST: usize = 2;
+
+pub const ODD_LIST: usize = 3;
+
+pub const USAGE: usize = 4;
+
+pub const USAGE_OF: usize = 5;
+
+pub const REFUSED: usize = 6;
+
+pub const CONDITION: usize = 7;
+
+pub const ARC: usize = 26;
+
+pub const PLACE_ORIGIN: usize = 27;
+
+pub const TRANSITION_ORIGIN: usize = 28;
+
+pub const NO_CRITERION: usize = 29;
+
+pub const CRITERION_PLACE: usize = 30;
+
+pub const CRITERION_ORDER: usize = 31;
+
+pub const LONG_LIST: usize = 32;
+
+pub const LIST_TRANSITION: usize = 33;
+
+pub const NO_ROOM: usize = 34;
+
+pub const UNKNOWN_PLACE: usize = 35;
+
+pub const UNKNOWN_TRANSITION: usize = 36;
+
+pub const ACCEPTED: usize = 37;
+
+pub const RULE: usize = 38;
+
+pub const WRITTEN: usize = 46;
+
+pub const FIRED: usize = 47;
+
+pub const STUCK: usize = 48;
+
+pub const PROJECTED: usize = 49;
+
+pub const ENTRY: usize = 50;
+
+pub const EFFECT: usize = 51;
+
+pub const EFFECT_OF: usize = 52;
+
+pub const ARCS_IN_PLAN: usize = 53;
+
+pub const ARCS_IN_SLICE: usize = 54;
+
+pub const NONE_IN_PLAN: usize = 55;
+
+pub const NONE_IN_SLICE: usize = 56;
+
+pub const NO_PLACE: usize = 57;
+
+pub const PLAN_OF: usize = 58;
+
+pub const SLICE_OF: usize = 59;
+
+pub const NOTE: usize = 60;
+
+pub const NOTE_TEXT: usize = 61;
+
+pub const PLACE: usize = 62;
+
+pub const TRANSITION: usize = 63;
+
+pub const ORIGIN: usize = 64;
+
+pub const TOKENS: usize = 65;
+
+pub const FIRST: usize = 66;
+
+pub const NEXT: usize = 67;
+
+pub const TAKES: usize = 68;
+
+pub const ADDS: usize = 69;
+
+pub const END: usize = 70;
+
+pub const GRAPH: usize = 71;
+
+pub const CIRCLE: usize = 72;
+
+pub const BOX: usize = 73;
+
+pub const INSIDE: usize = 74;
+
+pub const LEFT_OUT: usize = 75;
+
+pub const DRAWN: usize = 76;
+
+pub const MARKED: usize = 77;
+
+pub const FROM_PLACE: usize = 78;
+
+pub const FROM_TRANSITION: usize = 79;
+
+pub const GREY: usize = 80;
+
+pub const BLACK: usize = 81;
+
+pub const LABEL: usize = 82;
+
+pub const NO_LABEL: usize = 83;
+
+pub const GRAPH_END: usize = 84;
+
+pub const DEMO: usize = 85;
+
+pub const DEMO_EFFECT: usize = 86;
+
+pub const DEMO_SAFETY: usize = 87;
+
+pub const DEMO_CHECK: usize = 88;
+
+pub const DEMO_REPLAY: usize = 89;
+
+pub const DEMO_PROJECT: usize = 90;
+
+pub const DEMO_SLICE: usize = 91;
+
+// Writes form k of the page.
+pub fn fill(k: usize, numbers: &[usize]) {
+    say::line(
+        b"error: ~: |error: '~' is not a number from 0 to 65535
+|error: a list is numbers, or one @FILE
+|error: ~: a list has two bytes an entry, and this file has an odd number of bytes
+|usage
+|usage ~
+|refused %: ~: |# byte&; at least 16
+|more than 65,536 bytes
+|not a plan or slice file (the letters BELL are missing)
+|edition %; 1 is due
+|kind %; 0, a plan, or 1, a slice, is due
+|this is a plan; a slice is due
+|this is a slice; a plan is due
+|# places; at most 1,024
+|# transitions; at most 1,024
+|# arcs; at most 4,096
+|no place and no transition
+|a body of # byte& by the trailer, of # by the counts
+|a body of # byte& by the trailer; there is room for #
+|the zero byte is not 0
+|the direction is neither 0 nor 1
+|no place %; P is %
+|no transition %; T is %
+|the weight is 0
+|below the arc before
+|arc % (transition %, direction %, zero byte %, place %, weight %): |place origin % is %: not above the one before
+|transition origin % is %: not above the one before
+|refused 9: criterion: empty
+|refused 10: criterion: entry % is %: no such place; P is %
+|refused 10: criterion: entry % is %: not above the entry before
+|refused 11: list: above 65,535 entries
+|refused 12: list: entry % is %: no such transition; T is %
+|refused 13: buffer: shorter than what is written
+|refused 10: unknown place %; P is %
+|refused 12: unknown transition %; T is %
+|accepted
+|rule 1 broken by the slice's place %: its origin is no place of the plan
+|rule 2 broken by the slice's transition %: its origin is no transition of the plan
+|rule 3 broken by place %: its marking is not the plan's
+|rule 4 broken by transition %: its arcs are not exactly its plan arcs to kept places
+|rule 5 broken by place %: it is in the criterion and not kept
+|rule 6 broken by transition %: it is left out and changes a place of the criterion
+|rule 7 broken by transition %: it is kept and one of its input places is not
+|rule 8 broken by transition %: it is left out and raises a kept place
+|written ~: % byte&, % place&, % transition&
+|fired % transition&, ending|stuck at index %: transition %, place % is short of %
+|projected| %|effect | of transition % on place %
+|arcs % of transition % in the plan|arcs % of transition % in the slice|error: the plan has no transition %: it has % transition&, numbered from 0
+|error: the slice has no transition %: it has % transition&, numbered from 0
+|error: the plan has no place %: it has % place&, numbered from 0
+|plan of % place&, % transition&, % arc& in % byte&|slice of % place&, % transition&, % arc& in % byte&|, a note of % byte& first|note: |place %|transition %| (the plan's %)|: % token&
+|: |, |takes % from place %|adds % to place %|
+|digraph net {
+  rankdir=LR
+  node [fontname=\"Helvetica\" fontsize=12]
+  edge [fontname=\"Helvetica\" fontsize=11]
+|  p% [shape=circle label=\"p%|  t% [shape=box label=\"t%|\\n%|\" color=grey75 fontcolor=grey65]
+|\" color=black]
+|\" color=firebrick penwidth=2.5]
+|  p% -> t% [|  t% -> p% [|color=grey75 fontcolor=grey65|color=black| label=\"%\"]
+|]
+|}
+|demo: a small kerb with places 0 waiting, 1 bay free, 2 in bay, 3 left, 4 bell; no file is read or written
+
+$ nesfoal show small-kerb.plan
+|
+$ nesfoal effect small-kerb.plan 3 2
+|
+$ nesfoal safety small-kerb.plan kerb.slice 2
+written kerb.slice: % byte&, % place&, % transition&
+
+$ nesfoal show kerb.slice
+|
+$ nesfoal check small-kerb.plan kerb.slice 2
+|
+$ nesfoal replay small-kerb.plan 3 0 1
+|
+$ nesfoal project small-kerb.plan kerb.slice 3 0 1
+|
+$ nesfoal replay kerb.slice 0 1
+",
+        k,
+        numbers,
+    );
+}
