@@ -66,7 +66,7 @@ module _ (s : List ℕ) {r : Reading} {h : Header} (read : r ≡ heading s) (who
   whole-is : heading s ≡ Whole h
   whole-is = sym read ∙ whole
 
-  pub arc-answer : (k spare : ℕ) (a : Arc) → k ≡ arcsPassed s (h .places) (h .transitions) (h .arcstart) 0 (h .arcs)
+  pub arc-answer : (k spare : ℕ) (a : Arc) → k ≡ arcsPassed s (h .places) (h .transitions) (h .arcstart) (h .arcs)
       → a ≡ arcAt s (h .arcstart + 8 * k) → spare ≡ byteAt s (h .arcstart + 8 * k + 3)
       → _≡_ {A = BadArc} (record { index = k; arc = a; spare = spare }) (arcOf s (heading s))
   unfolding arcOf
@@ -85,10 +85,10 @@ module _ (s : List ℕ) {r : Reading} {h : Header} (read : r ≡ heading s) (who
       in-slice (suc k) n = refl
 
 -- the two tables
-module _ (s : List ℕ) (h : Header) (p : ℕ) (is : p ≡ tablePassed s (h .originstart) 0 (h .places)) where
+module _ (s : List ℕ) (h : Header) (p : ℕ) (is : p ≡ tablePassed s (h .originstart) (h .places)) where
   pub in-places : (x : ℕ) → p < h .places → x ≡ le16 s (h .originstart + 2 * p) → _≡_ {A = BadOrigin} (record { table = 0; index = p; number = x }) (inTables s h)
   in-places x l e = rw (← is, lt-ltb p (h .places) l, e)
 
-  pub in-transitions : (t x : ℕ) → h .places ≤ p → t ≡ tablePassed s (h .originstart + 2 * h .places) 0 (h .transitions)
+  pub in-transitions : (t x : ℕ) → h .places ≤ p → t ≡ tablePassed s (h .originstart + 2 * h .places) (h .transitions)
       → x ≡ le16 s (h .originstart + 2 * h .places + 2 * t) → _≡_ {A = BadOrigin} (record { table = 1; index = t; number = x }) (inTables s h)
   in-transitions t x l f e = rw (← is, le-ltb p (h .places) l, e, f)

@@ -1,20 +1,15 @@
 -- The counts of specs/, one entry at a time: a whole count is what was counted and what is left, which stops, goes on or ends.
 use Prim.Native.Nat.{ℕ, zero, suc, _+_, _-_, _≤_, _<_}
 use mathlib.Core.Path.{_≡_, refl, sym, ap, _∙_}
-use mathlib.Core.Bool.{Bool, true, false, _||_}
+use mathlib.Core.Bool.{Bool, true, false, not, _||_}
 use mathlib.Core.List.{List, [], _∷_}
 use native.Mathlib.Omega.{arith}
 use native.Mathlib.Numerals.{add-one, sub-one}
-use lib.Dec.{ltb, leb}
+use lib.Dec.{eqb, ltb, leb}
 use lib.ListN.{length, getD, drop, drop-of-length-le}
 use lib.Seq.{drop-cons}
-use borrow.Author.Tests.{lt-ltb, le-ltb, le-leb, lt-leb}
-use Rattle.file.specs.Word.{byteAt, le16}
-use Rattle.file.specs.Layout.{arcAt}
-use Rattle.file.specs.Refusal.{key, arcWrong}
-use Rattle.blame.specs.Head.{unless}
-use Rattle.blame.specs.Arcs.{arcsPassed}
-use Rattle.blame.specs.Origins.{tablePassed}
+use borrow.Author.Tests.{eq-eqb, ne-eqb, le-leb, lt-leb}
+use Rattle.blame.specs.Head.{unless, passed}
 use Rattle.blame.specs.Numbers.{placesPassed, listPassed}
 
 module _ (all k rest : ℕ) (so-far : all ≡ k + rest) where
@@ -35,50 +30,27 @@ none-left count k h = omega arith
 pub at-first : (f : ℕ → ℕ) (count : ℕ) → f count ≡ 0 + f (count - 0)
 at-first f count = let e : count - 0 ≡ count = omega arith in rw e (omega arith)
 
--- ---- arcs
+-- ---- arcs and origins, by what the first entries are refused with
 
-arcs-step : (s : List ℕ) (P T at least n : ℕ) → 0 < n
-    → arcsPassed s P T at least n ≡ unless (arcWrong P T (arcAt s at) (byteAt s (at + 3)) || ltb (key (arcAt s at)) least) (arcsPassed s P T (at + 8) (key (arcAt s at)) (n - 1))
-unfolding arcsPassed
-arcs-step s P T at least zero h = absurd (omega arith)
-arcs-step s P T at least (suc n) h = rw sub-one
+passed-step : (f : ℕ → ℕ) (k n : ℕ) → 0 < n → passed f k n ≡ unless (not (eqb (f (k + 1)) 0)) (passed f (k + 1) (n - 1))
+unfolding passed
+passed-step f k zero h = absurd (omega arith)
+passed-step f k (suc n) h = rw (sub-one, add-one k)
 
-arcs-none : (s : List ℕ) (P T at least : ℕ) → arcsPassed s P T at least 0 ≡ 0
-unfolding arcsPassed
-arcs-none s P T at least = refl
+passed-none : (f : ℕ → ℕ) (k : ℕ) → passed f k 0 ≡ 0
+unfolding passed
+passed-none f k = refl
 
-module _ (s : List ℕ) (P T at least count k all : ℕ) (so-far : all ≡ k + arcsPassed s P T at least (count - k)) where
-  module _ (w : Bool) (x : ℕ) (wrong : w ≡ arcWrong P T (arcAt s at) (byteAt s (at + 3))) (is : x ≡ key (arcAt s at)) (more : k < count) where
-    pub arcs-stop : (w || ltb x least) ≡ true → k ≡ all
-    arcs-stop e = stopped all k _ so-far (arcs-step s P T at least (count - k) (omega arith) ∙ rw (← wrong, ← is, e))
+module _ (f : ℕ → ℕ) (count k all : ℕ) (so-far : all ≡ k + passed f k (count - k)) where
+  module _ (x : ℕ) (is : x ≡ f (k + 1)) (more : k < count) where
+    pub stop : (x ≡ 0 → ⊥) → k ≡ all
+    stop h = stopped all k _ so-far (passed-step f k (count - k) (omega arith) ∙ rw (← is, ne-eqb x 0 h))
 
-    pub arcs-on : (w || ltb x least) ≡ false → all ≡ k + 1 + arcsPassed s P T (at + 8) x (count - (k + 1))
-    arcs-on e = counted all k _ so-far _ (arcs-step s P T at least (count - k) (omega arith) ∙ rw (← wrong, ← is, e, one-less count k))
+    pub on : x ≡ 0 → all ≡ k + 1 + passed f (k + 1) (count - (k + 1))
+    on h = counted all k _ so-far _ (passed-step f k (count - k) (omega arith) ∙ rw (← is, eq-eqb x 0 h, one-less count k))
 
-  pub arcs-end : count ≤ k → k ≡ all
-  arcs-end h = stopped all k _ so-far (ap (arcsPassed s P T at least) (none-left count k h) ∙ arcs-none s P T at least)
-
--- ---- origins
-
-table-step : (s : List ℕ) (at least n : ℕ) → 0 < n → tablePassed s at least n ≡ unless (ltb (le16 s at) least) (tablePassed s (at + 2) (le16 s at + 1) (n - 1))
-unfolding tablePassed
-table-step s at least zero h = absurd (omega arith)
-table-step s at least (suc n) h = rw sub-one
-
-table-none : (s : List ℕ) (at least : ℕ) → tablePassed s at least 0 ≡ 0
-unfolding tablePassed
-table-none s at least = refl
-
-module _ (s : List ℕ) (at least count k all : ℕ) (so-far : all ≡ k + tablePassed s at least (count - k)) where
-  module _ (x : ℕ) (is : x ≡ le16 s at) (more : k < count) where
-    pub table-stop : x < least → k ≡ all
-    table-stop h = stopped all k _ so-far (table-step s at least (count - k) (omega arith) ∙ rw (← is, lt-ltb x least h))
-
-    pub table-on : least ≤ x → all ≡ k + 1 + tablePassed s (at + 2) (x + 1) (count - (k + 1))
-    table-on h = counted all k _ so-far _ (table-step s at least (count - k) (omega arith) ∙ rw (← is, le-ltb x least h, one-less count k))
-
-  pub table-end : count ≤ k → k ≡ all
-  table-end h = stopped all k _ so-far (ap (tablePassed s at least) (none-left count k h) ∙ table-none s at least)
+  pub end : count ≤ k → k ≡ all
+  end h = stopped all k _ so-far (ap (passed f k) (none-left count k h) ∙ passed-none f k)
 
 -- ---- the criterion
 

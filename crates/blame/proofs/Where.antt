@@ -6,8 +6,9 @@ use mathlib.Core.List.{List, [], _∷_}
 use native.Mathlib.Omega.{arith}
 use lib.Dec.{eqb, ltb, leb}
 use lib.ListN.{length, take}
-use borrow.Author.Tests.{eqb-true, ltb-false, le-ltb, not-false}
+use borrow.Author.Tests.{eqb-true, eq-eqb, ltb-false, le-ltb, not-false}
 use Rattle.net.specs.Numbers.{any}
+use Rattle.net.proofs.Numbers.{by-cases}
 use Rattle.file.specs.Word.{byteAt, le16}
 use Rattle.file.specs.Layout.{trailerOf, headerOf, arcAt, inSlice}
 use Rattle.file.specs.Refusal.{refuse, orElse, key, arcWrong, lengthWrong, lettersWrong, kindWrong, countsWrong, bodyWrong, trailerRefusal, arcsRefusal, tableRefusal, originsRefusal, bodyRefusal, fileRefusal}
@@ -18,7 +19,7 @@ use Rattle.file.specs.declared.Header.{Header}
 use Rattle.file.specs.declared.Trailer.{Trailer}
 use Rattle.file.specs.declared.Reading.the-variants.{Whole, Refused}
 use Rattle.file.proofs.Opening.{refuse-0}
-use Rattle.blame.specs.Head.{unless, headRefusal, heading}
+use Rattle.blame.specs.Head.{unless, passed, headRefusal, heading}
 use Rattle.blame.specs.Arcs.{arcsPassed, arcOf}
 use Rattle.blame.specs.Origins.{tablePassed}
 use Rattle.blame.specs.Numbers.{placesPassed, listPassed}
@@ -28,6 +29,15 @@ pub record Stands (f : ℕ → ℕ) (n k : ℕ) : Type 0 where
   pub inside : k < n
   pub before : f k ≡ 0
   pub there : f (suc k) ≡ f n
+
+zero-add : (k : ℕ) → 0 + k ≡ k
+zero-add k = omega arith
+
+add-zero : (k : ℕ) → k + 0 ≡ k
+add-zero k = omega arith
+
+move : (k n : ℕ) → k + suc n ≡ suc k + n
+move k n = omega arith
 
 -- one entry, which two rules test, and the rest
 next : (w l : Bool) (a b : ℕ) (f rest : ℕ → ℕ) → f 0 ≡ 0 → ((m : ℕ) → f (suc m) ≡ refuse w (suc a) (refuse l (suc b) (rest m))) → (n k : ℕ)
@@ -39,20 +49,52 @@ next false false a b f rest z e n k i h =
     let t = s .inside in
     record { inside = omega arith; before = e k ∙ s .before; there = e (suc k) ∙ s .there ∙ sym (e n) }
 
-pub arcs-stand : (s : List ℕ) (P T at least n : ℕ) → (arcsRefusal s P T at least n ≡ 0 → ⊥) → Stands (arcsRefusal s P T at least) n (arcsPassed s P T at least n)
-unfolding arcsRefusal arcsPassed
-arcs-stand s P T at least zero h = absurd (h refl)
-arcs-stand s P T at least (suc n) h =
-    next (arcWrong P T (arcAt s at) (byteAt s (at + 3))) (ltb (key (arcAt s at)) least) 5 6 (arcsRefusal s P T at least)
-    (arcsRefusal s P T (at + 8) (key (arcAt s at))) refl (λ m. refl) n (arcsPassed s P T (at + 8) (key (arcAt s at)) n)
-    (arcs-stand s P T (at + 8) (key (arcAt s at)) n) h
+-- the entry after those that pass
+record Bad (f : ℕ → ℕ) (n k : ℕ) : Type 0 where
+  inside : k < n
+  before : f k ≡ 0
+  there : f (suc k) ≡ 0 → ⊥
 
-pub table-stands : (s : List ℕ) (at least n : ℕ) → (tableRefusal s at least n ≡ 0 → ⊥) → Stands (tableRefusal s at least) n (tablePassed s at least n)
-unfolding tableRefusal tablePassed
-table-stands s at least zero h = absurd (h refl)
-table-stands s at least (suc n) h =
-    next false (ltb (le16 s at) least) 0 7 (tableRefusal s at least) (tableRefusal s (at + 2) (le16 s at + 1)) refl (λ m. refl) n
-    (tablePassed s (at + 2) (le16 s at + 1) n) (table-stands s (at + 2) (le16 s at + 1) n) h
+first-bad : (f : ℕ → ℕ) (k n : ℕ) → f k ≡ 0 → (f (k + n) ≡ 0 → ⊥) → Bad f (k + n) (k + passed f k n)
+unfolding passed
+first-bad f k zero z h = absurd (h (ap f (add-zero k) ∙ z))
+first-bad f k (suc n) z h =
+    by-cases (eqb (f (suc k)) 0)
+    (λ e. let b = first-bad f (suc k) n (eqb-true (f (suc k)) 0 e) (λ q. h (ap f (move k n) ∙ q)) in rw (e, move k (passed f (suc k) n), move k n) b)
+    (λ e. rw (e, add-zero k) (record { inside = omega arith; before = z; there = λ q. let t = eq-eqb (f (suc k)) 0 q in let x : _≡_ {A = ℕ} 0 1 = cc in omega arith }))
+
+-- where a refusal of the first entries stays, whatever follows, the entry after those that pass is the first that is turned back
+stands : (f : ℕ → ℕ) → f 0 ≡ 0 → ((m n : ℕ) → m ≤ n → (f m ≡ 0 → ⊥) → f n ≡ f m) → (n : ℕ) → (f n ≡ 0 → ⊥) → Stands f n (passed f 0 n)
+stands f z stays n h =
+    let b = rw (zero-add n, zero-add (passed f 0 n)) at (first-bad f 0 n z (λ q. h (ap f (sym (zero-add n)) ∙ q))) in
+    record { inside = b .inside; before = b .before; there = sym (stays (suc (passed f 0 n)) n (omega (arith, b .inside)) (b .there)) }
+
+-- a refusal by two rules stays
+two-stay : (w l : Bool) (a b x y : ℕ) → ((x ≡ 0 → ⊥) → y ≡ x) → (refuse w (suc a) (refuse l (suc b) x) ≡ 0 → ⊥) → refuse w (suc a) (refuse l (suc b) y) ≡ refuse w (suc a) (refuse l (suc b) x)
+two-stay true l a b x y i h = refl
+two-stay false true a b x y i h = refl
+two-stay false false a b x y i h = i h
+
+arcs-stay : (s : List ℕ) (P T at least m n : ℕ) → m ≤ n → (arcsRefusal s P T at least m ≡ 0 → ⊥) → arcsRefusal s P T at least n ≡ arcsRefusal s P T at least m
+unfolding arcsRefusal
+arcs-stay s P T at least zero n l h = absurd (h refl)
+arcs-stay s P T at least (suc m) zero l h = absurd (omega arith)
+arcs-stay s P T at least (suc m) (suc n) l h =
+    two-stay (arcWrong P T (arcAt s at) (byteAt s (at + 3))) (ltb (key (arcAt s at)) least) 5 6 _ _ (arcs-stay s P T (at + 8) (key (arcAt s at)) m n (omega arith)) h
+
+pub arcs-stand : (s : List ℕ) (P T at n : ℕ) → (arcsRefusal s P T at 0 n ≡ 0 → ⊥) → Stands (arcsRefusal s P T at 0) n (arcsPassed s P T at n)
+unfolding arcsRefusal
+arcs-stand s P T at n h = stands (arcsRefusal s P T at 0) refl (arcs-stay s P T at 0) n h
+
+table-stays : (s : List ℕ) (at least m n : ℕ) → m ≤ n → (tableRefusal s at least m ≡ 0 → ⊥) → tableRefusal s at least n ≡ tableRefusal s at least m
+unfolding tableRefusal
+table-stays s at least zero n l h = absurd (h refl)
+table-stays s at least (suc m) zero l h = absurd (omega arith)
+table-stays s at least (suc m) (suc n) l h = two-stay false (ltb (le16 s at) least) 0 7 _ _ (table-stays s (at + 2) (le16 s at + 1) m n (omega arith)) h
+
+pub table-stands : (s : List ℕ) (at n : ℕ) → (tableRefusal s at 0 n ≡ 0 → ⊥) → Stands (tableRefusal s at 0) n (tablePassed s at n)
+unfolding tableRefusal
+table-stands s at n h = stands (tableRefusal s at 0) refl (table-stays s at 0) n h
 
 refuse-or : (a b : Bool) (n rest : ℕ) → refuse (a || b) n rest ≡ refuse a n (refuse b n rest)
 refuse-or true b n rest = refl
@@ -166,5 +208,5 @@ module _ (due : Due) (s : List ℕ) (n : ℕ) (refused : fileRefusal due s ≡ n
       record {
         header = header-is;
         number = arcs-are;
-        stands = rw header-is (arcs-stand s _ _ _ 0 _ (λ z. omega (arith, arcs-are)));
+        stands = rw header-is (arcs-stand s _ _ _ _ (λ z. omega (arith, arcs-are)));
       }

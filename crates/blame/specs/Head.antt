@@ -1,7 +1,8 @@
--- The header of a file that may be refused further on, and a count that a test stops.
-use Prim.Native.Nat.{ℕ, suc}
-use mathlib.Core.Bool.{Bool, true, false}
+-- The header of a file that may be refused further on, and counts that a test stops.
+use Prim.Native.Nat.{ℕ, zero, suc}
+use mathlib.Core.Bool.{Bool, true, false, not}
 use mathlib.Core.List.{List}
+use lib.Dec.{eqb}
 use lib.ListN.{length}
 use Rattle.file.specs.Layout.{trailerOf, headerOf}
 use Rattle.file.specs.Refusal.{refuse, lengthWrong, trailerRefusal}
@@ -21,3 +22,8 @@ heading s = answer (headRefusal s) (headerOf s)
 abbrev pub unless : Bool → ℕ → ℕ
 unless true n = 0
 unless false n = suc n
+
+-- how many of n entries after the first k pass, where the first m entries are refused with `refused m`
+unfoldable pub passed : (ℕ → ℕ) → ℕ → ℕ → ℕ
+passed refused k zero = 0
+passed refused k (suc n) = unless (not (eqb (refused (suc k)) 0)) (passed refused (suc k) n)

@@ -4,16 +4,16 @@ use mathlib.Core.Bool.{Bool, true, false}
 use mathlib.Core.List.{List}
 use lib.Dec.{ltb}
 use Rattle.file.specs.Word.{le16}
+use Rattle.file.specs.Refusal.{tableRefusal}
 use Rattle.file.specs.declared.Header.{Header}
 use Rattle.file.specs.declared.Reading.{Reading}
 use Rattle.file.specs.declared.Reading.the-variants.{Whole, Refused}
-use Rattle.blame.specs.Head.{unless}
+use Rattle.blame.specs.Head.{passed}
 use Rattle.blame.specs.declared.origins.BadOrigin.{BadOrigin}
 
--- how many of n origins pass before the first that is turned back: `tableRefusal`, counted
-unfoldable pub tablePassed : List ℕ → ℕ → ℕ → ℕ → ℕ
-tablePassed s at least zero = 0
-tablePassed s at least (suc n) = unless (ltb (le16 s at) least) (tablePassed s (at + 2) (le16 s at + 1) n)
+-- how many of n origins pass before the first that is turned back
+abbrev pub tablePassed : List ℕ → ℕ → ℕ → ℕ
+tablePassed s at n = passed (tableRefusal s at 0) 0 n
 
 -- entry k of a table that starts at `at`
 abbrev pub badOrigin : List ℕ → ℕ → ℕ → ℕ → BadOrigin
@@ -27,9 +27,9 @@ either false a b = b
 -- the first origin that is turned back: of the places, then of the transitions
 abbrev pub inTables : List ℕ → Header → BadOrigin
 inTables s h =
-    let p = tablePassed s (h .originstart) 0 (h .places) in
+    let p = tablePassed s (h .originstart) (h .places) in
     let start = h .originstart + 2 * h .places in
-    either (ltb p (h .places)) (badOrigin s 0 (h .originstart) p) (badOrigin s 1 start (tablePassed s start 0 (h .transitions)))
+    either (ltb p (h .places)) (badOrigin s 0 (h .originstart) p) (badOrigin s 1 start (tablePassed s start (h .transitions)))
 
 -- a plan has no tables
 abbrev pub ofKind : ℕ → BadOrigin → BadOrigin

@@ -1,11 +1,7 @@
 // Which arc breaks refusal 6 or 7.
 ghost use mathlib.Core.Path.{_≡_};
-ghost use mathlib.Core.Bool.{_||_};
-ghost use Prim.Native.Nat.{_+_, _*_, _≤_, _<_, _^_};
-ghost use lib.Dec.{ltb};
+ghost use Prim.Native.Nat.{_+_, _*_, _≤_};
 ghost use lib.ListN.{length};
-ghost use Rattle.file.specs.Facts.{ArcSmall};
-ghost use Rattle.file.specs.Refusal.{arcWrong, key};
 ghost use Rattle.blame.specs.Head.{heading};
 ghost use Rattle.blame.specs.Arcs.{arcsPassed, arcOf};
 use crate::head::head;
@@ -20,41 +16,16 @@ pub struct BadArc {
     pub spare: usize,
 }
 
-// Arcs are ordered by this number.
-fn order(a: Arc) -> usize
-    requires { ⌜ ArcSmall a ⌝ }
-    ensures { λ r. ⌜ (r ≡ key a) × (r < 2 ^ 40) ⌝ }
-{
-    131072 * a.transition + 65536 * a.direction + a.place
-}
-
-// Is a field out of range?
-fn wrong(a: Arc, spare: usize, places: usize, transitions: usize) -> bool
-    ensures { λ r. ⌜ r ≡ arcWrong places transitions a spare ⌝ }
-{
-    (spare != 0)
-        | (1 < a.direction)
-        | (places <= a.place)
-        | (transitions <= a.transition)
-        | (a.weight == 0)
-}
-
-// How many of `count` arcs from `start` on pass before the first that is turned back.
+// How many of `count` arcs from `start` on pass before the first that is turned back: the reader is asked about the first, the first two, and so on.
 fn passed(file: &[u8], places: usize, transitions: usize, start: usize, count: usize) -> usize
     requires { ⌜ start + 8 * count ≤ length (now file) ⌝ }
-    ensures { λ r. ⌜ (r ≡ arcsPassed (now (file .entry)) places transitions start 0 count) × (r ≤ count) ⌝ }
+    ensures { λ r. ⌜ (r ≡ arcsPassed (now (file .entry)) places transitions start count) × (r ≤ count) ⌝ }
 {
-    let mut at = start;
-    let mut least: usize = 0;
     let mut k: usize = 0;
     while k < count {
-        let a = file::arcs::arc(file, at);
-        let key = order(a);
-        if wrong(a, get8(file, at + 3), places, transitions) | (key < least) {
+        if file::arcs::first_refusal(file, places, transitions, start, k + 1) != 0 {
             return k;
         }
-        least = key;
-        at += 8;
         k += 1;
     }
     k

@@ -16,21 +16,16 @@ pub struct BadOrigin {
     pub number: usize,
 }
 
-// How many of `count` origins from `start` on rise, before the first that does not.
+// How many of `count` origins from `start` on pass before the first that is turned back, asked of the reader likewise.
 fn passed(file: &[u8], start: usize, count: usize) -> usize
     requires { ⌜ start + 2 * count ≤ length (now file) ⌝ }
-    ensures { λ r. ⌜ (r ≡ tablePassed (now (file .entry)) start 0 count) × (r ≤ count) ⌝ }
+    ensures { λ r. ⌜ (r ≡ tablePassed (now (file .entry)) start count) × (r ≤ count) ⌝ }
 {
-    let mut at = start;
-    let mut least: usize = 0;
     let mut k: usize = 0;
     while k < count {
-        let origin = get16(file, at);
-        if origin < least {
+        if file::origins::refusal(file, start, k + 1) != 0 {
             return k;
         }
-        least = origin + 1;
-        at += 2;
         k += 1;
     }
     k

@@ -60,7 +60,13 @@ fn order(a: Arc) -> usize
 }
 
 // Checks `count` arcs from `start` on, one by one: 0, or the number of the first rule broken.
-fn first_refusal(file: &[u8], places: usize, transitions: usize, start: usize, count: usize) -> u32
+pub fn first_refusal(
+    file: &[u8],
+    places: usize,
+    transitions: usize,
+    start: usize,
+    count: usize,
+) -> u32
     requires { ⌜ start + 8 * count ≤ length (now file) ⌝ }
     ensures { λ r. ⌜ r ≡ arcsRefusal (now (file .entry)) places transitions start 0 count ⌝ }
 {
