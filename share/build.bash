@@ -69,16 +69,21 @@ heard() {
     esac
 }
 
-# Proves and links, with a line for each crate and how many are left.
-build() {
+# count NAME: how many crates are proved for it, into `left`.
+count() {
     local line name
     local -a all
     command -v rt > /dev/null || fail "the toolchain's command rt is not in PATH"
     while IFS=: read -r name line; do
         case $name in '' | '#'*) ;; *) uses[$name]=${line%%#*} ;; esac
     done < "$here/crates.txt"
-    mapfile -t all < <(needed slicer)
+    mapfile -t all < <(needed "$1")
     left=${#all[@]} kept='' code=''
+}
+
+# Proves and links, with a line for each crate and how many are left.
+build() {
+    count slicer
     echo "nesfoal: building: $left crates are proved, then the program is compiled and linked" >&2
     rm -f -- "$stamp"
     toolchain check slicer
@@ -113,9 +118,8 @@ ready() {
 # The library's archive, made again where a source changed since.
 library() {
     if [ -f "$archive" ] && ! changed "$archive" src specs; then return; fi
-    command -v rt > /dev/null || fail "the toolchain's command rt is not in PATH"
-    left=1 kept='' code=''
-    echo 'nesfoal: building: the library is proved and written' >&2
+    count nesfoal
+    echo "nesfoal: building: $left crates are proved, and the library is written" >&2
     began
     toolchain staticlib nesfoal
     if [ "$code" -ne 0 ] || [ ! -f "$archive" ]; then

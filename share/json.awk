@@ -117,12 +117,28 @@ function written(s,    at, next_at) {
         field("places", count(substr(s, at + 1), "place")) field("transitions", count(substr(s, at + 1), "transition"))
 }
 
+# How many bytes the note of show's first line has.
+function noted(s) { return count(after(s, ", a note of "), "byte") }
+
+# show with a note that is text: it stands as it is after `note: `, and may have lines of its own.
+function shown(    n, left) {
+    n = noted(lines[1])
+    left = substr(whole, length(lines[1]) + 2 + length("note: "))
+    note = text("note", substr(left, 1, n))
+    told(lines[1])
+    note = ""
+    NR = split(substr(left, n + 2), lines, "\n")
+    each()
+}
+
+function each(    i) { for (i = 1; i <= NR; i++) if (lines[i] != "") told(lines[i]) }
+
 # One answer, by its first word.
 function told(s,    w) {
     split(s, w, " ")
     if (s ~ /^(plan|slice) of [0-9]/)
         object(w[1], field("places", count(s, "place")) field("transitions", count(s, "transition")) field("arcs", count(s, "arc")) \
-            field("bytes", count(s, "byte")) (s ~ /, a note of [0-9]/ ? field("note_bytes", count(after(s, ", a note of "), "byte")) : ""))
+            field("bytes", count(s, "byte")) (s ~ /, a note of [0-9]/ ? field("note_bytes", noted(s)) : "") note)
     else if (s ~ /^(place|transition) [0-9]/) object(w[1], item(s))
     else if (w[1] == "effect") object("effect", field("effect", w[2]) field("transition", w[5]) field("place", w[8]))
     else if (w[1] == "arcs") {
@@ -169,5 +185,6 @@ END {
     if (verb == "help" && whole ~ /^@/) helped()
     else if (whole ~ /^digraph /) object("picture", text("graphviz", whole "\n"))
     else if (whole ~ /^(refused|error:|usage:|written|installed|removed) /) told(whole)
-    else for (i = 1; i <= NR; i++) if (lines[i] != "") told(lines[i])
+    else if (lines[1] ~ /^(plan|slice) of .*, a note of [0-9]+ bytes? first$/ && lines[2] ~ /^note: /) shown()
+    else each()
 }
