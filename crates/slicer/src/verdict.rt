@@ -1,21 +1,22 @@
 // check PLAN SLICE Q..
+use checker::Outcome;
 use terminal::phrases;
 use terminal::say;
 use words::refusal;
 
 pub fn answer(plan: &[u8], slice: &[u8], criterion: &[u16]) {
     let v = call_check::verdicts::check(plan, slice, criterion);
-    let code = checker::code(v);
-    if code == 0 {
-        say::plain(phrases::ACCEPTED);
-        return;
+    let outcome = v.outcome;
+    match outcome {
+        Outcome::Accepted => say::plain(phrases::ACCEPTED),
+        Outcome::Refused(n) => refusal::two(n, plan, slice, criterion),
+        Outcome::UnknownPlace(n) => say::one(phrases::RULE, n as usize),
+        Outcome::UnknownTransition(n) => say::one(phrases::RULE + 1, n as usize),
+        Outcome::OtherMarking(n) => say::one(phrases::RULE + 2, n as usize),
+        Outcome::OtherArcs(n) => say::one(phrases::RULE + 3, n as usize),
+        Outcome::CriterionMissing(n) => say::one(phrases::RULE + 4, n as usize),
+        Outcome::ChangerMissing(n) => say::one(phrases::RULE + 5, n as usize),
+        Outcome::InputMissing(n) => say::one(phrases::RULE + 6, n as usize),
+        Outcome::RaiserMissing(n) => say::one(phrases::RULE + 7, n as usize),
     }
-    if code <= 100 {
-        refusal::two(code, plan, slice, criterion);
-        return;
-    }
-    say::one(
-        phrases::RULE + (code - 101) as usize,
-        checker::number(v) as usize,
-    );
 }
