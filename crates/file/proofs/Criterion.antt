@@ -6,7 +6,7 @@ use mathlib.Core.List.{List, [], _∷_}
 use native.Mathlib.Omega.{arith}
 use lib.Dec.{T, eqb, ltb, leb, eqb→eq}
 use lib.ListN.{length, getD}
-use borrow.Author.Tests.{eqb-false, leb-false, ltb-false}
+use borrow.Author.Tests.{leb-false, ltb-false}
 use Rattle.net.specs.Numbers.{among}
 use Rattle.net.proofs.Numbers.{by-or}
 use Rattle.file.specs.Facts.{RisingFrom}
@@ -15,7 +15,6 @@ use Rattle.file.proofs.Opening.{refuse-0, or-false}
 
 -- the numbers rise, are places, and so are not more than these
 pub record Passed (P : ℕ) (Q : List ℕ) : Type 0 where
-  pub some : 0 < length Q
   pub few : length Q ≤ P
   pub rise : RisingFrom 0 Q
   pub known : (q : ℕ) → T (among q Q) → q < P
@@ -50,15 +49,12 @@ among-0 P least (x ∷ Q) e q h =
 
 pub passed : (P : ℕ) (Q : List ℕ) → criterionRefusal P Q ≡ 0 → Passed P Q
 unfolding criterionRefusal
-passed P Q e =
-    let a = refuse-0 _ 8 _ e in
-    record {
-      some = let n = eqb-false (length Q) 0 (a .0) in omega (arith, n);
-      few = omega (arith, few-0 P 0 Q (a .1) (omega arith));
-      rise = rises-0 P 0 Q (a .1);
-      known = among-0 P 0 Q (a .1);
-      known-at = known-0 P 0 Q (a .1);
-    }
+passed P Q e = record {
+  few = omega (arith, few-0 P 0 Q e (omega arith));
+  rise = rises-0 P 0 Q e;
+  known = among-0 P 0 Q e;
+  known-at = known-0 P 0 Q e;
+}
 
 -- the C call's criterion passes where its places do
 pub bytes-passed : (P : ℕ) (s : List ℕ) → criterionBytesRefusal P s ≡ 0 → criterionRefusal P (criterionOf s) ≡ 0

@@ -26,7 +26,6 @@ pub record Placed (n : ℕ) (h : Header) : Type 0 where
   pub places : h .places ≤ 1024
   pub transitions : h .transitions ≤ 1024
   pub arcs : h .arcs ≤ 4096
-  pub nodes : 0 < h .places + h .transitions
   pub markingsFit : h .markstart + 4 * h .places ≤ h .arcstart
   pub arcsFit : h .arcstart + 8 * h .arcs ≡ h .originstart
   pub originsFit : h .originstart + inSlice (h .kind) (2 * h .places + 2 * h .transitions) + 16 ≡ n

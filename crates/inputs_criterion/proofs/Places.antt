@@ -1,6 +1,6 @@
 -- Refusals 9 and 10, place by place.
 use Prim.Native.Nat.{ℕ, zero, suc, _+_, _-_, _*_, _/_, _%_, _≤_, _<_}
-use mathlib.Core.Path.{_≡_, refl, sym, ap, _∙_}
+use mathlib.Core.Path.{_≡_, refl, ap, _∙_}
 use mathlib.Core.Bool.{true, false, _||_}
 use mathlib.Core.List.{List, [], _∷_, _++_}
 use native.Mathlib.Omega.{arith}
@@ -13,7 +13,6 @@ use Rattle.file.specs.Word.{le16}
 use Rattle.file.specs.Layout.{wordsFrom}
 use Rattle.file.specs.Refusal.{refuse}
 use Rattle.file.specs.Criterion.{placesRefusal, criterionRefusal, criterionOf, criterionBytesRefusal}
-use Rattle.file.proofs.Rows.{length-words}
 
 -- ---- the loops
 
@@ -68,25 +67,12 @@ words-more s at (suc n) =
 
 -- ---- refusal 9
 
-pub empty-9 : (P : ℕ) (Q : List ℕ) → length Q ≡ 0 → 9 ≡ criterionRefusal P Q
-unfolding criterionRefusal
-empty-9 P Q e = rw (eq-eqb (length Q) 0 e)
-
-pub some-places : (P : ℕ) (Q : List ℕ) → (length Q ≡ 0 → ⊥) → criterionRefusal P Q ≡ placesRefusal P 0 Q
-unfolding criterionRefusal
-some-places P Q n = rw (ne-eqb (length Q) 0 n)
-
 module _ (P : ℕ) (s : List ℕ) where
   pub odd-9 : (length s % 2 ≡ 0 → ⊥) → 9 ≡ criterionBytesRefusal P s
   unfolding criterionBytesRefusal
   odd-9 n = rw (ne-eqb (length s % 2) 0 n)
 
-  even : length s % 2 ≡ 0 → criterionBytesRefusal P s ≡ criterionRefusal P (wordsFrom s 0 (length s / 2))
-  unfolding criterionBytesRefusal criterionOf
+  pub even : length s % 2 ≡ 0 → criterionBytesRefusal P s ≡ placesRefusal P 0 (wordsFrom s 0 (length s / 2))
+  unfolding criterionBytesRefusal criterionRefusal criterionOf
   even e = rw (eq-eqb (length s % 2) 0 e)
 
-  pub no-bytes-9 : length s % 2 ≡ 0 → length s ≡ 0 → 9 ≡ criterionBytesRefusal P s
-  no-bytes-9 e z = empty-9 P _ (length-words s 0 (length s / 2) ∙ (let q : length s / 2 ≡ 0 = omega arith in q)) ∙ sym (even e)
-
-  pub bytes-rest : length s % 2 ≡ 0 → (length s ≡ 0 → ⊥) → criterionBytesRefusal P s ≡ placesRefusal P 0 (wordsFrom s 0 (length s / 2))
-  bytes-rest e n = even e ∙ some-places P _ (λ z. n (omega (arith, length-words s 0 (length s / 2))))

@@ -20,9 +20,6 @@ fn misplaced(q: usize, least: usize, places: usize) -> bool
 pub fn refusal(q: &[u16], places: usize) -> u32
     ensures { λ r. ⌜ r ≡ criterionRefusal places (now (q .entry)) ⌝ }
 {
-    if q.len() == 0 {
-        return 9;
-    }
     let mut least: usize = 0;
     let mut i: usize = 0;
     while i < q.len() {
@@ -62,9 +59,6 @@ pub fn bytes_refusal(q: &[u8], places: usize) -> u32
 {
     let n = q.len();
     if n % 2 != 0 {
-        return 9;
-    }
-    if n == 0 {
         return 9;
     }
     places_refusal(q, n / 2, places)

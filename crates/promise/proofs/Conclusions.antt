@@ -1,11 +1,11 @@
 -- What people conclude, from the fields of `Demand3`, `WritesSmallest`, `Judges`, `Published` and `Replays`.
-use Prim.Native.Nat.{ℕ, _+_, _≤_}
-use mathlib.Core.List.{List, []}
+use Prim.Native.Nat.{ℕ, zero, suc, _+_, _≤_}
+use mathlib.Core.List.{List, [], _∷_, _++_}
 use mathlib.Core.Bool.{true}
-use mathlib.Core.Path.{_≡_, refl, ap, subst⁻¹, _∙_}
+use mathlib.Core.Path.{_≡_, refl, sym, ap, subst⁻¹, _∙_}
 use mathlib.Core.Logic.{_↔_}
 use native.Mathlib.Omega.{arith}
-use lib.ListN.{length}
+use lib.ListN.{length, drop}
 use lib.Dec.{T}
 use Rattle.net.specs.Net.{Answer, fired, short, full, replay, Uncapped}
 use Rattle.net.specs.Slice.{Slice, HasPlace, HasTransition, WellFormed, Accepted}
@@ -15,10 +15,13 @@ use Rattle.net.specs.Conclusions.{SameVerdict, StuckForGood, SameKept, Unbroken
 use Rattle.net.proofs.Conclusions.{same-verdict, short-for-good, full-for-good, same-kept, unbroken-accepted, broken-first}
 use Rattle.file.specs.Word.{Bytes}
 use Rattle.file.specs.Layout.{netOf, sliceOf}
-use Rattle.promise.specs.Calls.{safetyAnswer, branchingAnswer, checkRefusal, told, Checked, checked, Accepts}
-use Rattle.promise.specs.Firing.{replayRefusal, ReplayAnswer, replayTold, replayAnswer}
-use Rattle.promise.specs.Conclusions.{Tells, AsListed}
-use Rattle.promise.specs.Promise.{ourCut, ourBranching, Wrote, Keeps}
+use Rattle.file.specs.Refusal.{fileRefusal}
+use Rattle.file.specs.declared.Due.the-variants as due
+use Rattle.promise.specs.Calls.{safetyAnswer, safetyBuffer, branchingAnswer, checkRefusal, told, Checked, checked, checkedBytes, Accepts}
+use Rattle.promise.specs.Firing.{replayRefusal, ReplayAnswer, replayTold, replayAnswer, projectRefusal, projectAnswer}
+use Rattle.promise.specs.Conclusions.{Tells, AsListed, CutForNothing}
+use Rattle.promise.specs.Promise.{ourCut, ourBranching, Wrote, Keeps, emptySlice, EmptyCriterion}
+use Rattle.promise.proofs.Empty.{empty-criterion}
 use Rattle.file.proofs.Criterion.{passed}
 use Rattle.promise.proofs.Replays.{differ, answered, replays}
 use Rattle.promise.proofs.Demands.{slice-well-formed, check-passes, checked-told, judges, published, demand-3, writes-smallest, not-turned-back, our-cut, branching-not-turned-back, our-branching}
@@ -114,3 +117,33 @@ branching-listed plan Q buffer b none w =
     let p = published plan Q b (branching-not-turned-back plan Q buffer w) none in
     subst⁻¹ (λ (file : List ℕ). AsListed (sliceOf file) (GenerateSlice (netOf plan) Q)) (our-branching plan Q buffer w)
     (as-listed _ (GenerateSlice (netOf plan) Q) (p .ctl-slice) (p .ctl-run))
+
+-- both cuts for no place into 16 bytes
+past-end : (l : List ℕ) (n : ℕ) → length l ≤ n → drop n l ≡ []
+past-end [] zero h = refl
+past-end [] (suc n) h = refl
+past-end (x ∷ l) zero h = absurd (omega arith)
+past-end (x ∷ l) (suc n) h = past-end l n (omega arith)
+
+module _ (plan buffer : List ℕ) (b : Bytes plan) (read : fileRefusal due.Plan plan ≡ 0) (sixteen : length buffer ≡ 16) where
+  abbrev E : EmptyCriterion plan
+  E = empty-criterion plan b read
+
+  enough : 16 ≤ length buffer
+  enough = omega arith
+
+  wrote : safetyBuffer plan [] buffer ≡ emptySlice
+  unfolding emptySlice
+  wrote = E .safety-buffer buffer enough ∙ ap (λ (l : List ℕ). emptySlice ++ l) (past-end buffer 16 (omega arith))
+
+  slice-read : fileRefusal due.Slice emptySlice ≡ 0
+  slice-read = check-passes plan emptySlice [] (exactly plan emptySlice [] .0 (E .accepted) .0) .0
+
+  pub cut-for-nothing : CutForNothing plan buffer
+  unfolding projectAnswer projectRefusal
+  cut-for-nothing = record {
+    same-answer = E .branching-answer (length buffer) enough ∙ sym (E .safety-answer (length buffer) enough);
+    same-bytes = E .branching-buffer buffer enough ∙ sym (E .safety-buffer buffer enough);
+    accepted = ap (λ (file : List ℕ). checkedBytes plan file []) wrote ∙ E .accepted-bytes;
+    projected = λ list ok. ap (λ (file : List ℕ). projectAnswer plan file list 0) wrote ∙ rw (read, slice-read, ok, E .shadow list);
+  }

@@ -13,7 +13,8 @@ use Rattle.file.specs.Criterion.{placesRefusal, criterionRefusal, criterionOf, 
 use Rattle.file.specs.Writing.{markingsBytes, arcBytes, arcsBytes, originsBytes, sliceBody, trailerBytes, sliceBytes}
 use Rattle.promise.specs.Calls.{cutOf, safetyFile, branchingFile, cutRefusal, writeRefusal, safetyAnswer, checkRefusal, checked, checkedBytes}
 use Rattle.promise.specs.Firing.{effectRefusal, effectAnswer, listRefusal, replayRefusal, replayAnswer, replayMarking, projectRefusal, projectAnswer, projectOutput, before, runIn, arcRun}
-use Rattle.promise.specs.Example.{smallPlan, onePlace, onePlaceCut, parallelPlan, Starred, Noted, Parallels, withCaps, oneCap, twoCaps, loopNet, overNet, Capped}
+use Rattle.promise.specs.Promise.{emptySlice}
+use Rattle.promise.specs.Example.{smallPlan, onePlace, onePlaceCut, parallelPlan, Starred, Noted, ForNoPlace, Parallels, withCaps, oneCap, twoCaps, loopNet, overNet, Capped}
 
 pub starred : Starred
 unfolding among position any selected first below weightOn input output effect changes raises takesFrom addsTo capped fire shortPlace fullPlace testInputs testCaps testFiring replayFrom replay tokens growth safety branching drawnBy grown rounds keptPlaces keptTransitions strike own project renumber restrict arcsOf sliceRun planRun placeOf transitionOf keeping cut breaks breaker sameArc sameArcs lacksInput lacksOutput rule1 rule2 rule3 rule4 rule5 rule6 rule7 rule8 rule9 rule10 rules verdictFrom verdict le16 le32 bytes16 bytes32 trailerOf headerOf arcsFrom wordsFrom trailerRefusal arcsRefusal tableRefusal originsRefusal bodyRefusal fileRefusal placesRefusal criterionRefusal markingsBytes arcBytes arcsBytes originsBytes sliceBody trailerBytes sliceBytes cutOf safetyFile branchingFile checkRefusal checked smallPlan effectRefusal effectAnswer listRefusal replayRefusal replayAnswer replayMarking projectRefusal projectAnswer projectOutput
@@ -49,7 +50,6 @@ noted = record {
   little-room = refl;
   cut-counts = refl;
   cut-no-room = refl;
-  no-criterion = refl;
   not-rising = refl;
   own-cut = refl;
   own-branching-cut = refl;
@@ -60,6 +60,33 @@ noted = record {
   no-run = refl;
   tokens-in-plan = refl;
   tokens-in-slice = refl;
+}
+
+pub for-no-place : ForNoPlace
+unfolding among position any selected first below weightOn input output effect changes raises takesFrom addsTo capped fire shortPlace fullPlace testInputs testCaps testFiring replayFrom replay tokens growth safety branching drawnBy grown rounds keptPlaces keptTransitions strike own project renumber restrict arcsOf sliceRun planRun placeOf transitionOf keeping cut breaks breaker sameArc sameArcs lacksInput lacksOutput rule1 rule2 rule3 rule4 rule5 rule6 rule7 rule8 rule9 rule10 rules verdictFrom verdict le16 le32 bytes16 bytes32 trailerOf headerOf arcsFrom wordsFrom trailerRefusal arcsRefusal tableRefusal originsRefusal bodyRefusal fileRefusal placesRefusal criterionRefusal markingsBytes arcBytes arcsBytes originsBytes sliceBody trailerBytes sliceBytes cutOf safetyFile branchingFile checkRefusal checked smallPlan onePlace onePlaceCut effectRefusal effectAnswer listRefusal replayRefusal replayAnswer replayMarking projectRefusal projectAnswer projectOutput after planTokens sliceTokens cutRefusal writeRefusal safetyAnswer criterionOf criterionBytesRefusal checkedBytes before runIn arcRun emptySlice
+for-no-place = record {
+  safety-cut = refl;
+  branching-cut = refl;
+  answer = refl;
+  no-room = refl;
+  its-own = refl;
+  no-bytes = refl;
+  one-byte = refl;
+  another = refl;
+  passes = (refl, refl);
+  empty-plan = (refl, refl);
+  no-plan = refl;
+  fires = refl;
+  no-number = refl;
+  no-effect = refl;
+  no-run = refl;
+  projected = refl;
+  larger = refl;
+  other-marking = refl;
+  no-input = refl;
+  no-raiser = refl;
+  may-lower = refl;
+  no-changer = refl;
 }
 
 pub parallels : Parallels

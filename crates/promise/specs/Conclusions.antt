@@ -1,15 +1,18 @@
 -- What people conclude from the check's answer and from the published slices.
 use Prim.Native.Nat.{ℕ, _+_}
-use mathlib.Core.List.{List}
+use mathlib.Core.Bool.{false}
+use mathlib.Core.List.{List, []}
 use mathlib.Core.Path.{_≡_}
 use mathlib.Core.Logic.{_↔_}
+use lib.ListN.{length}
 use lib.Dec.{T}
 use Rattle.net.specs.Slice.{Slice, HasPlace, HasTransition}
 use Rattle.net.specs.Checker.{rules}
 use Rattle.net.specs.Conclusions.{Unbroken, BrokenFirst}
 use Rattle.net.specs.Rakow.{Set}
 use Rattle.file.specs.Layout.{netOf, sliceOf}
-use Rattle.promise.specs.Calls.{checked, Accepts}
+use Rattle.promise.specs.Calls.{safetyAnswer, safetyBuffer, branchingAnswer, branchingBuffer, checked, checkedBytes, Accepts}
+use Rattle.promise.specs.Firing.{listRefusal, projectAnswer}
 
 -- the answer of a check that is not turned back
 pub record Tells (plan slice Q : List ℕ) : Type 0 where
@@ -26,3 +29,13 @@ pub record AsListed (S : Slice) (Run : Set → Set → Type 0) : Type 0 where
   pub places-some : (p : ℕ) → HasPlace S p ↔ ((P′ : Set) × (T′ : Set) × Run P′ T′ × T (P′ p))
   pub transitions-every : (t : ℕ) → HasTransition S t ↔ ((P′ T′ : Set) → Run P′ T′ → T (T′ t))
   pub transitions-some : (t : ℕ) → HasTransition S t ↔ ((P′ : Set) × (T′ : Set) × Run P′ T′ × T (T′ t))
+
+-- both cuts for no place, with 16 bytes lent: what they wrote
+pub record CutForNothing (plan buffer : List ℕ) : Type 0 where
+  pub same-answer : branchingAnswer plan [] (length buffer) ≡ safetyAnswer plan [] (length buffer)
+  pub same-bytes : branchingBuffer plan [] buffer ≡ safetyBuffer plan [] buffer
+  -- the C check accepts it, its criterion having no bytes
+  pub accepted : checkedBytes plan (safetyBuffer plan [] buffer) [] ≡ 0
+  -- the projection of a list that is not refused is empty, and no entry need be lent
+  pub projected : (list : List ℕ) → listRefusal (netOf plan .transitions) list ≡ 0
+      → projectAnswer plan (safetyBuffer plan [] buffer) list 0 ≡ record { refused = false; refusal = 0; count = 0 }

@@ -15,9 +15,11 @@ use Rattle.net.specs.Checker.{rule9, accepted, broken, breaker, verdict}
 use Rattle.net.specs.Guarantee.{planTokens, sliceTokens}
 use Rattle.file.specs.Layout.{netOf, sliceOf}
 use Rattle.file.specs.Refusal.{fileRefusal}
+use Rattle.file.specs.Writing.{sliceBytes}
 use Rattle.file.specs.declared.Due.the-variants as due
 use Rattle.promise.specs.Calls.{cutOf, safetyFile, branchingFile, safetyAnswer, checked, checkedBytes}
 use Rattle.promise.specs.Firing.{effectAnswer, replayAnswer, replayMarking, projectAnswer, projectOutput, arcRun}
+use Rattle.promise.specs.Promise.{emptySlice}
 
 -- "Places 0 waiting (2 tokens), 1 bay free (1), 2 in bay, 3 left, 4 bell (0 each)", the arcs of transitions 0 to 3, the trailer
 unfoldable pub smallPlan : List ℕ
@@ -86,7 +88,6 @@ pub record Noted : Type 0 where
   pub little-room : replayAnswer smallPlan [] 4 ≡ record { refused = true; refusal = 13; stuck = false; full = false; index = 0; place = 0; amount = 0 }
   pub cut-counts : safetyAnswer smallPlan (2 ∷ []) 78 ≡ record { refused = false; refusal = 0; length = 78; places = 3; transitions = 2 }
   pub cut-no-room : safetyAnswer smallPlan (2 ∷ []) 77 ≡ record { refused = true; refusal = 13; length = 0; places = 0; transitions = 0 }
-  pub no-criterion : checked smallPlan (safetyFile smallPlan (2 ∷ [])) [] ≡ record { refused = true; code = 9; number = 0 }
   pub not-rising : checked smallPlan (safetyFile smallPlan (2 ∷ [])) (2 ∷ 2 ∷ []) ≡ record { refused = true; code = 10; number = 0 }
   pub own-cut : checked smallPlan (safetyFile smallPlan (2 ∷ [])) (2 ∷ []) ≡ record { refused = false; code = 0; number = 0 }
   pub own-branching-cut : checked smallPlan (branchingFile smallPlan (2 ∷ [])) (2 ∷ []) ≡ record { refused = false; code = 0; number = 0 }
@@ -98,6 +99,37 @@ pub record Noted : Type 0 where
   -- "after 3,0,1 waiting is 0 in the plan; after its projection 0,1 it is 1 in the safety cut for {2}"
   pub tokens-in-plan : planTokens (netOf smallPlan) (3 ∷ 0 ∷ 1 ∷ []) 0 ≡ 0
   pub tokens-in-slice : sliceTokens (sliceOf (safetyFile smallPlan (2 ∷ []))) (0 ∷ 1 ∷ []) 0 ≡ 1
+
+-- an empty criterion (document 02, A7)
+pub record ForNoPlace : Type 0 where
+  -- "the slice with no places and no transitions, from both cuts, 16 bytes long"; with 15 bytes lent, 13
+  pub safety-cut : safetyFile smallPlan [] ≡ emptySlice
+  pub branching-cut : branchingFile smallPlan [] ≡ emptySlice
+  pub answer : safetyAnswer smallPlan [] 16 ≡ record { refused = false; refusal = 0; length = 16; places = 0; transitions = 0 }
+  pub no-room : safetyAnswer smallPlan [] 15 ≡ record { refused = true; refusal = 13; length = 0; places = 0; transitions = 0 }
+  -- accepted for no place, by no bytes too, and not for place 2; "9 now only for an odd byte count"
+  pub its-own : checked smallPlan emptySlice [] ≡ record { refused = false; code = 0; number = 0 }
+  pub no-bytes : checkedBytes smallPlan emptySlice [] ≡ 0
+  pub one-byte : checkedBytes smallPlan emptySlice (0 ∷ []) ≡ 9
+  pub another : checked smallPlan emptySlice (2 ∷ []) ≡ record { refused = false; code = 105; number = 2 }
+  -- "4 lets an empty slice pass, an empty plan not"; a slice is no plan still
+  pub passes : (fileRefusal due.Slice emptySlice ≡ 0) × (fileRefusal due.Either emptySlice ≡ 0)
+  pub empty-plan : (fileRefusal due.Plan (set emptySlice 10 0) ≡ 4) × (fileRefusal due.Either (set emptySlice 10 0) ≡ 4)
+  pub no-plan : fileRefusal due.Plan emptySlice ≡ 3
+  -- replayed, asked for an effect and for arcs, projected on
+  pub fires : replayAnswer emptySlice [] 0 ≡ record { refused = false; refusal = 0; stuck = false; full = false; index = 0; place = 0; amount = 0 }
+  pub no-number : replayAnswer emptySlice (0 ∷ []) 0 .refusal ≡ 12
+  pub no-effect : effectAnswer emptySlice 0 0 ≡ record { refused = true; refusal = 10; effect = pos 0 }
+  pub no-run : arcRun smallPlan emptySlice true 0 ≡ []
+  pub projected : projectAnswer smallPlan emptySlice (0 ∷ 3 ∷ []) 0 ≡ record { refused = false; refusal = 0; count = 0 }
+  -- a larger slice may be accepted for no place, but rules 1 to 4, 7 and 8 bind: place 0 has 2 tokens and not 3; transition 0 takes from place 0; it raises place 2
+  pub larger : checked smallPlan (safetyFile smallPlan (2 ∷ [])) [] .code ≡ 0
+  pub other-marking : checked smallPlan onePlaceCut [] ≡ record { refused = false; code = 103; number = 0 }
+  pub no-input : checked smallPlan (sliceBytes (keeping (netOf smallPlan) [] (0 ∷ []))) [] ≡ record { refused = false; code = 107; number = 0 }
+  pub no-raiser : checked smallPlan (sliceBytes (keeping (netOf smallPlan) (2 ∷ []) [])) [] ≡ record { refused = false; code = 108; number = 0 }
+  -- rule 6 is about Q alone: transition 0 lowers place 0, and none raises it
+  pub may-lower : checked smallPlan (sliceBytes (keeping (netOf smallPlan) (0 ∷ []) [])) [] .code ≡ 0
+  pub no-changer : checked smallPlan (sliceBytes (keeping (netOf smallPlan) (0 ∷ []) [])) (0 ∷ []) ≡ record { refused = false; code = 106; number = 0 }
 
 -- the small plan with the input of transition 2 as two arcs of weight 1: body length 100, 10 arcs
 unfoldable pub parallelPlan : List ℕ

@@ -3,8 +3,8 @@ use Prim.Native.Nat.{ℕ, _+_, _*_, _-_, _≤_, _<_}
 use mathlib.Core.Path.{_≡_, refl, sym, ap, _∙_}
 use native.Mathlib.Omega.{arith}
 use lib.ListN.{length, drop}
-use Rattle.file.specs.Criterion.{placesRefusal}
-use Rattle.inputs_criterion.proofs.Places.{empty-9, some-places, list-10, list-on, list-end}
+use Rattle.file.specs.Criterion.{placesRefusal, criterionRefusal}
+use Rattle.inputs_criterion.proofs.Places.{list-10, list-on, list-end}
 use Rattle.inputs_criterion.proofs.refusal.Statement.{statement}
 use Rattle.inputs_criterion.proofs.refusal.Tie as tie
 
@@ -13,9 +13,6 @@ Inv-loop q places least₀ i₀ least i = (i ≤ length q) × (least ≤ 65536) 
 
 abbrev μ-loop : tie.MeasureT-loop
 μ-loop q places least₀ i₀ least i = length q - i
-
-returns : tie.Need-returns Inv-loop μ-loop
-returns c = empty-9 _ _ (c .if1 .taken)
 
 loop-holds : tie.Need-loop-holds Inv-loop μ-loop
 loop-holds c = (omega arith, omega arith, refl)
@@ -32,12 +29,12 @@ wide-requires c κs = search needs
 misplaced-requires : tie.Need-misplaced-requires Inv-loop μ-loop
 misplaced-requires c κs = search needs
 
-returns-2 : tie.Need-returns-2 Inv-loop μ-loop
-returns-2 c =
+returns : tie.Need-returns Inv-loop μ-loop
+unfolding criterionRefusal
+returns c =
     sym
-    (some-places _ _ (c .before .before .before .before .before .before .if1 .left)
-    ∙ c .before .before .before .before .before .loop .inv .2
-    ∙ list-10 _ _ _ _ (c .before .before .before .before .loop-test .taken) _ (c .before .before .wide .ensures .0) (sym (c .before .misplaced .ensures) ∙ c .if2 .taken))
+    (c .before .before .before .before .before .loop .inv .2
+    ∙ list-10 _ _ _ _ (c .before .before .before .before .loop-test .taken) _ (c .before .before .wide .ensures .0) (sym (c .before .misplaced .ensures) ∙ c .if1 .taken))
 
 add-least : tie.Need-add-least Inv-loop μ-loop
 add-least c = search needs
@@ -52,11 +49,12 @@ loop-again : tie.Need-loop-again Inv-loop μ-loop
 loop-again c = (
   search needs,
   omega (arith, c .before .before .wide .ensures .1),
-  c .before .before .before .before .before .loop .inv .2 ∙ list-on _ _ _ _ (c .before .before .before .before .loop-test .taken) _ (c .before .before .wide .ensures .0) (sym (c .before .misplaced .ensures) ∙ c .if2 .left),
+  c .before .before .before .before .before .loop .inv .2 ∙ list-on _ _ _ _ (c .before .before .before .before .loop-test .taken) _ (c .before .before .wide .ensures .0) (sym (c .before .misplaced .ensures) ∙ c .if1 .left),
 )
 
-returns-3 : tie.Need-returns-3 Inv-loop μ-loop
-returns-3 c = sym (some-places _ _ (c .before .before .if1 .left) ∙ c .before .loop .inv .2 ∙ list-end _ _ _ _ (c .loop-test .left))
+returns-2 : tie.Need-returns-2 Inv-loop μ-loop
+unfolding criterionRefusal
+returns-2 c = sym (c .before .loop .inv .2 ∙ list-end _ _ _ _ (c .loop-test .left))
 
 pub refusal-spec : {M : Type 1} → statement M
 refusal-spec =
@@ -64,15 +62,14 @@ refusal-spec =
     (tie.spec
     Inv-loop
     μ-loop
-    returns
     loop-holds
     mul-wide
     shared-slice-read-wide
     wide-requires
     misplaced-requires
-    returns-2
+    returns
     add-least
     add-i
     loop-less
     loop-again
-    returns-3)
+    returns-2)

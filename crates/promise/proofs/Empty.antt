@@ -1,0 +1,129 @@
+-- The empty criterion: neither cut keeps anything, and the slice with nothing in it is the smallest accepted one.
+use Prim.Native.Nat.{ℕ, zero, suc, _≤_}
+use mathlib.Core.Bool.{Bool, false, _&&_, _||_}
+use mathlib.Core.List.{List, [], _∷_, _++_}
+use mathlib.Core.Path.{_≡_, refl, sym, ap, subst⁻¹, _∙_}
+use lib.ListN.{length, drop}
+use borrow.Author.Tests.{le-ltb}
+use Rattle.net.specs.Numbers.{among, any, selected}
+use Rattle.net.specs.Net.{Net, changes, raises}
+use Rattle.net.specs.Cut.{Growth, growth, safety, branching, drawnBy, grown, rounds, keptPlaces, keptTransitions}
+use Rattle.net.specs.Slice.{Slice, strike, own, project, restrict, keeping, cut}
+use Rattle.net.specs.Guarantee.{Contains}
+use Rattle.net.specs.declared.Arc.{Arc}
+use Rattle.file.specs.Word.{le16, le32, Bytes, bytes16, bytes32}
+use Rattle.file.specs.Layout.{trailerOf, headerOf, wordsFrom, netOf, sliceOf}
+use Rattle.file.specs.Refusal.{fileRefusal}
+use Rattle.file.specs.Criterion.{placesRefusal, criterionRefusal, criterionOf}
+use Rattle.file.specs.Writing.{markingsBytes, arcsBytes, originsBytes, sliceBody, trailerBytes, sliceBytes}
+use Rattle.file.specs.declared.Due.the-variants as due
+use Rattle.promise.specs.Calls.{cutOf, safetyFile, branchingFile, cutRefusal, writeRefusal, cutAnswer, written, safetyAnswer, safetyBuffer, branchingAnswer, branchingBuffer, Accepts}
+use Rattle.promise.specs.Promise.{emptySlice, EmptyCriterion}
+use Rattle.promise.proofs.Demands.{safety-cut-accepted, contained, even-bytes}
+
+-- no number passes
+none-selected : (f : ℕ → Bool) (a n : ℕ) → ((x : ℕ) → f x ≡ false) → selected f a n ≡ []
+unfolding selected
+none-selected f a zero h = refl
+none-selected f a (suc n) h = rw (h a, selected) (none-selected f (suc a) n h)
+
+-- what grows from no place
+module _ (N : Net) (draws : ℕ → ℕ → Bool) where
+  abbrev G : Growth
+  G = growth N [] draws
+
+  none-drawn : drawnBy G [] ≡ []
+  unfolding drawnBy any
+  none-drawn = none-selected (λ t. any (λ p. G .draws p t) []) 0 (G .transitions) (λ x. refl)
+
+  none-grown : grown G [] ≡ []
+  unfolding grown among any
+  none-grown = rw none-drawn (none-selected (λ p. among p [] || any (λ t. G .needs t p) []) 0 (G .places) (λ x. refl))
+
+  no-round : (n : ℕ) → rounds G n ≡ []
+  unfolding rounds growth among
+  no-round zero = none-selected (λ p. among p []) 0 (N .places) (λ x. refl)
+  no-round (suc n) = ap (grown G) (no-round n) ∙ none-grown
+
+  no-place : keptPlaces G ≡ []
+  unfolding keptPlaces
+  no-place = no-round (G .places)
+
+  no-transition : keptTransitions G ≡ []
+  unfolding keptTransitions
+  no-transition = ap (drawnBy G) no-place ∙ none-drawn
+
+  nothing-kept : cut N G ≡ keeping N [] []
+  unfolding cut
+  nothing-kept = rw (no-place, no-transition)
+
+no-arc : (l : List Arc) → restrict [] [] l ≡ []
+unfolding restrict among
+no-arc [] = refl
+no-arc (a ∷ l) = no-arc l
+
+nothing-written : (N : Net) → sliceBytes (keeping N [] []) ≡ emptySlice
+unfolding keeping sliceBytes markingsBytes arcsBytes originsBytes sliceBody trailerBytes bytes16 bytes32 emptySlice
+nothing-written N = rw (no-arc (N .arcs))
+
+-- the two cuts, and their files
+safety-slice : (plan : List ℕ) → cutOf safety plan [] ≡ keeping (netOf plan) [] []
+unfolding cutOf safety
+safety-slice plan = nothing-kept (netOf plan) (λ p t. among p [] && changes (netOf plan) t p || raises (netOf plan) t p)
+
+branching-slice : (plan : List ℕ) → cutOf branching plan [] ≡ keeping (netOf plan) [] []
+unfolding cutOf branching
+branching-slice plan = nothing-kept (netOf plan) (λ p t. changes (netOf plan) t p)
+
+safety-file : (plan : List ℕ) → safetyFile plan [] ≡ emptySlice
+unfolding safetyFile
+safety-file plan = ap sliceBytes (safety-slice plan) ∙ nothing-written (netOf plan)
+
+branching-file : (plan : List ℕ) → branchingFile plan [] ≡ emptySlice
+unfolding branchingFile
+branching-file plan = ap sliceBytes (branching-slice plan) ∙ nothing-written (netOf plan)
+
+-- no transition is among no origins
+none-stays : (l : List ℕ) → strike [] l ≡ []
+unfolding strike among
+none-stays [] = refl
+none-stays (t ∷ l) = none-stays l
+
+no-origin : sliceOf emptySlice .transitionOrigins ≡ []
+unfolding emptySlice trailerOf headerOf wordsFrom le16 le32
+no-origin = refl
+
+module _ (plan : List ℕ) (bytes : Bytes plan) (read : fileRefusal due.Plan plan ≡ 0) where
+  passes : cutRefusal plan [] ≡ 0
+  unfolding cutRefusal criterionRefusal placesRefusal
+  passes = rw read
+
+  fits : (room : ℕ) → 16 ≤ room → writeRefusal plan [] room emptySlice ≡ 0
+  unfolding writeRefusal emptySlice
+  fits room h = rw (passes, le-ltb room 16 h)
+
+  answer : (file : List ℕ) (S : Slice) → file ≡ emptySlice → S ≡ keeping (netOf plan) [] [] → (room : ℕ) → 16 ≤ room
+      → cutAnswer (writeRefusal plan [] room file) (length file) S ≡ record { refused = false; refusal = 0; length = 16; places = 0; transitions = 0 }
+  unfolding keeping emptySlice
+  answer file S f s room h = rw (f, s, fits room h)
+
+  buffer : (file : List ℕ) → file ≡ emptySlice → (entry : List ℕ) → 16 ≤ length entry
+      → written (writeRefusal plan [] (length entry) file) file entry ≡ emptySlice ++ drop 16 entry
+  unfolding emptySlice
+  buffer file f entry h = rw (f, fits (length entry) h)
+
+  own-accepted : Accepts plan emptySlice []
+  own-accepted = subst⁻¹ (λ (file : List ℕ). Accepts plan file []) (sym (safety-file plan)) (safety-cut-accepted plan [] bytes passes)
+
+  pub empty-criterion : EmptyCriterion plan
+  unfolding safetyAnswer safetyBuffer branchingAnswer branchingBuffer project own criterionOf wordsFrom
+  empty-criterion = record {
+    safety-answer = answer (safetyFile plan []) (cutOf safety plan []) (safety-file plan) (safety-slice plan);
+    safety-buffer = buffer (safetyFile plan []) (safety-file plan);
+    branching-answer = answer (branchingFile plan []) (cutOf branching plan []) (branching-file plan) (branching-slice plan);
+    branching-buffer = buffer (branchingFile plan []) (branching-file plan);
+    shadow = λ list. ap (λ (os : List ℕ). own os (strike os list)) no-origin ∙ ap (own []) (none-stays list);
+    accepted = own-accepted;
+    accepted-bytes = even-bytes plan emptySlice [] refl ∙ own-accepted;
+    smallest = λ slice a. subst⁻¹ (λ (file : List ℕ). Contains (sliceOf slice) (sliceOf file)) (sym (safety-file plan)) (contained plan [] bytes passes slice a);
+  }
