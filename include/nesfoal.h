@@ -37,7 +37,7 @@
 #include <stdint.h>
 
 /* One more with each change of a call, of a number or of the files, so that a program can refuse to be built with another. */
-#define NESFOAL_VERSION 3
+#define NESFOAL_VERSION 4
 
 /* The limits of a file, and of a list that a call takes. */
 #define NESFOAL_MAX_FILE_BYTES 65536
@@ -65,13 +65,14 @@ enum {
     NESFOAL_REFUSED_LENGTH = 1,      /* file: below 16 or above 65,536 bytes */
     NESFOAL_REFUSED_LETTERS = 2,     /* trailer: letters or edition wrong */
     NESFOAL_REFUSED_KIND = 3,        /* trailer: kind above 1, or not the kind due */
-    NESFOAL_REFUSED_COUNTS = 4,      /* trailer: places, transitions or arcs above the limit, or neither place nor transition */
+    NESFOAL_REFUSED_COUNTS = 4,      /* trailer: places, transitions or arcs above the limit, or a plan of neither place
+                                        nor transition */
     NESFOAL_REFUSED_BODY = 5,        /* trailer: body length not as computed, or above the file's length less 16 */
     NESFOAL_REFUSED_ARC = 6,         /* an arc: zero byte, direction, place, transition or weight out of range */
     NESFOAL_REFUSED_ORDER = 7,       /* an arc: below the arc before it, by transition, then direction, then place
                                         (equal ones are parallel arcs) */
     NESFOAL_REFUSED_ORIGINS = 8,     /* a table of origins: not strictly rising */
-    NESFOAL_REFUSED_CRITERION = 9,   /* criterion: empty (in bytes also: an odd count) */
+    NESFOAL_REFUSED_CRITERION = 9,   /* criterion in bytes: an odd count */
     NESFOAL_REFUSED_PLACE = 10,      /* criterion or place: a number that is no place, or a criterion that does not rise */
     NESFOAL_REFUSED_LIST = 11,       /* list: above 65,535 entries */
     NESFOAL_REFUSED_TRANSITION = 12, /* list or transition: a number that is no transition */
@@ -91,8 +92,9 @@ extern "C" {
  * struck out, and both end with equal tokens on each place of the criterion; a list of the slice's own transitions fires
  * in the slice exactly when it fires in the plan, and then both end with equal tokens on each place of the slice.
  *
- * criterion: places of the plan, strictly rising, 2 bytes each, low byte first.
- * Returns 0 accepted; 1 to 10 a refusal (9 also for an odd count of bytes); 100 plus the number of the first rule broken:
+ * criterion: places of the plan, strictly rising, 2 bytes each, low byte first. There may be none: then 105 and 106 do not
+ * occur, and the slice of 16 bytes with no places and no transitions is the smallest that is accepted.
+ * Returns 0 accepted; 1 to 10 a refusal (9 an odd count of bytes); 100 plus the number of the first rule broken:
  *   101 an origin that is no place of the plan        105 a place of the criterion that is not kept
  *   102 an origin that is no transition of the plan   106 a transition left out that changes a place of the criterion
  *   103 a marking other than the plan's               107 a kept transition with an input place that is not kept
@@ -135,10 +137,11 @@ uint32_t nesfoal_replay(const uint8_t *file, size_t file_length,
                         uint32_t *index, uint32_t *place, uint32_t *amount);
 
 /* The safety cut of a plan for a criterion (places of the plan, strictly rising): the smallest slice that nesfoal_check
- * accepts for them, written as a slice file without note.
+ * accepts for them, written as a slice file without note. For no place either cut is the slice of 16 bytes with no places
+ * and no transitions.
  *
  * Returns 0, with the file's length in *length and the numbers of kept places and transitions in *places and
- * *transitions; or a refusal: 1 to 7, 9, 10, and 13 where slice is shorter than the file.
+ * *transitions; or a refusal: 1 to 7, 10, and 13 where slice is shorter than the file.
  * Bytes of slice past the file's length keep their values.
  */
 uint32_t nesfoal_safety(const uint8_t *plan, size_t plan_length,

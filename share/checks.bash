@@ -44,15 +44,14 @@ check_many() {
     status=$worst
 }
 
-# draw dot FILE, draw dot PLAN SLICE Q..: the picture; and a note where the slice is not a part of the plan by rules 1 to 4, which
-# do not depend on the criterion.
+# draw dot FILE, draw dot PLAN SLICE [Q..]: the picture; and a note where the slice is not a part of the plan by rules 1 to 4, which
+# do not depend on the criterion: none is asked.
 draw() {
     local picture name note=''
     ask "$@"
     picture=$answer
     if [[ $# -gt 2 && $picture == 'digraph '* ]]; then
-        ask check "$2" "$3" 0
-        case $answer in 'refused '*) ask check "$2" "$3" ;; esac # no place 0
+        ask check "$2" "$3"
         case $answer in
             'rule '[1-4]' '*)
                 named "$3" && note="$name is not accepted as a part of "

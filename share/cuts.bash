@@ -76,7 +76,7 @@ end() {
     said=$(mv -fT -- "$beside" "$1" 2>&1) || fail "$1: $(reason "$said")"
 }
 
-# write CUT PLAN OUT Q..: to a file that may be written.
+# write CUT PLAN OUT [Q..]: to a file that may be written.
 write() {
     begin "$3"
     ask "$1" "$2" "$beside" "${@:4}"
@@ -89,7 +89,7 @@ write() {
     tell "$answer"
 }
 
-# cut_to CUT PLAN OUT Q..
+# cut_to CUT PLAN OUT [Q..]
 cut_to() {
     if [ "$#" -lt 3 ]; then
         more help

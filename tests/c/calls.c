@@ -38,6 +38,9 @@ static const uint8_t cut[78] = {
     62, 0, 0, 0,  3, 0,  2, 0,  5, 0,  1, 1,  'B', 'E', 'L', 'L',
 };
 
+/* The slice with no places and no transitions: the cut of every plan for no place. */
+static const uint8_t empty[16] = {0, 0, 0, 0, 0, 0, 0, 0, 0, 0, 1, 1, 'B', 'E', 'L', 'L'};
+
 static unsigned passed, failed;
 
 static void expect(const char *what, long long got, long long due)
@@ -187,7 +190,6 @@ static void cuts(void)
     expect("one byte short", nesfoal_safety(plan, 108, criterion, 1, room, 77, &length, &places, &transitions), NESFOAL_REFUSED_BUFFER);
     expect("one byte short, zeros", length + places + transitions, 0);
     expect("one byte short, untouched", room[0], 0xAA);
-    expect("no criterion", nesfoal_safety(plan, 108, NULL, 0, room, 100, &length, &places, &transitions), NESFOAL_REFUSED_CRITERION);
     expect("a slice is no plan", nesfoal_safety(cut, 78, criterion, 1, room, 100, &length, &places, &transitions), NESFOAL_REFUSED_KIND);
     expect("branching", nesfoal_branching(plan, 108, criterion, 1, room, 100, &length, &places, &transitions), 0);
     expect("branching, bytes", length, 88);
@@ -203,7 +205,6 @@ static void checks(void)
     expect("accepted", nesfoal_check(plan, 108, cut, 78, one, 2), NESFOAL_ACCEPTED);
     expect("too small for two places", nesfoal_check(plan, 108, cut, 78, both, 4), NESFOAL_RULE + 5);
     expect("an odd count", nesfoal_check(plan, 108, cut, 78, both, 3), NESFOAL_REFUSED_CRITERION);
-    expect("no criterion", nesfoal_check(plan, 108, cut, 78, NULL, 0), NESFOAL_REFUSED_CRITERION);
     expect("no slice", nesfoal_check(plan, 108, NULL, 0, one, 2), NESFOAL_REFUSED_LENGTH);
     expect("verdict", nesfoal_verdict(plan, 108, cut, 78, numbers, 1, &number), 0);
     expect("verdict, number", number, 0);
@@ -330,6 +331,48 @@ static void largest(void)
     expect("the largest, branching, bytes", length, NESFOAL_SLICE_ROOM);
 }
 
+/* For no place both cuts are the empty slice, the smallest that is accepted; rules other than 5 and 6 bind still. */
+static void no_place(void)
+{
+    const uint8_t one[] = {2, 0};
+    const uint16_t list[] = {3, 0, 1, 2};
+    uint8_t room[20], other[78], none[16];
+    uint16_t out[1] = {7};
+    uint64_t marking[1] = {7};
+    uint32_t length = 9, places = 9, transitions = 9, start = 9, number = 9, count = 9;
+    memset(room, 0xAA, sizeof room);
+    expect("for no place", nesfoal_safety(plan, 108, NULL, 0, room, 20, &length, &places, &transitions), 0);
+    expect("for no place, counts", length == 16 && places == 0 && transitions == 0, 1);
+    expect("for no place, the file", memcmp(room, empty, 16), 0);
+    expect("for no place, past the file", room[16], 0xAA);
+    memset(room, 0xAA, sizeof room);
+    expect("for no place, branching", nesfoal_branching(plan, 108, NULL, 0, room, 16, &length, &places, &transitions), 0);
+    expect("for no place, branching, counts", length == 16 && places == 0 && transitions == 0, 1);
+    expect("for no place, branching, the file", memcmp(room, empty, 16), 0);
+    expect("15 bytes lent", nesfoal_safety(plan, 108, NULL, 0, room, 15, &length, &places, &transitions), NESFOAL_REFUSED_BUFFER);
+    expect("15 bytes lent, zeros", length + places + transitions, 0);
+    expect("accepted for no place", nesfoal_check(plan, 108, empty, 16, NULL, 0), NESFOAL_ACCEPTED);
+    expect("verdict for no place", nesfoal_verdict(plan, 108, empty, 16, NULL, 0, &number), NESFOAL_ACCEPTED);
+    expect("one byte", nesfoal_check(plan, 108, empty, 16, one, 1), NESFOAL_REFUSED_CRITERION);
+    expect("not for place 2", nesfoal_check(plan, 108, empty, 16, one, 2), NESFOAL_RULE + 5);
+    memcpy(other, cut, 78);
+    other[0] = 1;
+    expect("rule 3 for no place", nesfoal_verdict(plan, 108, other, 78, NULL, 0, &number), NESFOAL_RULE + 3);
+    memcpy(none, empty, 16);
+    none[10] = 0;
+    expect("an empty plan", nesfoal_check(none, 16, empty, 16, NULL, 0), NESFOAL_REFUSED_COUNTS);
+    expect("an empty plan replayed", nesfoal_replay(none, 16, NULL, 0, marking, 1, &number, &places, &count), NESFOAL_REFUSED_COUNTS);
+    expect("the empty slice is no plan", nesfoal_check(empty, 16, empty, 16, NULL, 0), NESFOAL_REFUSED_KIND);
+    expect("the empty slice replayed", nesfoal_replay(empty, 16, NULL, 0, marking, 1, &number, &places, &count), 0);
+    expect("the empty slice replayed, untouched", (long long)marking[0], 7);
+    expect("the empty slice, a list", nesfoal_replay(empty, 16, list, 1, marking, 1, &number, &places, &count), NESFOAL_REFUSED_TRANSITION);
+    effect_is("the empty slice, effect", empty, 16, 0, 0, NESFOAL_REFUSED_PLACE, 0);
+    expect("the empty slice, arcs", nesfoal_arcs(plan, 108, empty, 16, true, 0, &start), 0);
+    expect("the empty slice, start", start, 0);
+    expect("the empty shadow", nesfoal_project(plan, 108, empty, 16, list, 4, out, 0, &count), 0);
+    expect("the empty shadow, count", count == 0 && out[0] == 7, 1);
+}
+
 /* A pointer whose count is 0 is not used; it may be null. */
 static void nulls(void)
 {
@@ -348,16 +391,19 @@ static void nulls(void)
     expect("null buffer, zeros", a + b + c, 0);
     expect("null buffer, branching", nesfoal_branching(plan, 108, one, 1, NULL, 0, &a, &b, &c), NESFOAL_REFUSED_BUFFER);
     expect("null plan", nesfoal_safety(NULL, 0, NULL, 0, NULL, 0, &a, &b, &c), NESFOAL_REFUSED_LENGTH);
-    expect("null criterion, branching", nesfoal_branching(plan, 108, NULL, 0, room, 100, &a, &b, &c), NESFOAL_REFUSED_CRITERION);
+    expect("null criterion, branching", nesfoal_branching(plan, 108, NULL, 0, room, 100, &a, &b, &c), 0);
+    expect("null criterion, branching, bytes", a, 16);
+    expect("null criterion and buffer", nesfoal_safety(plan, 108, NULL, 0, NULL, 0, &a, &b, &c), NESFOAL_REFUSED_BUFFER);
     expect("null output", nesfoal_project(plan, 108, cut, 78, one, 1, NULL, 0, &a), 0);
     expect("null output, too short", nesfoal_project(plan, 108, cut, 78, twice, 2, NULL, 0, &a), NESFOAL_REFUSED_BUFFER);
     expect("null plan, project", nesfoal_project(NULL, 0, NULL, 0, NULL, 0, NULL, 0, &a), NESFOAL_REFUSED_LENGTH);
     expect("null slice, project", nesfoal_project(plan, 108, NULL, 0, NULL, 0, NULL, 0, &a), NESFOAL_REFUSED_LENGTH);
     expect("null plan, check", nesfoal_check(NULL, 0, NULL, 0, NULL, 0), NESFOAL_REFUSED_LENGTH);
-    expect("null criterion, verdict", nesfoal_verdict(plan, 108, cut, 78, NULL, 0, &a), NESFOAL_REFUSED_CRITERION);
+    expect("null criterion, check", nesfoal_check(plan, 108, cut, 78, NULL, 0), NESFOAL_ACCEPTED);
+    expect("null criterion, verdict", nesfoal_verdict(plan, 108, cut, 78, NULL, 0, &a), NESFOAL_ACCEPTED);
     expect("null all, verdict", nesfoal_verdict(NULL, 0, NULL, 0, NULL, 0, &a), NESFOAL_REFUSED_LENGTH);
     /* or point past an end */
-    expect("an empty string past the end", nesfoal_check(plan, 108, cut, 78, cut + 78, 0), NESFOAL_REFUSED_CRITERION);
+    expect("an empty string past the end", nesfoal_check(plan, 108, cut, 78, cut + 78, 0), NESFOAL_ACCEPTED);
     expect("an empty list past the end", nesfoal_replay(plan, 108, one + 1, 0, marking + 5, 0, &a, &b, &c), NESFOAL_REFUSED_BUFFER);
 }
 
@@ -384,6 +430,7 @@ int main(void)
     cuts();
     checks();
     projections();
+    no_place();
     nulls();
     shared();
     printf("%u passed, %u failed\n", passed, failed);

@@ -1,12 +1,9 @@
-//! The criterion Q: a strictly rising list of places; refusals 9 and 10.
+//! The criterion Q: a strictly rising list of places, which may be empty; refusal 10, and 9 of its bytes.
 
 use crate::net::Refusal;
 
 /// Checks Q against the P of the plan.
 pub fn check(criterion: &[u16], places: usize) -> Result<(), Refusal> {
-    if criterion.is_empty() {
-        return Err(9);
-    }
     if criterion.iter().any(|&p| usize::from(p) >= places) {
         return Err(10);
     }

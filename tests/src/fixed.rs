@@ -46,6 +46,11 @@ pub fn one_place_slice() -> Vec<u8> {
     from_hex("03000000 0000 06000000 0100 0000 0000 01 01 42454C4C")
 }
 
+/// The slice with no places and no transitions: every cut for no place (02, A7).
+pub fn empty_slice() -> Vec<u8> {
+    from_hex("00000000 0000 0000 0000 01 01 42454C4C")
+}
+
 /// The small kerb.
 pub fn small_plan() -> Draft {
     let arc = DraftArc::new;
@@ -147,8 +152,6 @@ pub fn bad_files(slice: bool) -> Vec<(String, Vec<u8>, u32)> {
         ("P 1,025", changed(&good, |d| d.places = 1_025), 4),
         ("T 1,025", changed(&good, |d| d.transitions = 1_025), 4),
         ("A 4,097", changed(&good, |d| d.arc_count = 4_097), 4),
-        ("P and T 0", changed(&good, |d| (d.places, d.transitions) = (0, 0)), 4),
-        ("P and T 0, all right else", changed(&Draft::plan(vec![], 0, vec![]), |d| d.kind = good.kind), 4),
         ("counts before length", changed(&good, |d| (d.places, d.body_length) = (1_025, 0)), 4),
         ("length one more", changed(&good, |d| d.body_length += 1), 5),
         ("length one less", changed(&good, |d| d.body_length -= 1), 5),
@@ -182,8 +185,22 @@ pub fn bad_files(slice: bool) -> Vec<(String, Vec<u8>, u32)> {
         ("arcs swapped by transition", changed(&good, |d| d.arcs.swap(2, 3)), 7),
         ("7 in an arc before 6", changed(&good, |d| (d.arcs[0].place, d.arcs[2].weight) = (2, 0)), 7),
     ];
-    if slice {
+    let nothing = Draft::plan(vec![], 0, vec![]);
+    let noted = changed(&nothing, |d| d.note = vec![1; 5]);
+    let arc = counted(&nothing, |d| (d.kind, d.arcs) = (good.kind, vec![DraftArc::new(0, 0, 0, 1)]));
+    let counts = changed(&good, |d| (d.places, d.transitions) = (0, 0));
+    if !slice {
         files.extend([
+            ("P and T 0", counts, 4),
+            ("P and T 0, all right else", nothing.bytes(), 4),
+            ("P and T 0, a note", noted, 4),
+            ("P and T 0, an arc", arc, 4),
+        ]);
+    } else {
+        files.extend([
+            ("P and T 0 over a body", counts, 5),
+            ("P and T 0, A 4,097", changed(&nothing, |d| (d.kind, d.arc_count) = (1, 4_097)), 4),
+            ("P and T 0, an arc", arc, 6),
             ("T one more", changed(&good, |d| d.transitions = t + 1), 5),
             ("T one less", changed(&good, |d| d.transitions = t - 1), 5),
             ("a plan's length", changed(&good, |d| d.body_length = 4 * u32::from(p) + 8 * u32::from(a)), 5),
@@ -199,8 +216,11 @@ pub fn bad_files(slice: bool) -> Vec<(String, Vec<u8>, u32)> {
 
 /// Files that are refused with 3 where the other kind is due.
 fn other_kind(slice: bool) -> Vec<(String, Vec<u8>, u32)> {
-    let file = if slice { small_plan() } else { small_safety() };
-    vec![("the other kind".into(), file.bytes(), 3)]
+    if slice {
+        vec![("the other kind".into(), small_plan().bytes(), 3)]
+    } else {
+        vec![("the other kind".into(), small_safety().bytes(), 3), ("the empty slice".into(), empty_slice(), 3)]
+    }
 }
 
 fn bad_plans() -> Vec<(String, Vec<u8>, u32)> {
@@ -291,6 +311,7 @@ pub fn effects() -> Vec<Fixed<EffectCase>> {
         ("one place, no transition", one_place_plan(), 12),
         ("one place, no transition, as a slice", one_place_slice(), 12),
         ("16 bytes, one transition and no place", Draft::plan(vec![], 1, vec![]).bytes(), 10),
+        ("the empty slice", empty_slice(), 10),
     ];
     for (name, file, number) in edges {
         list.push(fixed(name, case(&file, 0, 0), number, [0; 3]));
@@ -348,6 +369,9 @@ pub fn arc_runs() -> Vec<Fixed<ArcsCase>> {
     list.push(fixed("parallel arcs in the slice", case(&parallel, &parallel_cut, true, 2), 16, [64, 0, 0]));
     let widest = several(&[65_535; 4_096], &[], 0).bytes();
     list.push(fixed("4,096 parallel arcs", case(&widest, &slice, false, 0), 32_768, [4, 0, 0]));
+    let nothing = empty_slice();
+    list.push(fixed("the empty slice", case(&plan, &nothing, true, 0), 0, [0; 3]));
+    list.push(fixed("beside the empty slice", case(&plan, &nothing, false, 1), 24, [44, 0, 0]));
     let full = full_net().bytes();
     list.push(fixed("last run of the full net", case(&full, &slice, false, 1_023), 32, [4_096 + 32_736, 0, 0]));
     for (name, bad, _) in bad_plans() {
@@ -445,6 +469,10 @@ pub fn replays() -> Vec<Fixed<ReplayCase>> {
     add("no places".into(), &Draft::plan(vec![], 2, vec![]).bytes(), &[0, 1, 1], 0, 0, (0, 0, 0), &[]);
     add("no transitions".into(), &one_place_plan(), &[], 1, 0, (0, 0, 0), &[3]);
     add("no transitions, a list".into(), &one_place_plan(), &[0], 1, 12, (0, 0, 0), &[]);
+    for len in [0, 3] {
+        add(format!("the empty slice, {len} entries lent"), &empty_slice(), &[], len, 0, (0, 0, 0), &[]);
+        add(format!("the empty slice, a list, {len} entries lent"), &empty_slice(), &[0], len, 12, (0, 0, 0), &[]);
+    }
     let two = Draft::plan(vec![0; 3], 1, vec![DraftArc::new(0, 0, 1, 1), DraftArc::new(0, 0, 2, 1)]).bytes();
     add("the lowest place short".into(), &two, &[0], 3, 100, (0, 1, 1), &[0, 0, 0]);
     let parallel = |marking: &[u32]| {
@@ -515,6 +543,13 @@ pub fn cuts(which: Cut) -> Vec<Fixed<CutCase>> {
         }
         Cut::Branching => written("kerb for {2}", &small, &[2], &small_branching().bytes(), 3, 3),
     }
+    // For no place: the empty slice, of every plan.
+    let nothing = empty_slice();
+    written("kerb for no place", &small, &[], &nothing, 0, 0);
+    written("no place, for no place", &Draft::plan(vec![], 1, vec![]).bytes(), &[], &nothing, 0, 0);
+    written("full net for no place", &full_net().bytes(), &[], &nothing, 0, 0);
+    let source = Draft::plan(vec![0], 1, vec![DraftArc::new(0, 1, 0, 1)]);
+    written("a transition without inputs, for no place", &source.bytes(), &[], &nothing, 0, 0);
     // A transition that only reads a place of Q is not kept.
     let reader = Draft::plan(vec![4], 0, vec![]).into_slice(vec![0], vec![]).bytes();
     written("reader", &loop_net(2, 2, 4), &[0], &reader, 1, 0);
@@ -547,8 +582,6 @@ pub fn cuts(which: Cut) -> Vec<Fixed<CutCase>> {
         one.cells = Some(Cells::Bytes(after(len, &[])));
         list.push(one);
     };
-    refused("no criterion".into(), &small, &[], 200, 9);
-    refused("no place, no criterion".into(), &Draft::plan(vec![], 1, vec![]).bytes(), &[], 200, 9);
     refused("no place".into(), &Draft::plan(vec![], 1, vec![]).bytes(), &[0], 200, 10);
     refused("place P".into(), &small, &[5], 200, 10);
     refused("place 65,535 last".into(), &small, &[0, 65_535], 200, 10);
@@ -595,6 +628,10 @@ pub fn projections() -> Vec<Fixed<ProjectCase>> {
     add("list before buffer".into(), &plan, &slice, &[0, 4], 0, 12, &[]);
     add("65,536 entries".into(), &plan, &slice, &[0; 65_536], 65_536, 11, &[]);
     add("65,535 entries".into(), &plan, &slice, &[1; 65_535], 65_535, 0, &[1; 65_535]);
+    let nothing = empty_slice();
+    add("onto the empty slice".into(), &plan, &nothing, &[3, 0, 1, 2], 0, 0, &[]);
+    add("onto the empty slice, 2 lent".into(), &plan, &nothing, &[0; 65_535], 2, 0, &[]);
+    add("onto the empty slice, unknown number".into(), &plan, &nothing, &[4], 0, 12, &[]);
     let beyond = counted(&small_safety(), |d| d.transition_origins = vec![2, 9]);
     add("origins beyond the plan".into(), &plan, &beyond, &[0, 2, 1, 2], 4, 0, &[0, 0]);
     for (name, bad, number) in bad_plans() {
@@ -696,7 +733,23 @@ fn judged() -> Vec<(String, Vec<u8>, Vec<u8>, Vec<u16>, u32, i64)> {
     let all = spare.clone().into_slice(vec![0, 1], vec![0, 1]);
     add("spare place and transition", &spare, all.bytes(), &[0], 0, 0);
 
-    add("no criterion", &plan, slice.bytes(), &[], 9, 0);
+    // For no place: the empty slice is accepted, a larger one too; rules 1 to 4, 7 and 8 bind.
+    add("for no place", &plan, empty_slice(), &[], 0, 0);
+    add("for no place, a note", &plan, [&[1, 2, 3], &empty_slice()[..]].concat(), &[], 0, 0);
+    add("for no place, no place in the plan", &Draft::plan(vec![], 1, vec![]), empty_slice(), &[], 0, 0);
+    add("for no place, the full net", &full_net(), empty_slice(), &[], 0, 0);
+    add("for {2}, the empty slice", &plan, empty_slice(), &[2], 105, 2);
+    add("for no place, the cut for {2}", &plan, slice.bytes(), &[], 0, 0);
+    add("for no place, the whole plan", &plan, whole.bytes(), &[], 0, 0);
+    add("for no place, rule 1", &plan, changed(&slice, |d| d.place_origins[2] = 5), &[], 101, 2);
+    add("for no place, rule 2", &plan, changed(&slice, |d| d.transition_origins[1] = 4), &[], 102, 1);
+    add("for no place, rule 3", &plan, changed(&slice, |d| d.marking[1] = 2), &[], 103, 1);
+    add("for no place, rule 4", &plan, changed(&slice, |d| d.arcs[0].weight = 2), &[], 104, 0);
+    add("for no place, rule 7", &plan, no_input.bytes(), &[], 107, 0);
+    add("for no place, rule 8", &plan, bare.bytes(), &[], 108, 0);
+    let lowered = Draft::plan(vec![2], 0, vec![]).into_slice(vec![0], vec![]);
+    add("for no place, rule 6 is of no place", &plan, lowered.bytes(), &[], 0, 0);
+    add("for place 0, rule 6", &plan, lowered.bytes(), &[0], 106, 0);
     add("criterion 5", &plan, slice.bytes(), &[5], 10, 0);
     add("criterion equal", &plan, slice.bytes(), &[2, 2], 10, 0);
     add("criterion falling", &plan, slice.bytes(), &[2, 1], 10, 0);
@@ -746,6 +799,10 @@ pub fn checks() -> Vec<Fixed<CheckCase>> {
     for (name, q) in odd {
         list.push(fixed(name, case(plan.clone(), slice.clone(), q.to_vec()), 9, [0; 3]));
     }
+    let mut none = case(plan.clone(), empty_slice(), vec![]);
+    none.q.null = true;
+    list.push(fixed("no bytes at null", none, 0, [0; 3]));
+    list.push(fixed("one byte, the empty slice", case(plan.clone(), empty_slice(), vec![0]), 9, [0; 3]));
     list.push(fixed("high byte", case(plan, slice, vec![2, 1]), 10, [0; 3]));
     let mut null = case(vec![], vec![], vec![]);
     (null.plan.null, null.slice.null, null.q.null) = (true, true, true);
@@ -785,6 +842,8 @@ mod tests {
         let files = [
             (one_place_plan(), Kind::Plan),
             (one_place_slice(), Kind::Slice),
+            (empty_slice(), Kind::Slice),
+            ([&[0; 65_520], &empty_slice()[..]].concat(), Kind::Slice),
             (small_plan().bytes(), Kind::Plan),
             (longest.bytes(), Kind::Plan),
             (Draft::plan(vec![], 1, vec![]).bytes(), Kind::Plan),

@@ -33,7 +33,8 @@ pub fn read(file: &[u8], due: Option<Kind>) -> Result<Net, Refusal> {
     if places > MAX_PLACES || transitions > MAX_TRANSITIONS || arc_count > MAX_ARCS {
         return Err(4);
     }
-    if places == 0 && transitions == 0 {
+    // An empty slice is the cut for no place; an empty plan is none.
+    if kind == Kind::Plan && places == 0 && transitions == 0 {
         return Err(4);
     }
     let mut length = 4 * places + 8 * arc_count;

@@ -1,4 +1,4 @@
-//! The criterion: refusals 9 and 10, or 0.
+//! The criterion: refusal 10, or 0.
 
 use super::bytes::get16;
 
@@ -6,7 +6,7 @@ use super::bytes::get16;
 #[inline(always)]
 pub unsafe fn refusal(at: *const u8, count: usize, places: usize) -> u32 {
     if count == 0 {
-        return 9;
+        return 0;
     }
     let mut wrong = get16(at.add(2 * count - 2)) >= places;
     for i in 1..count {

@@ -72,7 +72,8 @@ pub fn trailer(file: &[u8], due: u64) -> Result<Header, u32> {
         let places = (first >> 32 & 0xFFFF) as usize;
         let transitions = (first >> 48) as usize;
         let arcs = (second & 0xFFFF) as usize;
-        if places > PLACES || transitions > TRANSITIONS || arcs > ARCS || places + transitions == 0 {
+        let nothing = places + transitions == 0 && kind == PLAN;
+        if places > PLACES || transitions > TRANSITIONS || arcs > ARCS || nothing {
             return Err(4);
         }
         let origins = if kind == SLICE { 2 * places + 2 * transitions } else { 0 };

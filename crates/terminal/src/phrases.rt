@@ -24,7 +24,7 @@ pub const PLACE_ORIGIN: usize = 27;
 
 pub const TRANSITION_ORIGIN: usize = 28;
 
-pub const NO_CRITERION: usize = 29;
+pub const ODD_CRITERION: usize = 29;
 
 pub const CRITERION_PLACE: usize = 30;
 
@@ -165,7 +165,7 @@ pub fn fill(k: usize, numbers: &[usize]) {
 |below the arc before
 |arc % (transition %, direction %, zero byte %, place %, weight %): |place origin % is %: not above the one before
 |transition origin % is %: not above the one before
-|refused 9: criterion: empty
+|refused 9: criterion: an odd number of bytes
 |refused 10: criterion: entry % is %: no such place; P is %
 |refused 10: criterion: entry % is %: not above the entry before
 |refused 11: list: above 65,535 entries

@@ -70,7 +70,7 @@ fn transition(file: &[u8], list: &[u16]) {
 // What a call refused of a file, which argument i names, and of the list that came with it.
 pub fn one(n: u32, i: usize, file: &[u8], list: &[u16]) {
     match n {
-        9 => say::plain(phrases::NO_CRITERION),
+        9 => say::plain(phrases::ODD_CRITERION),
         10 => place(file, list),
         11 => say::plain(phrases::LONG_LIST),
         12 => transition(file, list),

@@ -55,10 +55,10 @@ fn bad_file(rng: &mut Rng, kind: Option<Kind>) -> Vec<u8> {
 
 /// A good file of either kind.
 fn good_file(rng: &mut Rng) -> Draft {
-    if rng.percent(60) {
-        plan_with_arcs(rng)
-    } else {
-        any_slice(rng)
+    match rng.below(100) {
+        0..=3 => empty_slice(rng),
+        4..=61 => plan_with_arcs(rng),
+        _ => any_slice(rng),
     }
 }
 
@@ -89,7 +89,7 @@ pub fn effect_case(rng: &mut Rng) -> EffectCase {
 
 /// A slice for a plan: honest, against a rule, or any slice file.
 fn some_slice(rng: &mut Rng, plan: &Net) -> Draft {
-    if plan.places() == 0 || rng.percent(20) {
+    if rng.percent(20) {
         return any_slice(rng);
     }
     let q = good_criterion(rng, plan.places());
@@ -156,9 +156,7 @@ pub fn cut_case(rng: &mut Rng, which: Cut) -> CutCase {
         file = bad_file(rng, Some(Kind::Plan));
     }
     let q = match aim {
-        30..=33 => Vec::new(),
         34..=43 => bad_criterion(rng, net.places()),
-        _ if net.places() == 0 => vec![0],
         _ => good_criterion(rng, net.places()),
     };
     let needed = match crate::criterion::check(&q, net.places()) {
@@ -209,9 +207,6 @@ fn check_parts(rng: &mut Rng) -> (Vec<u8>, Vec<u8>, Vec<u16>) {
         draft = rich_plan(rng);
     }
     let net = net_of(&draft);
-    if net.places() == 0 {
-        return (draft.bytes(), any_slice(rng).bytes(), vec![0]);
-    }
     let mut q = good_criterion(rng, net.places());
     let slice_draft = match aim {
         // Rules 1 to 8, the ones that need room in the net more often.
@@ -220,12 +215,14 @@ fn check_parts(rng: &mut Rng) -> (Vec<u8>, Vec<u8>, Vec<u16>) {
             slice_against(rng, &net, &q, rule)
         }
         76..=77 => any_slice(rng),
+        78..=79 => empty_slice(rng),
         _ => honest_slice(rng, &net, &q),
     };
     let (mut plan_file, mut slice_file) = (draft.bytes(), slice_draft.bytes());
     match aim {
         0..=11 => plan_file = bad_file(rng, Some(Kind::Plan)),
         12..=25 => slice_file = bad_file(rng, Some(Kind::Slice)),
+        // Rules 5 and 6 are about Q alone: without them most of these are accepted still.
         26..=28 => q.clear(),
         29..=34 => q = bad_criterion(rng, net.places()),
         35 => {
@@ -262,12 +259,9 @@ pub struct GuaranteeCase {
     pub slice_list: Vec<u16>,
 }
 
-pub fn guarantee_case(rng: &mut Rng) -> Option<GuaranteeCase> {
+pub fn guarantee_case(rng: &mut Rng) -> GuaranteeCase {
     let plan = plan_with_arcs(rng).bytes();
     let net = read(&plan, Some(Kind::Plan)).expect("a good plan");
-    if net.places() == 0 {
-        return None;
-    }
     let q = good_criterion(rng, net.places());
     // Mostly honest; some tampered ones that the checker has to tell apart.
     let draft = if rng.percent(85) {
@@ -280,7 +274,7 @@ pub fn guarantee_case(rng: &mut Rng) -> Option<GuaranteeCase> {
     let most = if rng.below(500) == 0 { 2_000 } else { 30 };
     let plan_list = firing_list(rng, &net, most);
     let slice_list = firing_list(rng, &slice_net, most);
-    Some(GuaranteeCase { plan, slice: draft.bytes(), q, plan_list, slice_list })
+    GuaranteeCase { plan, slice: draft.bytes(), q, plan_list, slice_list }
 }
 
 #[cfg(test)]
@@ -290,7 +284,7 @@ mod tests {
 
     const CASES: u64 = 20_000;
 
-    /// Each of these numbers is the answer of one case in a hundred at least.
+    /// Each of these numbers is the answer of one case in a hundred at least, and no other comes.
     fn share<C: Case>(call: &str, make: impl Fn(&mut Rng) -> C, due: &[u32]) {
         let mut counts = BTreeMap::new();
         for number in 0..CASES {
@@ -301,18 +295,58 @@ mod tests {
             let count = counts.get(number).copied().unwrap_or(0);
             assert!(100 * count >= CASES, "{call}: {number} came {count} times in {CASES}");
         }
+        let other = counts.keys().find(|number| !due.contains(number));
+        assert_eq!(other, None, "{call}: no answer of this call");
     }
 
     #[test]
     fn every_outcome_has_its_share() {
         share("effect", effect_case, &[0, 1, 2, 3, 4, 5, 6, 7, 8, 10, 12]);
         share("replay", replay_case, &[0, 100, 1, 2, 3, 4, 5, 6, 7, 8, 11, 12, 13]);
-        share("safety", |rng| cut_case(rng, Cut::Safety), &[0, 1, 2, 3, 4, 5, 6, 7, 9, 10, 13]);
-        share("branching", |rng| cut_case(rng, Cut::Branching), &[0, 1, 2, 3, 4, 5, 6, 7, 9, 10, 13]);
+        share("safety", |rng| cut_case(rng, Cut::Safety), &[0, 1, 2, 3, 4, 5, 6, 7, 10, 13]);
+        share("branching", |rng| cut_case(rng, Cut::Branching), &[0, 1, 2, 3, 4, 5, 6, 7, 10, 13]);
         share("project", project_case, &[0, 1, 2, 3, 4, 5, 6, 7, 8, 11, 12, 13]);
-        let checker = [0, 1, 2, 3, 4, 5, 6, 7, 8, 9, 10, 101, 102, 103, 104, 105, 106, 107, 108];
-        share("check", check_case, &checker);
+        let mut checker = vec![0, 1, 2, 3, 4, 5, 6, 7, 8, 10, 101, 102, 103, 104, 105, 106, 107, 108];
         share("verdict", verdict_case, &checker);
+        // An odd number of bytes.
+        checker.push(9);
+        share("check", check_case, &checker);
+    }
+
+    /// A file of either kind that is the empty slice, some with a note.
+    fn is_empty(file: &Lent<u8>) -> bool {
+        read(file.part(), Some(Kind::Slice)).is_ok_and(|net| net.places() == 0 && net.transitions() == 0)
+    }
+
+    /// How many of a hundred cases pass the test.
+    fn percent<C>(call: &str, make: impl Fn(&mut Rng) -> C, test: impl Fn(&C) -> bool) -> f64 {
+        let count = (0..CASES).filter(|&number| test(&make(&mut Rng::for_case(7, call, number)))).count();
+        100.0 * count as f64 / CASES as f64
+    }
+
+    /// Empty criteria and empty slices come in some 5 of a hundred cases, in each call that takes them.
+    #[test]
+    fn empty_criteria_and_slices_have_their_share() {
+        let near_5 = |what: &str, share: f64| assert!((3.0..9.0).contains(&share), "{what}: {share}");
+        for which in [Cut::Safety, Cut::Branching] {
+            let make = |rng: &mut Rng| cut_case(rng, which);
+            near_5("cuts", percent("cut", make, |c| c.q.part().is_empty()));
+            let written = percent("cut", make, |c| c.q.part().is_empty() && c.second().number == 0);
+            near_5("16 bytes written", written);
+        }
+        near_5("check, no bytes", percent("check", check_case, |c| c.q.part().is_empty()));
+        near_5("verdict, no place", percent("verdict", verdict_case, |c| c.q.part().is_empty()));
+        near_5("check, empty slice", percent("check", check_case, |c| is_empty(&c.slice)));
+        near_5("project, empty slice", percent("project", project_case, |c| is_empty(&c.slice)));
+        near_5("arcs, empty slice", percent("arcs", arcs_case, |c| is_empty(&c.slice)));
+        near_5("effect, empty slice", percent("effect", effect_case, |c| is_empty(&c.file)));
+        near_5("replay, empty slice", percent("replay", replay_case, |c| is_empty(&c.file)));
+        // With no place asked for, both verdicts come.
+        let for_none = |wanted: fn(u32) -> bool| {
+            percent("verdict", verdict_case, |c| c.q.part().is_empty() && wanted(c.second().number))
+        };
+        assert!(for_none(|n| n == 0) > 1.0, "accepted for no place");
+        assert!(for_none(|n| n > 100) > 1.0, "a rule broken for no place");
     }
 
     #[test]
@@ -360,11 +394,9 @@ mod tests {
             let mut rng = Rng::for_case(4, "honest", number);
             let plan = plan(&mut rng).bytes();
             let net = read(&plan, Some(Kind::Plan)).unwrap();
-            if net.places() > 0 {
-                let q = good_criterion(&mut rng, net.places());
-                let slice = honest_slice(&mut rng, &net, &q).bytes();
-                assert_eq!(crate::check::verdict(&plan, &slice, &q), Ok(crate::check::Verdict::Accepted), "{number}");
-            }
+            let q = good_criterion(&mut rng, net.places());
+            let slice = honest_slice(&mut rng, &net, &q).bytes();
+            assert_eq!(crate::check::verdict(&plan, &slice, &q), Ok(crate::check::Verdict::Accepted), "{number}");
         }
     }
 }

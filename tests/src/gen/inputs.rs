@@ -5,8 +5,11 @@ use crate::net::{Net, MAX_LIST};
 use crate::replay::{fire, initial, short_place};
 use crate::rng::Rng;
 
-/// A good criterion; there is a place at least.
+/// A good criterion, empty where there is no place, and now and then else.
 pub fn good_criterion(rng: &mut Rng, places: usize) -> Vec<u16> {
+    if places == 0 || rng.percent(6) {
+        return Vec::new();
+    }
     match rng.below(10) {
         0..=6 => vec![rng.below(places) as u16],
         7..=8 => {
@@ -29,7 +32,10 @@ pub fn good_criterion(rng: &mut Rng, places: usize) -> Vec<u16> {
 
 /// A criterion with an unknown place, or one that does not rise.
 pub fn bad_criterion(rng: &mut Rng, places: usize) -> Vec<u16> {
-    let mut q = if places == 0 { vec![0] } else { good_criterion(rng, places) };
+    let mut q = good_criterion(rng, places);
+    if q.is_empty() {
+        q.push(0);
+    }
     let at = rng.below(q.len());
     match rng.below(5) {
         0 => q[at] = places as u16,

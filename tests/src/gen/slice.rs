@@ -12,13 +12,24 @@ pub fn net_of(draft: &Draft) -> Net {
     read(&draft.bytes(), None).expect("a good file")
 }
 
-/// Any good slice file, with rising origins that need not fit any plan.
+/// Any good slice file, with rising origins that need not fit any plan; now and then the empty one.
 pub fn any_slice(rng: &mut Rng) -> Draft {
+    if rng.percent(10) {
+        return empty_slice(rng);
+    }
     let draft = plan(rng);
     let places = rising(rng, draft.marking.len());
     let transitions = rising(rng, usize::from(draft.transitions));
     let mut slice = draft.into_slice(places, transitions);
     slice.note.truncate(100);
+    slice
+}
+
+/// The slice with no places and no transitions, some with a note.
+pub fn empty_slice(rng: &mut Rng) -> Draft {
+    let mut slice = Draft::plan(Vec::new(), 0, Vec::new()).into_slice(Vec::new(), Vec::new());
+    let n = rng.below(40).saturating_sub(30);
+    slice.note = rng.bytes(n);
     slice
 }
 
@@ -59,12 +70,7 @@ pub fn honest_sets(rng: &mut Rng, plan: &Net, q: &[u16]) -> Kept {
 
 /// The slice file of sets, as a draft.
 pub fn slice_of(plan: &Net, kept: &Kept) -> Draft {
-    let net = read(&slice_bytes(plan, kept), Some(Kind::Slice));
-    match net {
-        Ok(net) => Draft::of(&net),
-        // Nothing kept: a slice of no plan of ours stands in.
-        Err(_) => Draft::plan(vec![0], 0, Vec::new()).into_slice(vec![0], Vec::new()),
-    }
+    Draft::of(&read(&slice_bytes(plan, kept), Some(Kind::Slice)).expect("a good slice"))
 }
 
 /// An accepted slice, now and then with a note.
@@ -108,7 +114,8 @@ fn leave_out(rng: &mut Rng, plan: &Net, q: &[u16], rule: u32, kept: &mut Kept) {
     let drops = if rng.percent(70) { 1 } else { rng.range(1, 3) };
     for _ in 0..drops {
         match rule {
-            5 => kept.places[usize::from(*rng.pick(q))] = false,
+            5 if !q.is_empty() => kept.places[usize::from(*rng.pick(q))] = false,
+            5 => (),
             6 => {
                 let those: Vec<usize> =
                     kept_transitions(kept).into_iter().filter(|&t| plan.has_effect(t, &in_q, changes)).collect();

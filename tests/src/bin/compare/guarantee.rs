@@ -28,25 +28,20 @@ pub fn compare(settings: &Settings) -> bool {
     println!("compare {NAME}: {} random cases", settings.cases);
     let histogram = on_threads(settings.cases, |number, histogram| {
         let mut rng = Rng::for_case(settings.seed, NAME, number);
-        let outcome = match guarantee_case(&mut rng) {
-            None => "no-places".into(),
-            Some(case) => {
-                let verdict = library_verdict(&case);
-                if verdict == 0 {
-                    accepted.fetch_add(1, Ordering::Relaxed);
-                    let (own, fault) = examine(&case, settings.broken);
-                    if !own {
-                        others.fetch_add(1, Ordering::Relaxed);
-                    }
-                    if let Some(fault) = fault {
-                        let name = format!("seed {} case {number}", settings.seed);
-                        found.difference(NAME, &name, || format!("{}  {fault}", show(&case)));
-                    }
-                }
-                verdict.to_string()
+        let case = guarantee_case(&mut rng);
+        let verdict = library_verdict(&case);
+        if verdict == 0 {
+            accepted.fetch_add(1, Ordering::Relaxed);
+            let (own, fault) = examine(&case, settings.broken);
+            if !own {
+                others.fetch_add(1, Ordering::Relaxed);
             }
-        };
-        *histogram.entry(outcome).or_insert(0) += 1;
+            if let Some(fault) = fault {
+                let name = format!("seed {} case {number}", settings.seed);
+                found.difference(NAME, &name, || format!("{}  {fault}", show(&case)));
+            }
+        }
+        *histogram.entry(verdict.to_string()).or_insert(0) += 1;
     });
     print_histogram(NAME, &histogram);
     let (accepted, others) = (accepted.into_inner(), others.into_inner());

@@ -105,14 +105,14 @@ pub fn all() -> Vec<Verb> {
         },
         Verb {
             name: "safety",
-            outcomes: "written 1 2 3 4 5 6 7 9 10",
+            outcomes: "written 1 2 3 4 5 6 7 10",
             fixed: || each(fixed::cuts(Cut::Safety), of_cut),
             random: |rng| of_cut(&gen::cut_case(rng, Cut::Safety)),
             spoil: another_letter,
         },
         Verb {
             name: "branching",
-            outcomes: "written 1 2 3 4 5 6 7 9 10",
+            outcomes: "written 1 2 3 4 5 6 7 10",
             fixed: || each(fixed::cuts(Cut::Branching), of_cut),
             random: |rng| of_cut(&gen::cut_case(rng, Cut::Branching)),
             spoil: another_letter,
@@ -127,7 +127,7 @@ pub fn all() -> Vec<Verb> {
         },
         Verb {
             name: "check",
-            outcomes: "accepted 1 2 3 4 5 6 7 8 9 10 101 102 103 104 105 106 107 108",
+            outcomes: "accepted 1 2 3 4 5 6 7 8 10 101 102 103 104 105 106 107 108",
             fixed: || each(fixed::verdicts(), of_verdict),
             random: |rng| of_verdict(&gen::verdict_case(rng)),
             // Rule 8 is forgotten.
@@ -160,7 +160,7 @@ fn counted(count: usize, thing: &str) -> String {
 fn refused(number: Refusal, file: &str) -> Due {
     let what = match number {
         1..=8 => file,
-        9 | 10 => "criterion",
+        10 => "criterion",
         _ => "list",
     };
     Due::new(number, format!("refused {number}: {what}: "))
