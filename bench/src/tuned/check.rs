@@ -9,14 +9,14 @@ use super::read::*;
 pub fn check(plan: &[u8], slice: &[u8], q_bytes: &[u8]) -> u32 {
     let odd = q_bytes.len() % 2 == 1;
     // SAFETY: the criterion has as many entries as told.
-    unsafe { judge(plan, slice, q_bytes.as_ptr(), if odd { 0 } else { q_bytes.len() / 2 }, &mut 0) }
+    unsafe { judge(plan, slice, q_bytes.as_ptr(), q_bytes.len() / 2, odd, &mut 0) }
 }
 
 #[inline(always)]
 pub fn verdict(plan: &[u8], slice: &[u8], q: &[u16], number: &mut u32) -> u32 {
     *number = 0;
     // SAFETY: the criterion has as many entries as told.
-    unsafe { judge(plan, slice, q.as_ptr().cast(), q.len(), number) }
+    unsafe { judge(plan, slice, q.as_ptr().cast(), q.len(), false, number) }
 }
 
 /// The plan's places and transitions as the slice has them, as words that change a plan's arc into the slice's by
@@ -54,7 +54,7 @@ fn odd(changed: u64) -> u32 {
 }
 
 #[inline(always)]
-unsafe fn judge(plan: &[u8], slice: &[u8], q: *const u8, q_count: usize, number: &mut u32) -> u32 {
+unsafe fn judge(plan: &[u8], slice: &[u8], q: *const u8, q_count: usize, odd: bool, number: &mut u32) -> u32 {
     let p = match read(plan, PLAN) {
         Ok(h) => h,
         Err(refusal) => return refusal,
@@ -67,7 +67,7 @@ unsafe fn judge(plan: &[u8], slice: &[u8], q: *const u8, q_count: usize, number:
         *number = by as u32;
         100 + rule
     };
-    let refusal = criterion::refusal(q, q_count, p.places);
+    let refusal = if odd { 9 } else { criterion::refusal(q, q_count, p.places) };
     let rise = origins_rise(&s);
     // Origins rise, so the last one decides.
     let places_fit = s.places == 0 || s.place_origin(s.places - 1) < p.places;
