@@ -129,12 +129,9 @@ module _ (plan buffer : List ℕ) (b : Bytes plan) (read : fileRefusal due.Plan 
   abbrev E : EmptyCriterion plan
   E = empty-criterion plan b read
 
-  enough : 16 ≤ length buffer
-  enough = omega arith
-
   wrote : safetyBuffer plan [] buffer ≡ emptySlice
   unfolding emptySlice
-  wrote = E .safety-buffer buffer enough ∙ ap (λ (l : List ℕ). emptySlice ++ l) (past-end buffer 16 (omega arith))
+  wrote = E .safety-buffer buffer (omega (arith, sixteen)) ∙ ap (λ (l : List ℕ). emptySlice ++ l) (past-end buffer 16 (omega arith))
 
   slice-read : fileRefusal due.Slice emptySlice ≡ 0
   slice-read = check-passes plan emptySlice [] (exactly plan emptySlice [] .0 (E .accepted) .0) .0
@@ -142,8 +139,8 @@ module _ (plan buffer : List ℕ) (b : Bytes plan) (read : fileRefusal due.Plan 
   pub cut-for-nothing : CutForNothing plan buffer
   unfolding projectAnswer projectRefusal
   cut-for-nothing = record {
-    same-answer = E .branching-answer (length buffer) enough ∙ sym (E .safety-answer (length buffer) enough);
-    same-bytes = E .branching-buffer buffer enough ∙ sym (E .safety-buffer buffer enough);
+    same-answer = E .branching-answer (length buffer) (omega (arith, sixteen)) ∙ sym (E .safety-answer (length buffer) (omega (arith, sixteen)));
+    same-bytes = E .branching-buffer buffer (omega (arith, sixteen)) ∙ sym (E .safety-buffer buffer (omega (arith, sixteen)));
     accepted = ap (λ (file : List ℕ). checkedBytes plan file []) wrote ∙ E .accepted-bytes;
     projected = λ list ok. ap (λ (file : List ℕ). projectAnswer plan file list 0) wrote ∙ rw (read, slice-read, ok, E .shadow list);
   }

@@ -3,6 +3,7 @@ use Prim.Native.Nat.{ℕ, zero, suc, _≤_}
 use mathlib.Core.Bool.{Bool, false, _&&_, _||_}
 use mathlib.Core.List.{List, [], _∷_, _++_}
 use mathlib.Core.Path.{_≡_, refl, sym, ap, subst⁻¹, _∙_}
+use native.Mathlib.Omega.{arith}
 use lib.ListN.{length, drop}
 use borrow.Author.Tests.{le-ltb}
 use Rattle.net.specs.Numbers.{among, any, selected}
@@ -64,7 +65,7 @@ no-arc (a ∷ l) = no-arc l
 
 nothing-written : (N : Net) → sliceBytes (keeping N [] []) ≡ emptySlice
 unfolding keeping sliceBytes markingsBytes arcsBytes originsBytes sliceBody trailerBytes bytes16 bytes32 emptySlice
-nothing-written N = rw (no-arc (N .arcs))
+nothing-written N = rw (no-arc (N .arcs)) refl
 
 -- the two cuts, and their files
 safety-slice : (plan : List ℕ) → cutOf safety plan [] ≡ keeping (netOf plan) [] []
@@ -118,10 +119,10 @@ module _ (plan : List ℕ) (bytes : Bytes plan) (read : fileRefusal due.Plan pla
   pub empty-criterion : EmptyCriterion plan
   unfolding safetyAnswer safetyBuffer branchingAnswer branchingBuffer project own criterionOf wordsFrom
   empty-criterion = record {
-    safety-answer = answer (safetyFile plan []) (cutOf safety plan []) (safety-file plan) (safety-slice plan);
-    safety-buffer = buffer (safetyFile plan []) (safety-file plan);
-    branching-answer = answer (branchingFile plan []) (cutOf branching plan []) (branching-file plan) (branching-slice plan);
-    branching-buffer = buffer (branchingFile plan []) (branching-file plan);
+    safety-answer = λ room h. answer (safetyFile plan []) (cutOf safety plan []) (safety-file plan) (safety-slice plan) room (omega (arith, h));
+    safety-buffer = λ entry h. buffer (safetyFile plan []) (safety-file plan) entry (omega (arith, h));
+    branching-answer = λ room h. answer (branchingFile plan []) (cutOf branching plan []) (branching-file plan) (branching-slice plan) room (omega (arith, h));
+    branching-buffer = λ entry h. buffer (branchingFile plan []) (branching-file plan) entry (omega (arith, h));
     shadow = λ list. ap (λ (os : List ℕ). own os (strike os list)) no-origin ∙ ap (own []) (none-stays list);
     accepted = own-accepted;
     accepted-bytes = even-bytes plan emptySlice [] refl ∙ own-accepted;
