@@ -1,4 +1,4 @@
--- What people conclude, from the fields of `Demand3`, `WritesSmallest`, `Judges`, `Published` and `Replays`.
+-- What people conclude, from the fields of `Demand3`, `WritesSmallest`, `Judges`, `Published`, `Replays` and `EmptyCriterion`.
 use Prim.Native.Nat.{ℕ, zero, suc, _+_, _≤_}
 use mathlib.Core.List.{List, [], _∷_, _++_}
 use mathlib.Core.Bool.{true}

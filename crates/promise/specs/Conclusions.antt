@@ -1,4 +1,4 @@
--- What people conclude from the check's answer and from the published slices.
+-- What people conclude from the check's answer and from the published slices, and from a cut for no place.
 use Prim.Native.Nat.{ℕ, _+_}
 use mathlib.Core.Bool.{false}
 use mathlib.Core.List.{List, []}
