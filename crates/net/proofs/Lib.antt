@@ -6,9 +6,11 @@ pub mod Subnet
 pub mod Shadow
 pub mod Closure
 pub mod Worklist
+pub mod Contained
 pub mod Theorem
 pub mod Verdict
 pub mod Conclusions
+pub mod Exactness
 pub mod Uncapped
 pub mod Rakow
 pub mod Replay

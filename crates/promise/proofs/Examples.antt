@@ -60,6 +60,7 @@ noted = record {
   no-run = refl;
   tokens-in-plan = refl;
   tokens-in-slice = refl;
+  tokens-in-branching = refl;
 }
 
 pub for-no-place : ForNoPlace

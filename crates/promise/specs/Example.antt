@@ -99,6 +99,8 @@ pub record Noted : Type 0 where
   -- "after 3,0,1 waiting is 0 in the plan; after its projection 0,1 it is 1 in the safety cut for {2}"
   pub tokens-in-plan : planTokens (netOf smallPlan) (3 ∷ 0 ∷ 1 ∷ []) 0 ≡ 0
   pub tokens-in-slice : sliceTokens (sliceOf (safetyFile smallPlan (2 ∷ []))) (0 ∷ 1 ∷ []) 0 ≡ 1
+  -- the branching cut keeps transition 3, and there place 0 has the plan's tokens (document 02, A8)
+  pub tokens-in-branching : sliceTokens (sliceOf (branchingFile smallPlan (2 ∷ []))) (3 ∷ 0 ∷ 1 ∷ []) 0 ≡ 0
 
 -- an empty criterion (document 02, A7)
 pub record ForNoPlace : Type 0 where

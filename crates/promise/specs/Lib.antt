@@ -1,5 +1,6 @@
 pub mod Calls
 pub mod Firing
 pub mod Conclusions
+pub mod Exactness
 pub mod Promise
 pub mod Example
