@@ -4,13 +4,17 @@
 //! A list that fires in the plan fires, struck out, in the slice; tokens on a kept place are then at
 //! least the plan's, and the same on Q. A list that fires in the slice fires in the plan and leaves the
 //! same tokens on every kept place. And every accepted slice has all that our safety cut has.
+//!
+//! Of our branching cut: it is accepted and leaves out nothing that changes a kept place; a list that fires
+//! in the plan leaves the plan's tokens on all its places (`exact`); and every accepted slice that leaves
+//! out nothing that changes a kept place has all that it has (`contained`).
 
 use crate::frame::{on_threads, print_histogram, Found, Settings};
 use crate::library;
 use nesfoal_tests::cases::*;
 use nesfoal_tests::cut::{kept, Cut};
 use nesfoal_tests::gen::{guarantee_case, GuaranteeCase};
-use nesfoal_tests::net::{Kind, Net};
+use nesfoal_tests::net::{changes, Kind, Net};
 use nesfoal_tests::project::strike_out;
 use nesfoal_tests::read::read;
 use nesfoal_tests::replay::{fire_list, Replayed};
@@ -20,83 +24,163 @@ use std::sync::atomic::{AtomicU64, Ordering};
 use std::time::Instant;
 
 const NAME: &str = "guarantee";
+const EXACT: &str = "exact";
+const CONTAINED: &str = "contained";
 
 pub fn compare(settings: &Settings) -> bool {
     let start = Instant::now();
-    let found = Found::default();
-    let (accepted, others) = (AtomicU64::new(0), AtomicU64::new(0));
+    let found = [NAME, EXACT, CONTAINED].map(|name| (name, Found::default()));
+    let [accepted, others, changers, other_changers] = [(); 4].map(|()| AtomicU64::new(0));
     println!("compare {NAME}: {} random cases", settings.cases);
     let histogram = on_threads(settings.cases, |number, histogram| {
         let mut rng = Rng::for_case(settings.seed, NAME, number);
         let case = guarantee_case(&mut rng);
-        let verdict = library_verdict(&case);
+        let verdict = library_verdict(&case, &case.slice);
         if verdict == 0 {
-            accepted.fetch_add(1, Ordering::Relaxed);
-            let (own, fault) = examine(&case, settings.broken);
-            if !own {
-                others.fetch_add(1, Ordering::Relaxed);
+            let seen = Accepted::of(&case);
+            for (count, counts) in [
+                (&accepted, true),
+                (&others, seen.safety != case.slice),
+                (&changers, seen.keeps_changers),
+                (&other_changers, seen.keeps_changers && seen.branching != case.slice),
+            ] {
+                count.fetch_add(u64::from(counts), Ordering::Relaxed);
             }
-            if let Some(fault) = fault {
-                let name = format!("seed {} case {number}", settings.seed);
-                found.difference(NAME, &name, || format!("{}  {fault}", show(&case)));
+            let faults = [Accepted::guaranteed, Accepted::exact, Accepted::contained]
+                .map(|held| held(&seen, settings.broken).err());
+            for ((name, found), fault) in found.iter().zip(faults) {
+                if let Some(fault) = fault {
+                    let at = format!("seed {} case {number}", settings.seed);
+                    found.difference(name, &at, || format!("{}  {fault}", show(&case)));
+                }
             }
         }
         *histogram.entry(verdict.to_string()).or_insert(0) += 1;
     });
     print_histogram(NAME, &histogram);
-    let (accepted, others) = (accepted.into_inner(), others.into_inner());
+    let [accepted, others, changers, other_changers] =
+        [accepted, others, changers, other_changers].map(AtomicU64::into_inner);
     println!("  accepted slices: {accepted}, of which {others} are not our own safety cut");
+    println!(
+        "  {changers} keep all that changes their places, of which {other_changers} are not our own branching cut"
+    );
     let seconds = start.elapsed().as_secs_f64();
-    println!("compare {NAME}: {} cases, {} differences ({seconds:.1} s)", settings.cases, found.count());
-    found.count() == 0
+    for (name, found) in &found {
+        println!("compare {name}: {} cases, {} differences ({seconds:.1} s)", settings.cases, found.count());
+    }
+    found.iter().all(|(_, found)| found.count() == 0)
 }
 
-fn library_verdict(case: &GuaranteeCase) -> u32 {
-    let (plan, slice) = (Lent::plain(case.plan.clone()), Lent::plain(case.slice.clone()));
+fn library_verdict(case: &GuaranteeCase, slice: &[u8]) -> u32 {
+    let (plan, slice) = (Lent::plain(case.plan.clone()), Lent::plain(slice.to_vec()));
     library::verdict(&VerdictCase { plan, slice, q: Lent::plain(case.q.clone()) }).number
 }
 
-/// Whether the slice is our own safety cut, and what of the guarantee fails, if anything.
-fn examine(case: &GuaranteeCase, broken: bool) -> (bool, Option<String>) {
-    let plan = read(&case.plan, Some(Kind::Plan)).expect("the generator's plan");
-    let slice = read(&case.slice, Some(Kind::Slice)).expect("the generator's slice");
-    let cut = our_cut(case, &plan);
-    (cut == case.slice, hold(case, &plan, &slice, &cut, broken).err())
+/// An accepted slice, read, with our two cuts of the plan.
+struct Accepted<'a> {
+    case: &'a GuaranteeCase,
+    plan: Net,
+    slice: Net,
+    keeps_changers: bool,
+    safety: Vec<u8>,
+    branching: Vec<u8>,
 }
 
-fn hold(case: &GuaranteeCase, plan: &Net, slice: &Net, cut: &[u8], broken: bool) -> Result<(), String> {
-    // From the plan to the slice.
-    let in_plan = replay(plan, &case.plan, &case.plan_list)?.ok_or("the plan's list does not fire")?;
-    let struck = strike_out(&slice.transition_origins, &case.plan_list);
-    let in_slice = replay(slice, &case.slice, &struck)?.ok_or("the list struck out does not fire in the slice")?;
-    for (number, &origin) in slice.place_origins.iter().enumerate() {
-        let (there, here) = (in_plan[usize::from(origin)], in_slice[number]);
-        // The error to expect: taking all kept places as equal.
-        let equal_due = case.q.contains(&origin) || broken;
-        if here < there || (equal_due && here != there) {
-            return Err(format!("plan's list: {there} tokens on place {origin}, {here} in the slice"));
+impl Accepted<'_> {
+    fn of(case: &GuaranteeCase) -> Accepted<'_> {
+        let plan = read(&case.plan, Some(Kind::Plan)).expect("the generator's plan");
+        let slice = read(&case.slice, Some(Kind::Slice)).expect("the generator's slice");
+        let keeps_changers = keeps_changers(&plan, &slice);
+        let (safety, branching) = (our_cut(case, &plan, Cut::Safety), our_cut(case, &plan, Cut::Branching));
+        Accepted { case, plan, slice, keeps_changers, safety, branching }
+    }
+
+    /// Fails where the checker's guarantee does.
+    fn guaranteed(&self, broken: bool) -> Result<(), String> {
+        let (case, plan, slice) = (self.case, &self.plan, &self.slice);
+        // From the plan to the slice.
+        for (origin, there, here) in self.shadow(&case.slice)? {
+            // The error to expect: taking all kept places as equal.
+            let equal_due = case.q.contains(&origin) || broken;
+            if here < there || (equal_due && here != there) {
+                return Err(format!("plan's list: {there} tokens on place {origin}, {here} in the slice"));
+            }
+        }
+
+        // From the slice to the plan.
+        let in_slice = replay(slice, &case.slice, &case.slice_list)?.ok_or("the slice's list does not fire")?;
+        let lifted: Vec<u16> = case.slice_list.iter().map(|&t| slice.transition_origins[usize::from(t)]).collect();
+        let in_plan = replay(plan, &case.plan, &lifted)?.ok_or("the slice's list does not fire in the plan")?;
+        for (number, &origin) in slice.place_origins.iter().enumerate() {
+            let (there, here) = (in_plan[usize::from(origin)], in_slice[number]);
+            if here != there {
+                return Err(format!("slice's list: {there} tokens on place {origin}, {here} in the slice"));
+            }
+        }
+
+        // Our safety cut is the smallest.
+        let cut = read_cut(&self.safety)?;
+        contains(slice, &cut).ok_or("our safety cut has something that the accepted slice has not".into())
+    }
+
+    /// Fails where the tokens on a place of our branching cut are not the plan's.
+    fn exact(&self, broken: bool) -> Result<(), String> {
+        // The error to expect: taking the safety cut for exact.
+        let file = if broken { &self.safety } else { &self.branching };
+        match self.shadow(file)?.into_iter().find(|(_, there, here)| here != there) {
+            Some((origin, there, here)) => Err(format!("{there} tokens on place {origin}, {here} in our cut")),
+            None => Ok(()),
         }
     }
 
-    // From the slice to the plan.
-    let in_slice = replay(slice, &case.slice, &case.slice_list)?.ok_or("the slice's list does not fire")?;
-    let lifted: Vec<u16> = case.slice_list.iter().map(|&t| slice.transition_origins[usize::from(t)]).collect();
-    let in_plan = replay(plan, &case.plan, &lifted)?.ok_or("the slice's list does not fire in the plan")?;
-    for (number, &origin) in slice.place_origins.iter().enumerate() {
-        let (there, here) = (in_plan[usize::from(origin)], in_slice[number]);
-        if here != there {
-            return Err(format!("slice's list: {there} tokens on place {origin}, {here} in the slice"));
+    /// Fails where our branching cut is not the smallest accepted slice that keeps what changes its places.
+    fn contained(&self, broken: bool) -> Result<(), String> {
+        let cut = read_cut(&self.branching)?;
+        if library_verdict(self.case, &self.branching) != 0 {
+            return Err("our branching cut is not accepted".into());
         }
+        if !keeps_changers(&self.plan, &cut) {
+            return Err("our branching cut leaves out what changes a kept place".into());
+        }
+        // The error to expect: asking it of every accepted slice.
+        if !self.keeps_changers && !broken {
+            return Ok(());
+        }
+        contains(&self.slice, &cut).ok_or("our branching cut has something that the accepted slice has not".into())
     }
 
-    // Our safety cut is the smallest.
-    let cut = read(cut, Some(Kind::Slice)).map_err(|n| format!("our cut is refused with {n}"))?;
+    /// The plan's list in the plan and, struck out, in a slice: for each place of the slice its origin, the tokens
+    /// in the plan and those in the slice.
+    fn shadow(&self, file: &[u8]) -> Result<Vec<(u16, u64, u64)>, String> {
+        let list = &self.case.plan_list;
+        let slice = read_cut(file)?;
+        let in_plan = replay(&self.plan, &self.case.plan, list)?.ok_or("the plan's list does not fire")?;
+        let struck = strike_out(&slice.transition_origins, list);
+        let in_slice = replay(&slice, file, &struck)?.ok_or("the list struck out does not fire in the slice")?;
+        let there = slice.place_origins.iter().map(|&origin| (origin, in_plan[usize::from(origin)]));
+        Ok(there.zip(in_slice).map(|((origin, there), here)| (origin, there, here)).collect())
+    }
+}
+
+fn read_cut(file: &[u8]) -> Result<Net, String> {
+    read(file, Some(Kind::Slice)).map_err(|n| format!("the slice is refused with {n}"))
+}
+
+/// Whether every transition that changes a kept place is kept.
+fn keeps_changers(plan: &Net, slice: &Net) -> bool {
+    let mut places = vec![false; plan.places()];
+    slice.place_origins.iter().for_each(|&p| places[usize::from(p)] = true);
+    (0..plan.transitions())
+        .all(|t| slice.transition_origins.contains(&(t as u16)) || !plan.has_effect(t, &places, changes))
+}
+
+/// Some where the slice has all places and transitions of the cut, and at least as many of each.
+fn contains(slice: &Net, cut: &Net) -> Option<()> {
     let within = |some: &[u16], all: &[u16]| some.iter().all(|n| all.contains(n));
-    if !within(&cut.place_origins, &slice.place_origins) || !within(&cut.transition_origins, &slice.transition_origins)
-    {
-        return Err("our safety cut has something that the accepted slice has not".into());
-    }
-    Ok(())
+    let members =
+        within(&cut.place_origins, &slice.place_origins) && within(&cut.transition_origins, &slice.transition_origins);
+    let counts = cut.places() <= slice.places() && cut.transitions() <= slice.transitions();
+    (members && counts).then_some(())
 }
 
 /// Replays in the second implementation and, where it is on, in the library; the marking if it fires.
@@ -116,19 +200,23 @@ fn replay(net: &Net, file: &[u8], list: &[u16]) -> Result<Option<Vec<u64>>, Stri
     Ok(if answer == Replayed::Fired { Some(marking) } else { None })
 }
 
-/// The file of our safety cut: the library's where it is on.
-fn our_cut(case: &GuaranteeCase, plan: &Net) -> Vec<u8> {
-    let cut = slice_bytes(plan, &kept(plan, Cut::Safety, &case.q));
-    #[cfg(feature = "safety")]
-    {
-        let lent = Lent::plain(vec![0; cut.len()]);
-        let q = Lent::plain(case.q.clone());
-        let case = CutCase { which: Cut::Safety, plan: Lent::plain(case.plan.clone()), q, slice: lent };
-        if let Cells::Bytes(bytes) = library::safety(&case).cells {
-            return bytes;
-        }
+/// The file of one of our cuts: the library's where it is on.
+fn our_cut(case: &GuaranteeCase, plan: &Net, which: Cut) -> Vec<u8> {
+    let cut = slice_bytes(plan, &kept(plan, which, &case.q));
+    let (lent, q) = (Lent::plain(vec![0; cut.len()]), Lent::plain(case.q.clone()));
+    let case = CutCase { which, plan: Lent::plain(case.plan.clone()), q, slice: lent };
+    let answer: Option<Answer> = match case.which {
+        #[cfg(feature = "safety")]
+        Cut::Safety => Some(library::safety(&case)),
+        #[cfg(feature = "branching")]
+        Cut::Branching => Some(library::branching(&case)),
+        #[allow(unreachable_patterns)]
+        _ => None,
+    };
+    match answer.map(|answer| answer.cells) {
+        Some(Cells::Bytes(bytes)) => bytes,
+        _ => cut,
     }
-    cut
 }
 
 fn show(case: &GuaranteeCase) -> String {
