@@ -75,4 +75,3 @@ module _ (P : ℕ) (s : List ℕ) where
   pub even : length s % 2 ≡ 0 → criterionBytesRefusal P s ≡ placesRefusal P 0 (wordsFrom s 0 (length s / 2))
   unfolding criterionBytesRefusal criterionRefusal criterionOf
   even e = rw (eq-eqb (length s % 2) 0 e)
-

@@ -40,13 +40,23 @@ add-result-2 : tie.Need-add-result-2
 add-result-2 c = search needs
 
 returns-3 : tie.Need-returns-3
-returns-3 c = let s = c .before .before .before .before .before .before .before .before .before .before .before in step-same _ _ _ _ _ _ _ _ (s .pre .0) (s .pre .1) _ (c .before .before .before .before .before .before .before .arc .ensures .0) _ (c .before .before .before .before .before .before .entry .ensures .0) (c .before .before .before .before .before .if1 .left) (c .before .before .before .before .if2 .left) _ (c .before .before .arc2 .ensures .0) _ (c .before .same .ensures) (c .if3 .taken)
+returns-3 c =
+    let kept = c .before .before .before .before in
+    let read = kept .before .before .before in
+    let start = read .before .before .before .before in
+    step-same _ _ _ _ _ _ _ _ (start .pre .0) (start .pre .1) _ (read .arc .ensures .0) _ (kept .before .before .entry .ensures .0) (kept .before .if1 .left) (kept .if2 .left)
+    _ (c .before .before .arc2 .ensures .0) _ (c .before .same .ensures) (c .if3 .taken)
 
 add-result-3 : tie.Need-add-result-3
 add-result-3 c = search needs
 
 returns-4 : tie.Need-returns-4
-returns-4 c = let s = c .before .before .before .before .before .before .before .before .before .before .before in step-other _ _ _ _ _ _ _ _ (s .pre .0) (s .pre .1) _ (c .before .before .before .before .before .before .before .arc .ensures .0) _ (c .before .before .before .before .before .before .entry .ensures .0) (c .before .before .before .before .before .if1 .left) (c .before .before .before .before .if2 .left) _ (c .before .before .arc2 .ensures .0) _ (c .before .same .ensures) (c .if3 .left)
+returns-4 c =
+    let kept = c .before .before .before .before in
+    let read = kept .before .before .before in
+    let start = read .before .before .before .before in
+    step-other _ _ _ _ _ _ _ _ (start .pre .0) (start .pre .1) _ (read .arc .ensures .0) _ (kept .before .before .entry .ensures .0) (kept .before .if1 .left) (kept .if2 .left)
+    _ (c .before .before .arc2 .ensures .0) _ (c .before .same .ensures) (c .if3 .left)
 
 pub step-spec : {M : Type 1} → statement M
 step-spec =
