@@ -1,26 +1,19 @@
 // Which number of a criterion breaks refusal 10, and which of a list of transitions 12.
 ghost use mathlib.Core.Path.{_≡_};
 ghost use mathlib.Core.Bool.{_||_};
-ghost use Prim.Native.Nat.{_≤_};
 ghost use lib.Dec.{leb, ltb};
 ghost use lib.ListN.{length, getD};
 ghost use Rattle.blame.specs.Head.{heading};
 ghost use Rattle.blame.specs.Numbers.{placesPassed, listPassed, placesOf, transitionsOf, badPlace, badTransition};
 use crate::head::head;
 use file::Reading;
+use tables::wide;
 
 // A number of a list by its index, and the file's count that it is held against.
 pub struct BadNumber {
     pub index: usize,
     pub number: usize,
     pub limit: usize,
-}
-
-// A number of 16 bits as a wider one.
-fn wide(x: u16) -> usize
-    ensures { λ r. ⌜ (r ≡ x) × (r ≤ 65535) ⌝ }
-{
-    x as usize
 }
 
 // Entry i of a list, 0 past its end.
