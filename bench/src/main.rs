@@ -14,14 +14,16 @@ use std::process::ExitCode;
 use time::Effort;
 
 const USAGE: &str = "\
-usage: nesfoal-bench [--quick] [table] [growth] [stack]
+usage: nesfoal-bench [--quick] [table] [checks] [growth] [stack]
        nesfoal-bench --check [CASES]
        nesfoal-bench --repeat ours|tuned CALL NET TIMES
 
-table, growth, stack   what to measure; all three if none is named
+table, checks, growth, stack   what to measure; all four if none is named
 --quick                shorter and rougher
 --check                holds the tuned program to the second implementation, on so many cases of each call
---repeat               does one call so often, for a profiler; NET is the first word of its name in the table, or two";
+--repeat               does one call so often, for a profiler; NET is how its name in a table starts";
+
+const PARTS: [&str; 4] = ["table", "checks", "growth", "stack"];
 
 fn main() -> ExitCode {
     let arguments: Vec<String> = std::env::args().skip(1).collect();
@@ -43,9 +45,9 @@ fn main() -> ExitCode {
         words.remove(0);
     }
     if words.is_empty() {
-        words = vec!["table", "growth", "stack"];
+        words = PARTS.to_vec();
     }
-    if words.iter().any(|w| !["table", "growth", "stack"].contains(w)) {
+    if words.iter().any(|w| !PARTS.contains(w)) {
         return usage();
     }
     println!("Each call is run on the same input in the same process, in turns: ours, tuned, ours, tuned ..");
@@ -54,6 +56,7 @@ fn main() -> ExitCode {
         println!();
         match word {
             "table" => table::print(effort),
+            "checks" => table::checks(effort),
             "growth" => growth::print(effort),
             _ => stack::print(),
         }
@@ -70,7 +73,8 @@ fn repeat(words: &[&str]) -> Option<ExitCode> {
         _ => return None,
     };
     let call = calls::CALLS.into_iter().find(|c| c.name() == *call)?;
-    let input = nets::eight().into_iter().find(|input| input.name.starts_with(net))?;
+    let named = |inputs: Vec<nets::Input>| inputs.into_iter().find(|input| input.name.starts_with(net));
+    let input = named(nets::checks()).or_else(|| named(nets::eight()))?;
     let times: u64 = times.parse().ok()?;
     let mut job = calls::Job::new(program, call, &input)?;
     let mut side = job.side();

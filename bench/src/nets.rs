@@ -1,6 +1,6 @@
 //! The nets that are timed, each with a criterion, its safety cut and a list that fires.
 
-use nesfoal_tests::cut::{kept, Cut};
+use nesfoal_tests::cut::{kept, Cut, Kept};
 use nesfoal_tests::gen::{to_bytes, Draft, DraftArc};
 use nesfoal_tests::net::{Kind, Net, MAX_LIST};
 use nesfoal_tests::read::read;
@@ -16,6 +16,8 @@ pub struct Input {
     pub q_bytes: Vec<u8>,
     /// The safety cut of the plan for the criterion.
     pub slice: Vec<u8>,
+    /// What the check answers.
+    pub checked: u32,
     /// Firings of the plan that all fire.
     pub list: Vec<u16>,
     /// An arc's place and transition.
@@ -33,6 +35,10 @@ impl Input {
         let large = |q: &u16| 2 * kept(&net, Cut::Safety, &[*q]).place_count() >= net.places();
         let q = vec![q.or_else(|| (0..net.places() as u16).find(large)).expect("a large cut")];
         let slice = slice_bytes(&net, &kept(&net, Cut::Safety, &q));
+        Input::with(name, net, plan, q, slice, firings)
+    }
+
+    fn with(name: &str, net: Net, plan: Vec<u8>, q: Vec<u16>, slice: Vec<u8>, firings: usize) -> Input {
         let slice_net = read(&slice, Some(Kind::Slice)).expect("a good slice");
         let counts = [&net, &slice_net].map(|n| [n.places(), n.transitions(), n.arcs.len()]);
         let middle = net.arcs[net.arcs.len() / 2];
@@ -43,6 +49,7 @@ impl Input {
             q_bytes: to_bytes(&q),
             q,
             slice,
+            checked: 0,
             list,
             place: middle.place,
             transition: middle.transition,
@@ -97,6 +104,46 @@ pub fn many(kind: fn(usize, u64) -> Input, size: usize) -> Vec<Input> {
     let mut many: Vec<Input> = (11..27).map(|seed| kind(size, seed)).collect();
     many[0].name = format!("{} {}", many.len(), many[0].name);
     many
+}
+
+/// Checks of plans with 4,096 arcs, by what they answer; nearly all of the arcs are in the slice.
+pub fn checks() -> Vec<Input> {
+    let last = ARCS - 1;
+    let readers = (0..SIZE).filter(|&i| !stays(i)).flat_map(|t| [0, 1].map(|d| DraftArc::new(t, d, 0, 1)));
+    vec![
+        check("accepted", Vec::new(), 0, |_| ()),
+        check("rule 4 broken at the last arc", Vec::new(), 104, |slice| slice.arcs[last].weight ^= 3),
+        check("rule 8 broken at the last transition", vec![DraftArc::new(SIZE - 1, 1, 1, 1)], 108, |_| ()),
+        check("accepted, 64 transitions left out read Q", readers.collect(), 0, |_| ()),
+    ]
+}
+
+const SIZE: usize = 1_024;
+const ARCS: usize = 4_096;
+
+/// Every sixteenth place and transition is left out.
+fn stays(i: usize) -> bool {
+    i % 16 != 15
+}
+
+/// The arcs told, and the others between what stays, at random; the slice for place 0 is changed as told.
+fn check(name: &str, mut arcs: Vec<DraftArc>, checked: u32, change: impl Fn(&mut Draft)) -> Input {
+    let mut rng = Rng::new(11);
+    let kept: Vec<usize> = (0..SIZE).filter(|&i| stays(i)).collect();
+    for (t, d, p) in keys(&mut rng, kept.len(), ARCS - arcs.len()) {
+        arcs.push(DraftArc::new(kept[t], d, kept[p], rng.range(1, 2) as u16));
+    }
+    arcs.sort_by_key(|a| (a.transition, a.direction, a.place));
+    let marking = (0..SIZE).map(|_| rng.range(50, 500) as u32).collect();
+    let plan = Draft::plan(marking, SIZE, arcs).bytes();
+    let net = read(&plan, Some(Kind::Plan)).expect("a good plan");
+    let places: Vec<bool> = (0..SIZE).map(stays).collect();
+    let slice = slice_bytes(&net, &Kept { transitions: places.clone(), places });
+    let mut draft = Draft::of(&read(&slice, Some(Kind::Slice)).expect("a good slice"));
+    change(&mut draft);
+    let mut input = Input::with(name, net, plan, vec![0], draft.bytes(), 0);
+    input.checked = checked;
+    input
 }
 
 /// Paper 01's worked example, with so many tokens waiting and so many firings.
@@ -231,6 +278,17 @@ mod tests {
         let net = published.iter().find(|n| n.name == "rakow-rw-6").unwrap();
         assert_eq!(readers_writers(6).plan, net.plan);
         assert_eq!(readers_writers(22).counts[0], [113, 1_013, 4_050]);
+    }
+
+    #[test]
+    fn checks_answer_as_told() {
+        for input in checks() {
+            let number = nesfoal_tests::check::check_number(&input.plan, &input.slice, &input.q_bytes);
+            assert_eq!(number, input.checked, "{}", input.name);
+            assert_eq!(input.counts[0], [SIZE, SIZE, ARCS]);
+        }
+        let arcs: Vec<usize> = checks().iter().map(|input| input.counts[1][2]).collect();
+        assert_eq!(arcs, [4_096, 4_096, 4_095, 3_968]);
     }
 
     #[test]

@@ -30,9 +30,22 @@ pub fn print(effort: Effort) {
             // The refilled net is there for its long list alone.
             let extra = input.name == "small, refilled";
             if !extra || call.only_reads() || matches!(call, Call::Replay | Call::Project) {
-                println!("{}", line(call, inputs, effort));
+                println!("{}", line(call.name(), call, inputs, effort));
             }
         }
+    }
+}
+
+/// Checks of plans with 4,096 arcs.
+pub fn checks(effort: Effort) {
+    println!("Checks of 1,024 places, 1,024 transitions and 4,096 arcs, in microseconds: every sixteenth place and");
+    println!("transition is left out. To reading: to merely reading the two files.");
+    println!();
+    println!("| answer | ours | tuned | ours : tuned | ours to our reading | to tuned reading | tuned to tuned reading |");
+    println!("|---|---|---|---|---|---|---|");
+    for input in nets::checks() {
+        let name = input.name.clone();
+        println!("{}", line(&name, Call::Check, &[input], effort));
     }
 }
 
@@ -46,6 +59,7 @@ pub fn agree(call: Call, input: &Input) {
     let due = match call {
         Call::ReadPlan | Call::ReadSlice => number == 10,
         Call::Arcs => number > 0,
+        Call::Check | Call::Verdict => number == input.checked,
         _ => number == 0,
     };
     assert!(due, "{}, {}: {number}", input.name, call.name());
@@ -66,7 +80,7 @@ impl<'a> Reading<'a> {
     }
 }
 
-fn line(call: Call, inputs: &[Input], effort: Effort) -> String {
+fn line(name: &str, call: Call, inputs: &[Input], effort: Effort) -> String {
     inputs.iter().for_each(|input| agree(call, input));
     let mut jobs = [&LIBRARY, &TUNED].map(|program| Jobs::new(program, call, inputs));
     let mut readings = [&LIBRARY, &TUNED].map(|program| Reading::new(program, call, inputs));
@@ -102,8 +116,7 @@ fn line(call: Call, inputs: &[Input], effort: Effort) -> String {
         _ => "-".into(),
     };
     format!(
-        "| {} | {} | {} | {compared} | {} | {} | {} |",
-        call.name(),
+        "| {name} | {} | {} | {compared} | {} | {} | {} |",
         time(ours),
         time(tuned),
         ratio(ours, our_reading),
