@@ -5,7 +5,7 @@ use mathlib.Core.Path.{_≡_}
 use mathlib.Core.List.{List, [], _∷_, map}
 use lib.ListN.{length}
 use lib.Dec.{eqb, ltb, leb}
-use Rattle.file.specs.Word.{byteAt, le32}
+use Rattle.file.specs.Word.{byteAt, le64}
 use Rattle.file.specs.Layout.{headerOf, inSlice, arcAt, netFrom, sliceFrom}
 use Rattle.file.specs.Refusal.{key, kindWrong, fileRefusal}
 use Rattle.net.specs.declared.Arc.{Arc}
@@ -49,7 +49,7 @@ arcOf w =
 
 -- w is the 8 bytes at `at`
 pub record ArcWord (s : List ℕ) (at w : ℕ) : Type 0 where
-  pub sum : w ≡ le32 s at + 4294967296 * le32 s (at + 4)
+  pub sum : w ≡ le64 s at
   pub arc : arcOf w ≡ arcAt s at
   pub middle : w / 65536 % 65536 ≡ byteAt s (at + 2) + 256 * byteAt s (at + 3)
 
@@ -83,6 +83,7 @@ RisingFrom least (x ∷ rest) = (least ≤ x) × RisingFrom (x + 1) rest
 pub record Sound (s : List ℕ) (h : Header) : Type 0 where
   pub placed : Placed (length s) h
   pub arcs : InRange (h .places) (h .transitions) (netFrom s h .arcs)
+  pub zeros : (i : ℕ) → i < h .arcs → byteAt s (h .arcstart + 8 * i + 3) ≡ 0
   pub order : OrderedFrom 0 (map key (netFrom s h .arcs))
   pub placeOrigins : h .kind ≡ 1 → RisingFrom 0 (sliceFrom s h .placeOrigins)
   pub transitionOrigins : h .kind ≡ 1 → RisingFrom 0 (sliceFrom s h .transitionOrigins)

@@ -60,8 +60,10 @@ module _ (plan : List ℕ) (hp : Header) (table slice : List ℕ) (hs : Header) 
           record {
             fit = omega (arith, r .fit);
             reached = r .reached i b;
+            zero = m .planned .zeros i (omega (arith, entry-most plan hp table (m .planned) (m .starts) (2 * t + 2) (omega arith)));
             held = ap (λ (u : ℕ). among u (sliceFrom slice hs .transitionOrigins)) own-t ∙ is-held;
             number = ap (λ (u : ℕ). position u (sliceFrom slice hs .transitionOrigins)) own-t ∙ (let z : position t (sliceFrom slice hs .transitionOrigins) ≡ own - 1 = omega (arith, is-own) in z);
+            low = omega (arith, own-low, m .sliced .placed .transitions);
           }
 
       slice-run : Against slice hs first upto ownp

@@ -1,22 +1,24 @@
 -- The plan's run of arcs against the slice's, arc by arc.
-use Prim.Native.Nat.{ℕ, _+_, _-_, _*_, _≤_, _<_}
+use Prim.Native.Nat.{ℕ, _+_, _-_, _*_, _/_, _%_, _≤_, _<_}
 use mathlib.Core.Bool.{Bool, true, false, not, _&&_}
 use mathlib.Core.Path.{_≡_, refl, sym, ap, _∙_}
 use mathlib.Core.List.{List, [], _∷_}
 use native.Mathlib.Omega.{arith}
-use lib.Dec.{eqb}
+use lib.Dec.{T, eqb, eqb→eq}
 use lib.ListN.{getD}
 use borrow.Author.Tests.{eq-eqb, ne-eqb}
 use Rattle.net.specs.Numbers.{among, position}
 use Rattle.net.specs.Slice.{renumber, restrict}
 use Rattle.net.specs.Checker.{sameArc, sameArcs}
 use Rattle.net.specs.declared.Arc.{Arc}
-use Rattle.net.proofs.Numbers.{by-order}
+use Rattle.net.proofs.Numbers.{by-order, holds, same-test, and-both, and-left, and-right}
+use Rattle.file.specs.Word.{byteAt}
 use Rattle.file.specs.Layout.{arcAt, arcsFrom, sliceFrom}
+use Rattle.file.specs.Facts.{ArcWord, arcOf}
 use Rattle.file.specs.declared.Header.{Header}
 use Rattle.rules_tables.proofs.Rows.{row-cons, row-end, restrict-in, restrict-out}
 use Rattle.numbering.proofs.Lookup.{left-out, is-kept, own-number}
-use Rattle.rules_arcs.specs.Links.{Against, Step, Walk, numbered, arcsLeft, kept}
+use Rattle.rules_arcs.specs.Links.{Against, Step, Walk, numbered, renumbered, arcsLeft, kept}
 
 left-cons : (slice : List ℕ) (hs : Header) (k upto : ℕ) → k < upto → arcsLeft slice hs k upto ≡ arcAt slice (hs .arcstart + 8 * k) ∷ arcsLeft slice hs (k + 1) upto
 left-cons slice hs k upto l = row-cons slice (hs .arcstart) upto k l
@@ -50,33 +52,102 @@ as-numbered : (ps ts : List ℕ) (a : Arc) (t p : ℕ) → position (a .transiti
 unfolding renumber
 as-numbered ps ts a t p e f = ap (λ (t : ℕ). numbered a t p) (sym e) ∙ ap (λ (p : ℕ). numbered a (position (a .transition) ts) p) (sym f)
 
--- x is the plan's arc at `at`, and n what the table has for its place
-module _ (plan : List ℕ) (at : ℕ) (slice : List ℕ) (hs : Header) (k upto : ℕ) (ownp : List ℕ) (own : ℕ) (w : Walk plan at slice hs ownp own) (g : Against slice hs k upto ownp) (x : Arc) (q : x ≡ arcAt plan at) (n : ℕ) (e : n ≡ getD ownp (x .place) 0) where
-  entry-is : n ≡ getD ownp (arcAt plan at .place) 0
-  entry-is = e ∙ ap (λ (a : Arc). getD ownp (a .place) 0) q
+-- ---- one comparison of two words
 
+equal : (m n : ℕ) → m ≡ n → T (eqb m n)
+equal m n e = holds _ (eq-eqb m n e)
+
+-- a word by its four numbers of 16 bits
+module _ (v t m p q : ℕ) (e : v ≡ t + m * 65536 + 4294967296 * p + q * 281474976710656) (tl : t < 65536) (ml : m < 65536) (pl : p < 65536) where
+  first-part : v % 65536 ≡ t
+  first-part = omega arith
+
+  second-part : v / 65536 % 65536 ≡ m
+  second-part = omega arith
+
+  third-part : v / 4294967296 % 65536 ≡ p
+  third-part = omega arith
+
+  fourth-part : v / 281474976710656 ≡ q
+  fourth-part = omega arith
+
+by-parts : (v : ℕ) → v ≡ v % 65536 + v / 65536 % 65536 * 65536 + 4294967296 * (v / 4294967296 % 65536) + v / 281474976710656 * 281474976710656
+by-parts v = omega arith
+
+low-part : (n : ℕ) → n % 65536 < 65536
+low-part n = omega arith
+
+-- the words of two arcs with zero bytes 0: equal exactly where the four fields are
+module _ (plan : List ℕ) (at w : ℕ) (is : ArcWord plan at w) (zero : byteAt plan (at + 3) ≡ 0) (slice : List ℕ) (there v : ℕ) (its : ArcWord slice there v) (own-zero : byteAt slice (there + 3) ≡ 0) (t p : ℕ) (tl : t < 65536) (pl : p < 65536) where
+  middle : w / 65536 % 65536 ≡ arcOf w .direction
+  middle = is .middle ∙ (let e : byteAt plan (at + 2) + 256 * byteAt plan (at + 3) ≡ byteAt plan (at + 2) = omega (arith, zero) in e) ∙ sym (ap (λ (a : Arc). a .direction) (is .arc))
+
+  own-middle : v / 65536 % 65536 ≡ arcOf v .direction
+  own-middle = its .middle ∙ (let e : byteAt slice (there + 2) + 256 * byteAt slice (there + 3) ≡ byteAt slice (there + 2) = omega (arith, own-zero) in e) ∙ sym (ap (λ (a : Arc). a .direction) (its .arc))
+
+  fields : T (eqb v (renumbered w t p)) → T (sameArc (arcOf v) (numbered (arcOf w) t p))
+  unfolding sameArc
+  fields h =
+      let m = w / 65536 % 65536 in
+      let q = w / 281474976710656 in
+      let e = eqb→eq v (renumbered w t p) h in
+      let ml = low-part (w / 65536) in
+      let direction : arcOf v .direction ≡ arcOf w .direction = sym own-middle ∙ second-part v t m p q e tl ml pl ∙ middle in
+      let last = eqb (arcOf v .weight) (arcOf w .weight) in
+      let third = eqb (arcOf v .place) p in
+      let second = eqb (arcOf v .direction) (arcOf w .direction) in
+      and-both (eqb (arcOf v .transition) t) (second && (third && last)) (equal _ _ (first-part v t m p q e tl ml pl))
+      (and-both second (third && last) (equal _ _ direction)
+      (and-both third last (equal _ _ (third-part v t m p q e tl ml pl)) (equal _ _ (fourth-part v t m p q e tl ml pl))))
+
+  word-of : T (sameArc (arcOf v) (numbered (arcOf w) t p)) → T (eqb v (renumbered w t p))
+  unfolding sameArc
+  word-of h =
+      let last = eqb (arcOf v .weight) (arcOf w .weight) in
+      let third = eqb (arcOf v .place) p in
+      let second = eqb (arcOf v .direction) (arcOf w .direction) in
+      let first = eqb (arcOf v .transition) t in
+      let after = and-right first (second && (third && last)) h in
+      let ends = and-right second (third && last) after in
+      let a = eqb→eq (arcOf v .transition) t (and-left first (second && (third && last)) h) in
+      let b : v / 65536 % 65536 ≡ w / 65536 % 65536 = own-middle ∙ eqb→eq (arcOf v .direction) (arcOf w .direction) (and-left second (third && last) after) ∙ sym middle in
+      let d = eqb→eq (arcOf v .place) p (and-left third last ends) in
+      let f = eqb→eq (arcOf v .weight) (arcOf w .weight) (and-right third last ends) in
+      equal v (renumbered w t p) (by-parts v
+      ∙ ap (λ (x : ℕ). x + v / 65536 % 65536 * 65536 + 4294967296 * (v / 4294967296 % 65536) + v / 281474976710656 * 281474976710656) a
+      ∙ ap (λ (x : ℕ). t + x * 65536 + 4294967296 * (v / 4294967296 % 65536) + v / 281474976710656 * 281474976710656) b
+      ∙ ap (λ (x : ℕ). t + w / 65536 % 65536 * 65536 + 4294967296 * x + v / 281474976710656 * 281474976710656) d
+      ∙ ap (λ (x : ℕ). t + w / 65536 % 65536 * 65536 + 4294967296 * p + x * 281474976710656) f)
+
+  pub one-word : eqb v (renumbered w t p) ≡ sameArc (arcAt slice there) (numbered (arcAt plan at) t p)
+  one-word =
+      same-test _ _ fields word-of
+      ∙ ap (λ (b : Arc). sameArc b (numbered (arcOf w) t p)) (its .arc)
+      ∙ ap (λ (a : Arc). sameArc (arcAt slice there) (numbered a t p)) (is .arc)
+
+-- n is what the table has for the place of the plan's arc at `at`
+module _ (plan : List ℕ) (at : ℕ) (slice : List ℕ) (hs : Header) (k upto : ℕ) (ownp : List ℕ) (own : ℕ) (w : Walk plan at slice hs ownp own) (g : Against slice hs k upto ownp) (n : ℕ) (e : n ≡ getD ownp (arcAt plan at .place) 0) where
   pub step-out : n ≡ 0 → Step (arcAt plan at) slice hs k upto k
   step-out z = record {
     least = omega arith;
     differs = λ l rest. absurd (omega (arith, g .rising));
     agrees = λ l rest. ap (sameArcs (arcsLeft slice hs k upto)) (kept-out (sliceFrom slice hs .placeOrigins) (sliceFrom slice hs .transitionOrigins) (arcAt plan at) rest
-        (left-out (sliceFrom slice hs .placeOrigins) ownp (g .places) (arcAt plan at .place) (w .reached) (sym entry-is ∙ z)));
+        (left-out (sliceFrom slice hs .placeOrigins) ownp (g .places) (arcAt plan at .place) (w .reached) (sym e ∙ z)));
   }
 
   module _ (o : n ≡ 0 → ⊥) where
     some : getD ownp (arcAt plan at .place) 0 ≡ 0 → ⊥
-    some z = o (entry-is ∙ z)
+    some z = o (e ∙ z)
 
     next : (rest : List Arc) → kept slice hs (arcAt plan at ∷ rest) ≡ renumber (sliceFrom slice hs .placeOrigins) (sliceFrom slice hs .transitionOrigins) (arcAt plan at) ∷ kept slice hs rest
     next rest =
         kept-in (sliceFrom slice hs .placeOrigins) (sliceFrom slice hs .transitionOrigins) (arcAt plan at) rest
         (is-kept (sliceFrom slice hs .placeOrigins) ownp (g .places) (arcAt plan at .place) (w .reached) some) (w .held)
 
-    renumbered : numbered x own (n - 1) ≡ renumber (sliceFrom slice hs .placeOrigins) (sliceFrom slice hs .transitionOrigins) (arcAt plan at)
-    renumbered =
-        ap (λ (a : Arc). numbered a own (n - 1)) q
-        ∙ as-numbered (sliceFrom slice hs .placeOrigins) (sliceFrom slice hs .transitionOrigins) (arcAt plan at) own (n - 1) (w .number)
-        (omega (arith, entry-is, own-number (sliceFrom slice hs .placeOrigins) ownp (g .places) (arcAt plan at .place) (w .reached) some))
+    is-due : numbered (arcAt plan at) own (n - 1) ≡ renumber (sliceFrom slice hs .placeOrigins) (sliceFrom slice hs .transitionOrigins) (arcAt plan at)
+    is-due =
+        as-numbered (sliceFrom slice hs .placeOrigins) (sliceFrom slice hs .transitionOrigins) (arcAt plan at) own (n - 1) (w .number)
+        (omega (arith, e, own-number (sliceFrom slice hs .placeOrigins) ownp (g .places) (arcAt plan at .place) (w .reached) some))
 
     -- the slice has no arc left
     pub step-end : upto ≤ k → Step (arcAt plan at) slice hs k upto (upto + 1)
@@ -86,12 +157,12 @@ module _ (plan : List ℕ) (at : ℕ) (slice : List ℕ) (hs : Header) (k upto :
       agrees = λ d rest. absurd (omega arith);
     }
 
-    -- or its next arc is b
-    module _ (l : k < upto) (b : Arc) (d : b ≡ arcAt slice (hs .arcstart + 8 * k)) (v : Bool) (s : v ≡ sameArc b (numbered x own (n - 1))) where
+    -- or its next arc is compared
+    module _ (l : k < upto) (v : Bool) (s : v ≡ sameArc (arcAt slice (hs .arcstart + 8 * k)) (numbered (arcAt plan at) own (n - 1))) where
       compared : (rest : List Arc) → sameArcs (arcsLeft slice hs k upto) (kept slice hs (arcAt plan at ∷ rest)) ≡ (v && sameArcs (arcsLeft slice hs (k + 1) upto) (kept slice hs rest))
       compared rest =
           rw (left-cons slice hs k upto l, next rest)
-          (heads _ _ _ _ v (sym (s ∙ ap (λ (b : Arc). sameArc b (numbered x own (n - 1))) d ∙ ap (sameArc (arcAt slice (hs .arcstart + 8 * k))) renumbered)))
+          (heads _ _ _ _ v (sym (s ∙ ap (sameArc (arcAt slice (hs .arcstart + 8 * k))) is-due)))
 
       pub step-same : v ≡ true → Step (arcAt plan at) slice hs k upto (k + 1)
       step-same z = record {

@@ -1,5 +1,5 @@
 -- A kept transition's run of arcs in the plan, walked against its run in the slice.
-use Prim.Native.Nat.{ℕ, _+_, _*_, _-_, _≤_, _<_}
+use Prim.Native.Nat.{ℕ, _+_, _*_, _-_, _/_, _%_, _≤_, _<_}
 use mathlib.Core.Bool.{Bool, true, false}
 use mathlib.Core.Path.{_≡_}
 use mathlib.Core.List.{List, _∷_}
@@ -8,6 +8,7 @@ use Rattle.net.specs.Numbers.{among, position}
 use Rattle.net.specs.Slice.{restrict}
 use Rattle.net.specs.Checker.{sameArcs}
 use Rattle.net.specs.declared.Arc.{Arc}
+use Rattle.file.specs.Word.{byteAt}
 use Rattle.file.specs.Layout.{arcAt, arcsFrom, sliceFrom}
 use Rattle.file.specs.Facts.{Sound}
 use Rattle.file.specs.declared.Header.{Header}
@@ -29,6 +30,10 @@ pub record Unkept (s : List ℕ) (start from to : ℕ) (ownp : List ℕ) (r : Bo
 abbrev pub numbered : Arc → ℕ → ℕ → Arc
 numbered a t p = record { transition = t; direction = a .direction; place = p; weight = a .weight }
 
+-- the same of its 8 bytes as one number: the direction and the zero byte, and the weight, stay
+abbrev pub renumbered : ℕ → ℕ → ℕ → ℕ
+renumbered w t p = t + w / 65536 % 65536 * 65536 + 4294967296 * p + w / 281474976710656 * 281474976710656
+
 -- the slice's arcs from k to `upto`
 abbrev pub arcsLeft : List ℕ → Header → ℕ → ℕ → List Arc
 arcsLeft slice hs k upto = arcsFrom slice (hs .arcstart + 8 * k) (upto - k)
@@ -41,8 +46,10 @@ kept slice hs arcs = restrict (sliceFrom slice hs .placeOrigins) (sliceFrom slic
 pub record Walk (plan : List ℕ) (at : ℕ) (slice : List ℕ) (hs : Header) (ownp : List ℕ) (own : ℕ) : Type 0 where
   pub fit : at + 8 ≤ length plan
   pub reached : arcAt plan at .place < length ownp
+  pub zero : byteAt plan (at + 3) ≡ 0
   pub held : among (arcAt plan at .transition) (sliceFrom slice hs .transitionOrigins) ≡ true
   pub number : position (arcAt plan at .transition) (sliceFrom slice hs .transitionOrigins) ≡ own
+  pub low : own < 65536
 
 -- the slice's arcs from k to `upto` stand in the slice, whose own places are in the table
 pub record Against (slice : List ℕ) (hs : Header) (k upto : ℕ) (ownp : List ℕ) : Type 0 where

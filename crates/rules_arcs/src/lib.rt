@@ -3,12 +3,16 @@ ghost use mathlib.Core.Path.{_≡_};
 ghost use mathlib.Core.Bool.{not};
 ghost use Prim.Native.Nat.{ℕ, _+_, _*_, _-_, _<_, _≤_};
 ghost use lib.ListN.{length};
-ghost use Rattle.net.specs.Checker.{breaks, breaker, rule4, rule7, sameArc, sameArcs};
+ghost use lib.Dec.{eqb};
+ghost use Rattle.net.specs.Checker.{breaks, breaker, rule4, rule7, sameArcs};
 ghost use Rattle.file.specs.Layout.{arcAt, arcsFrom, netFrom, sliceFrom};
 ghost use Rattle.rules_tables.specs.Matched.{Starts, Matched};
-ghost use Rattle.rules_arcs.specs.Links.{Run, Unkept, Walk, Against, Step, numbered, arcsLeft, kept};
+ghost use Rattle.rules_arcs.specs.Links.{Run, Unkept, Walk, Against, Step, renumbered, arcsLeft, kept};
 use file::Header;
-use net::Arc;
+use file::arcs::DIRECTION;
+use file::arcs::PLACE;
+use file::arcs::WEIGHT;
+use file::arcs::word;
 use tables::entry;
 
 // Has an arc from `from` to `to` a place that is not kept?
@@ -73,12 +77,13 @@ pub fn input_missing(
     t
 }
 
-// Is b the arc a with these own numbers?
-fn same(b: Arc, a: Arc, transition: usize, place: usize) -> bool
-    ensures { λ r. ⌜ r ≡ sameArc b (numbered a transition place) ⌝ }
+// Is the slice's word v the plan's word w with these own numbers? One comparison: all eight bytes at once.
+fn same(v: usize, w: usize, transition: usize, place: usize) -> bool
+    requires { ⌜ (transition < 65536) × (place < 65536) ⌝ }
+    ensures { λ r. ⌜ r ≡ eqb v (renumbered w transition place) ⌝ }
 {
-    (b.transition == transition)
-        & ((b.direction == a.direction) & ((b.place == place) & (b.weight == a.weight)))
+    let due = transition + w / DIRECTION % 65536 * DIRECTION + PLACE * place + w / WEIGHT * WEIGHT;
+    v == due
 }
 
 // The plan's arc at `at` against the slice's arcs from k to `upto`: the slice's next arc; `upto` + 1 where they differ.
@@ -96,16 +101,16 @@ fn step(
     requires { ⌜ Against (now slice) hs k upto (now ownp) ⌝ }
     ensures { λ r. ⌜ Step (arcAt (now (plan .entry)) at) (now (slice .entry)) hs k upto r ⌝ }
 {
-    let a = file::arcs::arc(plan, at);
-    let place = entry(ownp, a.place);
+    let w = word(plan, at);
+    let place = entry(ownp, w / PLACE % 65536);
     if place == 0 {
         return k;
     }
     if upto <= k {
         return upto + 1;
     }
-    let b = file::arcs::arc(slice, hs.arcstart + 8 * k);
-    if same(b, a, own, place - 1) {
+    let v = word(slice, hs.arcstart + 8 * k);
+    if same(v, w, own, place - 1) {
         return k + 1;
     }
     upto + 1
