@@ -16,7 +16,7 @@ use Rattle.file.specs.declared.Header.{Header}
 use Rattle.file.proofs.Rows.{length-words}
 use Rattle.check_fast.specs.Entries.{leftPlace, leftTransition, numbered, flagged, marked}
 use Rattle.check_fast.specs.Pass.{Ready, joinedOf, keptOf, oddOf, Fine}
-use Rattle.check_fast.proofs.Sums.{Flags, flags-at, below, few-flags, many-flags, no-spare, even-flags, Alike, own-is}
+use Rattle.check_fast.proofs.Sums.{Flags, flags-at, below, few-flags, many-flags, even-flags, Alike, own-is}
 
 numbered-in : (unit : ℕ) (os : List ℕ) (rest x : ℕ) → among x os ≡ true → numbered unit os rest x ≡ unit * (1024 + position x os - x)
 unfolding numbered
@@ -41,7 +41,7 @@ pub apart : {A : Type 0} {b : Bool} → b ≡ true → b ≡ false → A
 apart e f = absurd (let z : _≡_ {A = ℕ} 0 1 = cc in omega arith)
 
 -- the spare byte
-abbrev spare : ℕ → ℕ
+abbrev pub spare : ℕ → ℕ
 spare w = w / 16777216 % 256
 
 whole : (w : ℕ) → w ≡ arcOf w .transition + 65536 * arcOf w .direction + 16777216 * spare w + 4294967296 * arcOf w .place + 281474976710656 * arcOf w .weight
@@ -182,20 +182,20 @@ module _ {ps ts Q : List ℕ} {w z : ℕ} (dl : arcOf w .direction ≤ 1) where
   due-arc (neither kp kt kq x) k own g like = absurd (omega (arith, few-flags x k .0))
 
   -- an end is left out
-  pub end-out : Ends ps ts Q w z → oddOf z ≡ false → keptOf z ≡ false → (among (arcOf w .place) ps && among (arcOf w .transition) ts) ≡ false
-  end-out (both q ql kp kt x) o k = absurd (omega (arith, many-flags x k (no-spare x o)))
-  end-out (at-place kp kt kq x) o k = rw (kp, kt)
-  end-out (at-asked kp kt kq x) o k = rw (kp, kt)
-  end-out (at-transition kp kt x) o k = rw kp
-  end-out (neither kp kt kq x) o k = rw kp
+  pub end-out : Ends ps ts Q w z → spare w ≡ 0 → keptOf z ≡ false → (among (arcOf w .place) ps && among (arcOf w .transition) ts) ≡ false
+  end-out (both q ql kp kt x) n k = absurd (omega (arith, many-flags x k n))
+  end-out (at-place kp kt kq x) n k = rw (kp, kt)
+  end-out (at-asked kp kt kq x) n k = rw (kp, kt)
+  end-out (at-transition kp kt x) n k = rw kp
+  end-out (neither kp kt kq x) n k = rw kp
 
   -- nothing wants a closer look
-  pub arc-fine : (N : Net) → Ends ps ts Q w z → oddOf z ≡ false → Fine N ps ts Q (arcOf w)
-  arc-fine N (both q ql kp kt x) o = record { fed = λ t d. kp; unchanged = λ t q. apart kt t; unraised = λ t p d. apart kt t }
-  arc-fine N (at-place kp kt kq x) o = record { fed = λ t d. kp; unchanged = λ t q. apart q kq; unraised = λ t p d. absurd (eight (arcOf w .direction) d (even-flags x o)) }
-  arc-fine N (at-asked kp kt kq x) o = absurd (omega (arith, even-flags x o))
-  arc-fine N (at-transition kp kt x) o = record { fed = λ t d. absurd (fifteen (arcOf w .direction) d (even-flags x o)); unchanged = λ t q. apart kt t; unraised = λ t p d. apart kt t }
-  arc-fine N (neither kp kt kq x) o = record { fed = λ t d. apart t kt; unchanged = λ t q. apart q kq; unraised = λ t p d. apart p kp }
+  pub arc-fine : (N : Net) (d : ℕ) → Ends ps ts Q w z → oddOf z ≡ false → Fine N ps ts Q d (arcOf w)
+  arc-fine N d (both q ql kp kt x) o = record { fed = λ g t n. kp; unchanged = λ g t q. apart kt t; unraised = λ g t p n. apart kt t }
+  arc-fine N d (at-place kp kt kq x) o = record { fed = λ g t n. kp; unchanged = λ g t q. apart q kq; unraised = λ g t p n. absurd (eight (arcOf w .direction) n (even-flags x o)) }
+  arc-fine N d (at-asked kp kt kq x) o = absurd (omega (arith, even-flags x o))
+  arc-fine N d (at-transition kp kt x) o = record { fed = λ g t n. absurd (fifteen (arcOf w .direction) n (even-flags x o)); unchanged = λ g t q. apart kt t; unraised = λ g t p n. apart kt t }
+  arc-fine N d (neither kp kt kq x) o = record { fed = λ g t n. apart t kt; unchanged = λ g t q. apart q kq; unraised = λ g t p n. apart p kp }
 
   -- the flags of an arc that the effect decides
   pub raising : Ends ps ts Q w z → z / 65536 % 65536 ≡ 8 → (among (arcOf w .transition) ts ≡ false) × (among (arcOf w .place) Q ≡ false)

@@ -1,22 +1,22 @@
 -- Arcs that are all gone through: the rules 4 to 8 hold.
-use Prim.Native.Nat.{ℕ, zero, suc, _+_, _*_, _<_}
+use Prim.Native.Nat.{ℕ, zero, suc, _+_, _*_, _≤_, _<_}
 use mathlib.Core.Path.{_≡_, refl, sym, ap, _∙_}
 use mathlib.Core.Bool.{Bool, true, false, not, _&&_}
 use mathlib.Core.List.{List}
 use native.Mathlib.Omega.{arith}
 use lib.Dec.{eqb, ltb, ltb→lt, eqb→eq, T-not}
-use borrow.Author.Tests.{eq-eqb}
+use borrow.Author.Tests.{eq-eqb, ltb-true, ltb-false}
 use Rattle.net.specs.Numbers.{among, position, any, selected}
-use Rattle.net.specs.Net.{input, output, weightOn, joins, counted, changes, raises, takesFrom}
-use Rattle.net.specs.Slice.{arcsOf, restrict, sliceRun, planRun}
+use Rattle.net.specs.Net.{Net, input, output, weightOn, joins, counted, changes, raises, takesFrom}
+use Rattle.net.specs.Slice.{Slice, arcsOf, restrict, sliceRun, planRun}
 use Rattle.net.specs.Checker.{breaks, rule4, rule5, rule6, rule7, rule8, lacksInput, sameArcs}
 use Rattle.net.proofs.Numbers.{by-cases, by-order, holds, is-true, is-false, fails, not-not, and-left, and-right, any-finds}
 use Rattle.net.proofs.Weights.{run-restrict}
 use Rattle.net.proofs.Verdict.{same-arcs-refl}
 use Rattle.file.specs.Layout.{arcAt, arcsFrom, netFrom, sliceFrom}
 use Rattle.file.specs.declared.Header.{Header}
-use Rattle.check_fast.specs.Pass.{Fine, Passed}
 use Rattle.rules_tables.specs.Agreed.{Agreed}
+use Rattle.check_fast.specs.Pass.{Fine, Passed}
 
 -- ---- a weight comes from an arc
 
@@ -57,7 +57,7 @@ found d p t s start (suc n) h =
 
 -- ---- the rules
 
-module _ (plan : List ℕ) (hp : Header) (slice : List ℕ) (hs : Header) (Q : List ℕ) (x : Passed plan hp slice hs Q) where
+module _ (plan : List ℕ) (hp : Header) (slice : List ℕ) (hs : Header) (Q : List ℕ) (d : ℕ) (x : Passed plan hp slice hs Q d) where
   fourth : (t : ℕ) → breaks (rule4 (netFrom plan hp) (sliceFrom slice hs)) t ≡ false
   unfolding breaks rule4 sliceRun planRun
   fourth t =
@@ -71,50 +71,50 @@ module _ (plan : List ℕ) (hp : Header) (slice : List ℕ) (hs : Header) (Q : L
       (λ e. rw e)
 
   -- an arc that a weight comes from is fine
-  module _ (d p t : ℕ) (w : 0 < weightOn d p t (arcsFrom plan (hp .arcstart) (hp .arcs))) where
-    where-found : Found plan (hp .arcstart) (hp .arcs) d p t
-    where-found = found d p t plan (hp .arcstart) (hp .arcs) w
+  module _ (e p t : ℕ) (w : 0 < weightOn e p t (arcsFrom plan (hp .arcstart) (hp .arcs))) where
+    where-found : Found plan (hp .arcstart) (hp .arcs) e p t
+    where-found = found e p t plan (hp .arcstart) (hp .arcs) w
 
-    arc-there : Fine (netFrom plan hp) (sliceFrom slice hs .placeOrigins) (sliceFrom slice hs .transitionOrigins) Q (arcAt plan (hp .arcstart + 8 * where-found .index))
+    arc-there : Fine (netFrom plan hp) (sliceFrom slice hs .placeOrigins) (sliceFrom slice hs .transitionOrigins) Q d (arcAt plan (hp .arcstart + 8 * where-found .index))
     arc-there = x .fine (where-found .index) (where-found .inside)
 
-    fed : d ≡ 0 → among t (sliceFrom slice hs .transitionOrigins) ≡ true → among p (sliceFrom slice hs .placeOrigins) ≡ true
-    fed z e =
+    fed : 7 < d → e ≡ 0 → among t (sliceFrom slice hs .transitionOrigins) ≡ true → among p (sliceFrom slice hs .placeOrigins) ≡ true
+    fed g z e =
         ap (λ (q : ℕ). among q (sliceFrom slice hs .placeOrigins)) (sym (where-found .of-place))
-        ∙ arc-there .fed (ap (λ (u : ℕ). among u (sliceFrom slice hs .transitionOrigins)) (where-found .of-transition) ∙ e) (where-found .of-direction ∙ z)
+        ∙ arc-there .fed g (ap (λ (u : ℕ). among u (sliceFrom slice hs .transitionOrigins)) (where-found .of-transition) ∙ e) (where-found .of-direction ∙ z)
 
-    unchanged : among t (sliceFrom slice hs .transitionOrigins) ≡ false → among p Q ≡ true → changes (netFrom plan hp) t p ≡ false
-    unchanged e q =
+    unchanged : 6 < d → among t (sliceFrom slice hs .transitionOrigins) ≡ false → among p Q ≡ true → changes (netFrom plan hp) t p ≡ false
+    unchanged g e q =
         ap (λ (u : ℕ). changes (netFrom plan hp) u p) (sym (where-found .of-transition))
         ∙ ap (changes (netFrom plan hp) _) (sym (where-found .of-place))
-        ∙ arc-there .unchanged (ap (λ (u : ℕ). among u (sliceFrom slice hs .transitionOrigins)) (where-found .of-transition) ∙ e) (ap (λ (u : ℕ). among u Q) (where-found .of-place) ∙ q)
+        ∙ arc-there .unchanged g (ap (λ (u : ℕ). among u (sliceFrom slice hs .transitionOrigins)) (where-found .of-transition) ∙ e) (ap (λ (u : ℕ). among u Q) (where-found .of-place) ∙ q)
 
-    unraised : d ≡ 1 → among t (sliceFrom slice hs .transitionOrigins) ≡ false → among p (sliceFrom slice hs .placeOrigins) ≡ true → raises (netFrom plan hp) t p ≡ false
-    unraised z e q =
+    unraised : 8 < d → e ≡ 1 → among t (sliceFrom slice hs .transitionOrigins) ≡ false → among p (sliceFrom slice hs .placeOrigins) ≡ true → raises (netFrom plan hp) t p ≡ false
+    unraised g z e q =
         ap (λ (u : ℕ). raises (netFrom plan hp) u p) (sym (where-found .of-transition))
         ∙ ap (raises (netFrom plan hp) _) (sym (where-found .of-place))
-        ∙ arc-there .unraised (ap (λ (u : ℕ). among u (sliceFrom slice hs .transitionOrigins)) (where-found .of-transition) ∙ e) (ap (λ (u : ℕ). among u (sliceFrom slice hs .placeOrigins)) (where-found .of-place) ∙ q) (where-found .of-direction ∙ z)
+        ∙ arc-there .unraised g (ap (λ (u : ℕ). among u (sliceFrom slice hs .transitionOrigins)) (where-found .of-transition) ∙ e) (ap (λ (u : ℕ). among u (sliceFrom slice hs .placeOrigins)) (where-found .of-place) ∙ q) (where-found .of-direction ∙ z)
 
-  no-change : (t p : ℕ) → among t (sliceFrom slice hs .transitionOrigins) ≡ false → among p Q ≡ true → changes (netFrom plan hp) t p ≡ false
+  no-change : 6 < d → (t p : ℕ) → among t (sliceFrom slice hs .transitionOrigins) ≡ false → among p Q ≡ true → changes (netFrom plan hp) t p ≡ false
   unfolding changes input output
-  no-change t p e q =
+  no-change g t p e q =
       by-order (weightOn 0 p t (arcsFrom plan (hp .arcstart) (hp .arcs))) (weightOn 1 p t (arcsFrom plan (hp .arcstart) (hp .arcs)))
-      (λ l. unchanged 1 p t (omega arith) e q)
+      (λ l. unchanged 1 p t (omega arith) g e q)
       (λ l. rw (eq-eqb _ _ l))
-      (λ l. unchanged 0 p t (omega arith) e q)
+      (λ l. unchanged 0 p t (omega arith) g e q)
 
-  sixth : (t : ℕ) → breaks (rule6 (netFrom plan hp) (sliceFrom slice hs) Q) t ≡ false
+  sixth : 6 < d → (t : ℕ) → breaks (rule6 (netFrom plan hp) (sliceFrom slice hs) Q) t ≡ false
   unfolding breaks rule6
-  sixth t =
+  sixth g t =
       let ts = sliceFrom slice hs .transitionOrigins in
       is-false _ (λ b.
       let f = any-finds (changes (netFrom plan hp) t) Q (and-left (any (changes (netFrom plan hp) t) Q) (not (among t ts)) b) in
       let out = is-false _ (T-not (among t ts) (and-right (any (changes (netFrom plan hp) t) Q) (not (among t ts)) b)) in
-      fails _ (no-change t (f .0) out (is-true _ (f .1))) (f .2))
+      fails _ (no-change g t (f .0) out (is-true _ (f .1))) (f .2))
 
-  seventh : (t : ℕ) → breaks (rule7 (netFrom plan hp) (sliceFrom slice hs)) t ≡ false
+  seventh : 7 < d → (t : ℕ) → breaks (rule7 (netFrom plan hp) (sliceFrom slice hs)) t ≡ false
   unfolding breaks rule7 lacksInput takesFrom input
-  seventh t =
+  seventh g t =
       let N = netFrom plan hp in
       let ps = sliceFrom slice hs .placeOrigins in
       let ts = sliceFrom slice hs .transitionOrigins in
@@ -123,11 +123,11 @@ module _ (plan : List ℕ) (hp : Header) (slice : List ℕ) (hs : Header) (Q : L
       let kept = is-true _ (and-left (among t ts) (not (not lacks)) b) in
       let f = any-finds (λ p. takesFrom N t p && not (among p ps)) (selected (λ p. true) 0 (hp .places)) (not-not lacks (λ n. T-not (not lacks) (and-right (among t ts) (not (not lacks)) b) n)) in
       let takes = ltb→lt 0 (weightOn 0 (f .0) t (N .arcs)) (and-left (takesFrom N t (f .0)) (not (among (f .0) ps)) (f .2)) in
-      T-not (among (f .0) ps) (and-right (takesFrom N t (f .0)) (not (among (f .0) ps)) (f .2)) (holds _ (fed 0 (f .0) t takes refl kept)))
+      T-not (among (f .0) ps) (and-right (takesFrom N t (f .0)) (not (among (f .0) ps)) (f .2)) (holds _ (fed 0 (f .0) t takes g refl kept)))
 
-  eighth : (t : ℕ) → breaks (rule8 (netFrom plan hp) (sliceFrom slice hs)) t ≡ false
+  eighth : 8 < d → (t : ℕ) → breaks (rule8 (netFrom plan hp) (sliceFrom slice hs)) t ≡ false
   unfolding breaks rule8 raises input output
-  eighth t =
+  eighth g t =
       let N = netFrom plan hp in
       let ps = sliceFrom slice hs .placeOrigins in
       let ts = sliceFrom slice hs .transitionOrigins in
@@ -135,18 +135,36 @@ module _ (plan : List ℕ) (hp : Header) (slice : List ℕ) (hs : Header) (Q : L
       let f = any-finds (raises N t) ps (and-left (any (raises N t) ps) (not (among t ts)) b) in
       let out = is-false _ (T-not (among t ts) (and-right (any (raises N t) ps) (not (among t ts)) b)) in
       let more = ltb→lt (weightOn 0 (f .0) t (N .arcs)) (weightOn 1 (f .0) t (N .arcs)) (f .2) in
-      fails _ (unraised 1 (f .0) t (omega arith) refl out (is-true _ (f .1))) (f .2))
+      fails _ (unraised 1 (f .0) t (omega arith) g refl out (is-true _ (f .1))) (f .2))
 
   module _ (kept : (q : ℕ) → among q Q ≡ true → among q (sliceFrom slice hs .placeOrigins) ≡ true) where
     fifth : (p : ℕ) → breaks (rule5 (netFrom plan hp) (sliceFrom slice hs) Q) p ≡ false
     unfolding breaks rule5
     fifth p = by-cases (among p Q) (λ e. rw (e, kept p e)) (λ e. rw e)
 
-    pub agreed : Agreed (netFrom plan hp) (sliceFrom slice hs) Q
+    agreed : Agreed d (netFrom plan hp) (sliceFrom slice hs) Q
     agreed = record {
-      fourth = record { at = λ n l. fourth n };
-      fifth = record { at = λ n l. fifth n };
-      sixth = record { at = λ n l. sixth n };
-      seventh = record { at = λ n l. seventh n };
-      eighth = record { at = λ n l. eighth n };
+      fourth = λ g. record { at = λ n l. fourth n };
+      fifth = λ g. record { at = λ n l. fifth n };
+      sixth = λ g. record { at = λ n l. sixth g n };
+      seventh = λ g. record { at = λ n l. seventh g n };
+      eighth = λ g. record { at = λ n l. eighth g n };
     }
+
+-- no rule from the fourth on comes before it
+pub nothing-known : (N : Net) (S : Slice) (Q : List ℕ) (d : ℕ) → d ≤ 4 → Agreed d N S Q
+nothing-known N S Q d l = record {
+  fourth = λ g. absurd (omega arith);
+  fifth = λ g. absurd (omega arith);
+  sixth = λ g. absurd (omega arith);
+  seventh = λ g. absurd (omega arith);
+  eighth = λ g. absurd (omega arith);
+}
+
+-- the rules before the one that the pass leaves in doubt
+pub passed-agreed : (plan : List ℕ) (hp : Header) (slice : List ℕ) (hs : Header) (Q : List ℕ) (d : ℕ) → (4 < d → Passed plan hp slice hs Q d)
+    → ((q : ℕ) → among q Q ≡ true → among q (sliceFrom slice hs .placeOrigins) ≡ true) → Agreed d (netFrom plan hp) (sliceFrom slice hs) Q
+passed-agreed plan hp slice hs Q d x kept =
+    by-cases (ltb 4 d)
+    (λ e. agreed plan hp slice hs Q d (x (ltb-true 4 d e)) kept)
+    (λ e. nothing-known _ _ _ d (ltb-false 4 d e))

@@ -15,9 +15,9 @@ use Rattle.net.proofs.Numbers.{holds, is-true, by-or, and-left, and-right}
 use Rattle.file.specs.Layout.{arcAt, netFrom, sliceFrom}
 use Rattle.file.specs.Facts.{ArcWord, arcOf}
 use Rattle.file.specs.declared.Header.{Header}
-use Rattle.check_fast.specs.Pass.{Ready, joinedOf, Settled}
+use Rattle.check_fast.specs.Pass.{Ready, joinedOf, keptOf, Settled}
 use Rattle.check_fast.proofs.Ends.{apart, raising, changing}
-use Rattle.check_fast.proofs.Walking.{good-word, word-ends}
+use Rattle.check_fast.proofs.Walking.{good-word, word-ends, left-out-here}
 
 -- ---- the sign of a difference
 
@@ -64,32 +64,48 @@ module _ (plan : List ℕ) (hp : Header) (slice : List ℕ) (hs : Header) (Q pla
   here : e ≡ effect (netFrom plan hp) (arcOf w .place) (arcOf w .transition)
   here = ef ∙ ap (λ (x : Arc). effect (netFrom plan hp) (x .place) (x .transition)) arc
 
-  there : Settled plan hp slice hs Q (arcOf w) → Settled plan hp slice hs Q (arcAt plan (hp .arcstart + 8 * j))
-  there s = subst (Settled plan hp slice hs Q) (is .arc) s
+  there : Settled plan hp slice hs Q 9 (arcOf w) → Settled plan hp slice hs Q 9 (arcAt plan (hp .arcstart + 8 * j))
+  there s = subst (Settled plan hp slice hs Q 9) (is .arc) s
 
-  pub settled-raise : z / 65536 % 65536 ≡ 8 → leZ e (pos 0) ≡ true → Settled plan hp slice hs Q (arcAt plan (hp .arcstart + 8 * j))
+  pub settled-raise : z / 65536 % 65536 ≡ 8 → leZ e (pos 0) ≡ true → Settled plan hp slice hs Q 9 (arcAt plan (hp .arcstart + 8 * j))
   settled-raise f h =
       let k = raising (good-word plan hp slice hs Q places transitions r j l w is wl .direction) (word-ends plan hp slice hs Q places transitions r j l w is wl z sum) f in
       there (record {
         fine = record {
-          fed = λ t d. apart t (k .0);
-          unchanged = λ t q. apart q (k .1);
-          unraised = λ t p d. unraised (netFrom plan hp) (arcOf w .place) (arcOf w .transition) e here h;
+          fed = λ g t d. apart t (k .0);
+          unchanged = λ g t q. apart q (k .1);
+          unraised = λ g t p d. unraised (netFrom plan hp) (arcOf w .place) (arcOf w .transition) e here h;
         };
         out = out-of (among (arcOf w .place) (sliceFrom slice hs .placeOrigins)) (among (arcOf w .transition) (sliceFrom slice hs .transitionOrigins)) (k .0);
       })
 
-  pub settled-change : 9 ≤ z / 65536 % 65536 → z / 65536 % 65536 ≤ 10 → (leZ e (pos 0) && leZ (pos 0) e) ≡ true → Settled plan hp slice hs Q (arcAt plan (hp .arcstart + 8 * j))
+  pub settled-change : 9 ≤ z / 65536 % 65536 → z / 65536 % 65536 ≤ 10 → (leZ e (pos 0) && leZ (pos 0) e) ≡ true → Settled plan hp slice hs Q 9 (arcAt plan (hp .arcstart + 8 * j))
   settled-change f g h =
       let k = changing (good-word plan hp slice hs Q places transitions r j l w is wl .direction) (word-ends plan hp slice hs Q places transitions r j l w is wl z sum) f g in
       there (record {
         fine = record {
-          fed = λ t d. apart t k;
-          unchanged = λ t q. unchanged (netFrom plan hp) (arcOf w .place) (arcOf w .transition) e here h;
-          unraised = λ t p d. unraised (netFrom plan hp) (arcOf w .place) (arcOf w .transition) e here (is-true _ (and-left (leZ e (pos 0)) (leZ (pos 0) e) (holds _ h)));
+          fed = λ g t d. apart t k;
+          unchanged = λ g t q. unchanged (netFrom plan hp) (arcOf w .place) (arcOf w .transition) e here h;
+          unraised = λ g t p d. unraised (netFrom plan hp) (arcOf w .place) (arcOf w .transition) e here (is-true _ (and-left (leZ e (pos 0)) (leZ (pos 0) e) (holds _ h)));
         };
         out = out-of (among (arcOf w .place) (sliceFrom slice hs .placeOrigins)) (among (arcOf w .transition) (sliceFrom slice hs .transitionOrigins)) k;
       })
+
+-- a rule in doubt where nothing was looked up
+module _ (plan : List ℕ) (hp : Header) (slice : List ℕ) (hs : Header) (Q places transitions : List ℕ) (r : Ready plan hp slice hs Q places transitions) (j : ℕ) (l : j < hp .arcs) (w : ℕ) (is : ArcWord plan (hp .arcstart + 8 * j) w) (wl : w < 18446744073709551616) (z : ℕ) (sum : z ≡ joinedOf w places transitions) where
+  pub eighth-in-doubt : z / 65536 % 65536 ≡ 8 → Settled plan hp slice hs Q 8 (arcAt plan (hp .arcstart + 8 * j))
+  eighth-in-doubt f =
+      let k = raising (good-word plan hp slice hs Q places transitions r j l w is wl .direction) (word-ends plan hp slice hs Q places transitions r j l w is wl z sum) f in
+      subst (Settled plan hp slice hs Q 8) (is .arc) (record {
+        fine = record { fed = λ g t d. apart t (k .0); unchanged = λ g t q. apart q (k .1); unraised = λ g. absurd (omega arith) };
+        out = out-of (among (arcOf w .place) (sliceFrom slice hs .placeOrigins)) (among (arcOf w .transition) (sliceFrom slice hs .transitionOrigins)) (k .0);
+      })
+
+  pub sixth-in-doubt : keptOf z ≡ false → Settled plan hp slice hs Q 6 (arcAt plan (hp .arcstart + 8 * j))
+  sixth-in-doubt e = record {
+    fine = record { fed = λ g. absurd (omega arith); unchanged = λ g. absurd (omega arith); unraised = λ g. absurd (omega arith) };
+    out = left-out-here plan hp slice hs Q places transitions r j l w is wl z sum e;
+  }
 
 -- one of two flags
 pub nine-ten : (f : ℕ) → (eqb f 9 || eqb f 10) ≡ true → (9 ≤ f) × (f ≤ 10)

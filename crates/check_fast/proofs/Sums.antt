@@ -1,12 +1,9 @@
 -- What the sum of an arc and its two entries tells, in numbers.
 use Prim.Native.Nat.{ℕ, _+_, _-_, _*_, _/_, _%_, _≤_, _<_}
 use mathlib.Core.Path.{_≡_, sym, ap, _∙_}
-use mathlib.Core.Bool.{true, false, not}
+use mathlib.Core.Bool.{true, false}
 use native.Mathlib.Omega.{arith}
-use lib.Dec.{eqb}
-use borrow.Author.Tests.{ltb-true, ltb-false, eqb-false, eqb-true}
-use Rattle.net.proofs.Numbers.{by-cases}
-use Rattle.file.proofs.Opening.{or-false}
+use borrow.Author.Tests.{ltb-true, ltb-false, eqb-false}
 use Rattle.check_fast.specs.Pass.{keptOf, oddOf}
 
 -- z has these own numbers, 1024 more each, and these flags beside the spare byte
@@ -38,16 +35,9 @@ module _ {t s p g f z : ℕ} (x : Flags t s p g f z) where
   many-flags e n = let h : 262144 ≤ z % 4294967296 = ltb-false _ _ e in omega (arith, low)
 
   -- nothing wants a closer look
-  pub no-spare : oddOf z ≡ false → s ≡ 0
-  no-spare e =
-      by-cases (eqb (z / 16777216 % 256) 0)
-      (λ q. let h : z / 16777216 % 256 ≡ 0 = eqb-true _ _ q in omega (arith, low))
-      (λ q. absurd (let h = or-false (eqb (z / 524288 % 2) 1) (not (eqb (z / 16777216 % 256) 0)) e .1 in let k = rw q at h in let n : _≡_ {A = ℕ} 0 1 = cc in omega arith))
-
   pub even-flags : oddOf z ≡ false → f / 8 % 2 ≡ 0
   even-flags e =
-      let h = or-false (eqb (z / 524288 % 2) 1) (not (eqb (z / 16777216 % 256) 0)) e .0 in
-      let n : z / 524288 % 2 ≡ 1 → ⊥ = eqb-false _ _ h in
+      let n : z / 524288 % 2 ≡ 1 → ⊥ = eqb-false _ _ e in
       let k : z / 524288 % 2 ≡ 0 = two (z / 524288) n in
       omega (arith, low)
     where

@@ -4,16 +4,18 @@ use mathlib.Core.Path.{_≡_, refl, sym, ap, _∙_, subst}
 use mathlib.Core.Bool.{Bool, true, false, _&&_}
 use mathlib.Core.List.{List, _∷_}
 use native.Mathlib.Omega.{arith}
+use native.Mathlib.Nat.{div-div-eq-div-mul}
 use lib.ListN.{length}
 use lib.Bits.{bitOr, bitXor, or-add-and, xor-add-and, and-le-l, and-le-r, or-zero-r, or-mod, or-shr, xor-mod, xor-shr}
 use lib.Dec.{ltb, eqb, eqb→eq}
 use borrow.Author.Tests.{ltb-true, ltb-false}
 use borrow.Author.Count.{below-more}
 use Rattle.net.specs.Numbers.{among}
-use Rattle.net.specs.Net.{counted}
+use Rattle.net.specs.Net.{Net, counted}
 use Rattle.net.specs.Slice.{renumber, restrict}
 use Rattle.net.specs.declared.Arc.{Arc}
 use Rattle.net.proofs.Numbers.{by-cases, holds, and-left, and-right}
+use Rattle.file.specs.Word.{byteAt}
 use Rattle.file.specs.Layout.{arcAt, arcsFrom, netFrom, sliceFrom}
 use Rattle.file.specs.Facts.{ArcGood, ArcWord, Sound, arcOf}
 use Rattle.file.specs.declared.Header.{Header}
@@ -21,7 +23,7 @@ use Rattle.file.proofs.Rows.{range-at}
 use Rattle.rules_tables.proofs.Rows.{row-cons, row-end, restrict-in, restrict-out, restrict-none}
 use Rattle.check_fast.specs.Pass.{Ready, joinedOf, keptOf, oddOf, quietOf, Fine, Settled, Walked, Passed}
 use Rattle.check_fast.proofs.Sums.{Alike}
-use Rattle.check_fast.proofs.Ends.{Ends, ends, sum-below, ends-kept, due-arc, end-out, arc-fine}
+use Rattle.check_fast.proofs.Ends.{Ends, spare, ends, sum-below, ends-kept, due-arc, end-out, arc-fine}
 
 -- ---- bits
 
@@ -98,8 +100,15 @@ row-whole s start n =
 
 -- ---- the walk
 
+-- fewer rules come before a lower one
+pub fine-less : {N : Net} {ps ts Q : List ℕ} {a : Arc} (d d′ : ℕ) → d′ ≤ d → Fine N ps ts Q d a → Fine N ps ts Q d′ a
+fine-less d d′ l f = record { fed = λ g. f .fed (omega arith); unchanged = λ g. f .unchanged (omega arith); unraised = λ g. f .unraised (omega arith) }
+
+pub settled-less : (plan : List ℕ) (hp : Header) (slice : List ℕ) (hs : Header) (Q : List ℕ) (a : Arc) (d d′ : ℕ) → d′ ≤ d → Settled plan hp slice hs Q d a → Settled plan hp slice hs Q d′ a
+settled-less plan hp slice hs Q a d d′ l s = record { fine = fine-less d d′ l (s .fine); out = s .out }
+
 module _ (plan : List ℕ) (hp : Header) (slice : List ℕ) (hs : Header) (Q : List ℕ) where
-  pub walked-start : Walked plan hp slice hs Q 0 0 0
+  pub walked-start : Walked plan hp slice hs Q 0 0 0 9
   walked-start = record {
     within = omega arith;
     behind = omega arith;
@@ -107,52 +116,63 @@ module _ (plan : List ℕ) (hp : Header) (slice : List ℕ) (hs : Header) (Q : L
     same = λ l d e. sym (row-whole slice (hs .arcstart) (hs .arcs)) ∙ e ∙ ap (restrict (sliceFrom slice hs .placeOrigins) (sliceFrom slice hs .transitionOrigins)) (row-whole plan (hp .arcstart) (hp .arcs));
   }
 
-  module _ (j k differs : ℕ) (x : Walked plan hp slice hs Q j k differs) where
+  module _ (j k differs d : ℕ) (x : Walked plan hp slice hs Q j k differs d) where
     -- all arcs are gone through
-    pub walked-end : hp .arcs ≤ j → k ≡ hs .arcs → quietOf differs ≡ true → Passed plan hp slice hs Q
-    walked-end l e d = record {
-      same = x .same (omega arith) d
+    pub walked-end : hp .arcs ≤ j → k ≡ hs .arcs → quietOf differs ≡ true → Passed plan hp slice hs Q d
+    walked-end l e q = record {
+      same = x .same (omega arith) q
           (row-end slice (hs .arcstart) (hs .arcs) k (omega arith)
           ∙ sym (ap (restrict (sliceFrom slice hs .placeOrigins) (sliceFrom slice hs .transitionOrigins)) (row-end plan (hp .arcstart) (hp .arcs) j l) ∙ restrict-none _ _));
       fine = λ i h. x .fine i (omega (arith, x .within));
     }
 
+    -- more is in doubt
+    pub walked-doubt : (d′ : ℕ) → d′ ≤ d → Walked plan hp slice hs Q j k differs d′
+    walked-doubt d′ l = record { within = x .within; behind = x .behind; fine = λ i h. fine-less d d′ l (x .fine i h); same = x .same }
+
     -- one more, left out
-    pub walked-past : j < hp .arcs → Settled plan hp slice hs Q (arcAt plan (hp .arcstart + 8 * j)) → Walked plan hp slice hs Q (j + 1) k differs
+    pub walked-past : j < hp .arcs → Settled plan hp slice hs Q d (arcAt plan (hp .arcstart + 8 * j)) → Walked plan hp slice hs Q (j + 1) k differs d
     walked-past l s = record {
       within = omega arith;
       behind = omega (arith, x .behind);
       fine = below-more _ _ (x .fine) (s .fine);
-      same = λ m d e. x .same m d (e ∙ sym (ap (restrict (sliceFrom slice hs .placeOrigins) (sliceFrom slice hs .transitionOrigins)) (row-cons plan (hp .arcstart) (hp .arcs) j l) ∙ restrict-out _ _ _ _ (s .out)));
+      same = λ m q e. x .same m q (e ∙ sym (ap (restrict (sliceFrom slice hs .placeOrigins) (sliceFrom slice hs .transitionOrigins)) (row-cons plan (hp .arcstart) (hp .arcs) j l) ∙ restrict-out _ _ _ _ (s .out)));
     }
 
     -- one more, that is due and stands there
-    pub walked-on : j < hp .arcs → k < hs .arcs → Fine (netFrom plan hp) (sliceFrom slice hs .placeOrigins) (sliceFrom slice hs .transitionOrigins) Q (arcAt plan (hp .arcstart + 8 * j))
+    pub walked-on : j < hp .arcs → k < hs .arcs → Fine (netFrom plan hp) (sliceFrom slice hs .placeOrigins) (sliceFrom slice hs .transitionOrigins) Q d (arcAt plan (hp .arcstart + 8 * j))
         → (among (arcAt plan (hp .arcstart + 8 * j) .place) (sliceFrom slice hs .placeOrigins) && among (arcAt plan (hp .arcstart + 8 * j) .transition) (sliceFrom slice hs .transitionOrigins)) ≡ true
         → (differs′ : ℕ) → (quietOf differs′ ≡ true → quietOf differs ≡ true) → (quietOf differs′ ≡ true → arcAt slice (hs .arcstart + 8 * k) ≡ renumber (sliceFrom slice hs .placeOrigins) (sliceFrom slice hs .transitionOrigins) (arcAt plan (hp .arcstart + 8 * j)))
-        → Walked plan hp slice hs Q (j + 1) (k + 1) differs′
+        → Walked plan hp slice hs Q (j + 1) (k + 1) differs′ d
     walked-on l h f b n zero here = record {
       within = omega arith;
       behind = omega (arith, x .behind);
       fine = below-more _ _ (x .fine) f;
-      same = λ m d e. x .same (omega arith) (zero d)
+      same = λ m q e. x .same (omega arith) (zero q)
           (row-cons slice (hs .arcstart) (hs .arcs) k h
-          ∙ ap (λ (a : Arc). a ∷ arcsFrom slice (hs .arcstart + 8 * (k + 1)) (hs .arcs - (k + 1))) (here d)
+          ∙ ap (λ (a : Arc). a ∷ arcsFrom slice (hs .arcstart + 8 * (k + 1)) (hs .arcs - (k + 1))) (here q)
           ∙ ap (λ (m : List Arc). renumber (sliceFrom slice hs .placeOrigins) (sliceFrom slice hs .transitionOrigins) (arcAt plan (hp .arcstart + 8 * j)) ∷ m) e
           ∙ sym (ap (restrict (sliceFrom slice hs .placeOrigins) (sliceFrom slice hs .transitionOrigins)) (row-cons plan (hp .arcstart) (hp .arcs) j l) ∙ restrict-in _ _ _ _ b));
     }
 
     -- one more, where the slice has no arc left
-    walked-over : j < hp .arcs → hs .arcs ≤ k → Fine (netFrom plan hp) (sliceFrom slice hs .placeOrigins) (sliceFrom slice hs .transitionOrigins) Q (arcAt plan (hp .arcstart + 8 * j))
-        → (differs′ : ℕ) → Walked plan hp slice hs Q (j + 1) (k + 1) differs′
+    walked-over : j < hp .arcs → hs .arcs ≤ k → Fine (netFrom plan hp) (sliceFrom slice hs .placeOrigins) (sliceFrom slice hs .transitionOrigins) Q d (arcAt plan (hp .arcstart + 8 * j))
+        → (differs′ : ℕ) → Walked plan hp slice hs Q (j + 1) (k + 1) differs′ d
     walked-over l h f n = record {
       within = omega arith;
       behind = omega (arith, x .behind);
       fine = below-more _ _ (x .fine) f;
-      same = λ m d e. absurd (omega arith);
+      same = λ m q e. absurd (omega arith);
     }
 
 -- ---- one arc of the plan
+
+-- direction and zero byte as one number
+zero-byte : (w b : ℕ) → w / 65536 % 65536 ≡ b → b < 256 → spare w ≡ 0
+zero-byte w b e l = let one : w / 65536 / 256 ≡ w / 16777216 = div-div-eq-div-mul w 65536 256 in low (w / 65536) (w / 16777216) b one e l
+  where
+    low : (a c b : ℕ) → a / 256 ≡ c → a % 65536 ≡ b → b < 256 → c % 256 ≡ 0
+    low a c b e f l = omega arith
 
 -- an arc of the slice has small numbers
 slice-word : (slice : List ℕ) (hs : Header) → Sound slice hs → (k : ℕ) → k < hs .arcs → (own : ℕ) → ArcWord slice (hs .arcstart + 8 * k) own → ArcGood 1024 1024 (arcOf own)
@@ -170,32 +190,44 @@ module _ (plan : List ℕ) (hp : Header) (slice : List ℕ) (hs : Header) (Q pla
   pub joined-fits : (arcOf w .place < length places) × (arcOf w .transition < length transitions) × (joinedOf w places transitions < 18446744073709551616)
   joined-fits = (omega (arith, good-word .place, r .placesReached), omega (arith, good-word .transition, r .transitionsReached), sum-below (good-word .direction) (word-ends _ refl))
 
-  module _ (k differs : ℕ) (x : Walked plan hp slice hs Q j k differs) (z : ℕ) (sum : z ≡ joinedOf w places transitions) (even : oddOf z ≡ false) where
-    fine-here : Fine (netFrom plan hp) (sliceFrom slice hs .placeOrigins) (sliceFrom slice hs .transitionOrigins) Q (arcAt plan (hp .arcstart + 8 * j))
-    fine-here = subst (Fine (netFrom plan hp) (sliceFrom slice hs .placeOrigins) (sliceFrom slice hs .transitionOrigins) Q) (is .arc) (arc-fine (good-word .direction) (netFrom plan hp) (word-ends z sum) even)
+  -- its zero byte
+  pub plain : spare w ≡ 0
+  plain = zero-byte w (byteAt plan (hp .arcstart + 8 * j + 2)) (omega (arith, is .middle, r .planned .zeros j l)) (omega (arith, ap (λ (a : Arc). a .direction) (is .arc), good-word .direction))
 
-    pub walked-next : (own : ℕ) → ArcWord slice (hs .arcstart + 8 * k) own → (n : ℕ) → n ≡ bitOr differs (counted (keptOf z) (bitXor z own)) → (m : ℕ) → m ≡ k + counted (keptOf z) 1 → Walked plan hp slice hs Q (j + 1) m n
+  -- an end is left out
+  pub left-out-here : (z : ℕ) → z ≡ joinedOf w places transitions → keptOf z ≡ false → (among (arcAt plan (hp .arcstart + 8 * j) .place) (sliceFrom slice hs .placeOrigins) && among (arcAt plan (hp .arcstart + 8 * j) .transition) (sliceFrom slice hs .transitionOrigins)) ≡ false
+  left-out-here z sum e = subst (λ (a : Arc). (among (a .place) (sliceFrom slice hs .placeOrigins) && among (a .transition) (sliceFrom slice hs .transitionOrigins)) ≡ false) (is .arc) (end-out (good-word .direction) (word-ends z sum) plain e)
+
+  module _ (k differs d : ℕ) (x : Walked plan hp slice hs Q j k differs d) (z : ℕ) (sum : z ≡ joinedOf w places transitions) (even : (oddOf z && ltb 6 d) ≡ false) where
+    fine-here : Fine (netFrom plan hp) (sliceFrom slice hs .placeOrigins) (sliceFrom slice hs .transitionOrigins) Q d (arcAt plan (hp .arcstart + 8 * j))
+    fine-here =
+        by-cases (oddOf z)
+        (λ o. let low : d ≤ 6 = ltb-false 6 d (sym (ap (λ (b : Bool). b && ltb 6 d) o) ∙ even) in
+        record { fed = λ g. absurd (omega arith); unchanged = λ g. absurd (omega arith); unraised = λ g. absurd (omega arith) })
+        (λ o. subst (Fine (netFrom plan hp) (sliceFrom slice hs .placeOrigins) (sliceFrom slice hs .transitionOrigins) Q d) (is .arc) (arc-fine (good-word .direction) (netFrom plan hp) d (word-ends z sum) o))
+
+    pub walked-next : (own : ℕ) → ArcWord slice (hs .arcstart + 8 * k) own → (n : ℕ) → n ≡ bitOr differs (counted (keptOf z) (bitXor z own)) → (m : ℕ) → m ≡ k + counted (keptOf z) 1 → Walked plan hp slice hs Q (j + 1) m n d
     walked-next own its n en m em = by-cases (keptOf z) kept left
       where
-        left : keptOf z ≡ false → Walked plan hp slice hs Q (j + 1) m n
+        left : keptOf z ≡ false → Walked plan hp slice hs Q (j + 1) m n d
         left e =
             let a : n ≡ differs = en ∙ ap (λ (b : Bool). bitOr differs (counted b (bitXor z own))) e ∙ or-zero-r differs in
             let b : m ≡ k = em ∙ ap (λ (b : Bool). k + counted b 1) e ∙ (let c : k + 0 ≡ k = omega arith in c) in
-            rw (a, b) (walked-past plan hp slice hs Q j k differs x l (record {
+            rw (a, b) (walked-past plan hp slice hs Q j k differs d x l (record {
               fine = fine-here;
-              out = subst (λ (a : Arc). (among (a .place) (sliceFrom slice hs .placeOrigins) && among (a .transition) (sliceFrom slice hs .transitionOrigins)) ≡ false) (is .arc) (end-out (good-word .direction) (word-ends z sum) even e);
+              out = left-out-here z sum e;
             }))
 
-        kept : keptOf z ≡ true → Walked plan hp slice hs Q (j + 1) m n
+        kept : keptOf z ≡ true → Walked plan hp slice hs Q (j + 1) m n d
         kept e =
             let a : n ≡ bitOr differs (bitXor z own) = en ∙ ap (λ (b : Bool). bitOr differs (counted b (bitXor z own))) e in
             let b : m ≡ k + 1 = em ∙ ap (λ (b : Bool). k + counted b 1) e in
-            let calm : quietOf n ≡ true → Quiet (bitOr differs (bitXor z own)) = λ d. subst Quiet a (quiet-is n d) in
+            let calm : quietOf n ≡ true → Quiet (bitOr differs (bitXor z own)) = λ q. subst Quiet a (quiet-is n q) in
             rw b (by-cases (ltb k (hs .arcs))
-            (λ h. walked-on plan hp slice hs Q j k differs x l (ltb-true _ _ h) fine-here
+            (λ h. walked-on plan hp slice hs Q j k differs d x l (ltb-true _ _ h) fine-here
             (subst (λ (a : Arc). (among (a .place) (sliceFrom slice hs .placeOrigins) && among (a .transition) (sliceFrom slice hs .transitionOrigins)) ≡ true) (is .arc) (ends-kept (good-word .direction) (word-ends z sum) e))
-            n (λ d. is-quiet differs (quiet-left differs _ (calm d)))
-            (λ d. sym (its .arc)
-            ∙ due-arc (good-word .direction) (word-ends z sum) e own (slice-word slice hs (r .sliced) k (ltb-true _ _ h) own its) (like z own (quiet-right differs _ (calm d)))
+            n (λ q. is-quiet differs (quiet-left differs _ (calm q)))
+            (λ q. sym (its .arc)
+            ∙ due-arc (good-word .direction) (word-ends z sum) e own (slice-word slice hs (r .sliced) k (ltb-true _ _ h) own its) (like z own (quiet-right differs _ (calm q)))
             ∙ ap (renumber (sliceFrom slice hs .placeOrigins) (sliceFrom slice hs .transitionOrigins)) (is .arc)))
-            (λ h. walked-over plan hp slice hs Q j k differs x l (ltb-false _ _ h) fine-here n))
+            (λ h. walked-over plan hp slice hs Q j k differs d x l (ltb-false _ _ h) fine-here n))

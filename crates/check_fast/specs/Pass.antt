@@ -1,6 +1,6 @@
 -- One pass over the plan's arcs, against the slice's.
 use Prim.Native.Nat.{ℕ, _+_, _-_, _*_, _/_, _%_, _≤_, _<_}
-use mathlib.Core.Bool.{Bool, true, false, _||_, _&&_, not}
+use mathlib.Core.Bool.{Bool, true, false, _&&_}
 use mathlib.Core.List.{List}
 use mathlib.Core.Path.{_≡_}
 use lib.Dec.{eqb, ltb}
@@ -35,40 +35,40 @@ keptOf z = ltb (z % 4294967296) 262144
 
 -- the arc wants a closer look
 abbrev pub oddOf : ℕ → Bool
-oddOf z = eqb (z / 524288 % 2) 1 || not (eqb (z / 16777216 % 256) 0)
+oddOf z = eqb (z / 524288 % 2) 1
 
 -- every bit is 0 but those of 1024 in both own numbers and the criterion's mark
 abbrev pub quietOf : ℕ → Bool
 quietOf d = eqb (d % 1024) 0 && eqb (d / 2048 % 64) 0 && eqb (d / 262144 % 16777216) 0 && eqb (d / 8796093022208) 0
 
--- the arc breaks none of the rules 6 to 8
-pub record Fine (N : Net) (ps ts Q : List ℕ) (a : Arc) : Type 0 where
-  pub fed : among (a .transition) ts ≡ true → a .direction ≡ 0 → among (a .place) ps ≡ true
-  pub unchanged : among (a .transition) ts ≡ false → among (a .place) Q ≡ true → changes N (a .transition) (a .place) ≡ false
-  pub unraised : among (a .transition) ts ≡ false → among (a .place) ps ≡ true → a .direction ≡ 1 → raises N (a .transition) (a .place) ≡ false
+-- the arc breaks none of the rules 6 to 8 that come before rule d
+pub record Fine (N : Net) (ps ts Q : List ℕ) (d : ℕ) (a : Arc) : Type 0 where
+  pub fed : 7 < d → among (a .transition) ts ≡ true → a .direction ≡ 0 → among (a .place) ps ≡ true
+  pub unchanged : 6 < d → among (a .transition) ts ≡ false → among (a .place) Q ≡ true → changes N (a .transition) (a .place) ≡ false
+  pub unraised : 8 < d → among (a .transition) ts ≡ false → among (a .place) ps ≡ true → a .direction ≡ 1 → raises N (a .transition) (a .place) ≡ false
 
 -- such an arc, not between what is kept
-pub record Settled (plan : List ℕ) (hp : Header) (slice : List ℕ) (hs : Header) (Q : List ℕ) (a : Arc) : Type 0 where
-  pub fine : Fine (netFrom plan hp) (sliceFrom slice hs .placeOrigins) (sliceFrom slice hs .transitionOrigins) Q a
+pub record Settled (plan : List ℕ) (hp : Header) (slice : List ℕ) (hs : Header) (Q : List ℕ) (d : ℕ) (a : Arc) : Type 0 where
+  pub fine : Fine (netFrom plan hp) (sliceFrom slice hs .placeOrigins) (sliceFrom slice hs .transitionOrigins) Q d a
   pub out : (among (a .place) (sliceFrom slice hs .placeOrigins) && among (a .transition) (sliceFrom slice hs .transitionOrigins)) ≡ false
 
 -- the slice's arcs are "every plan arc between" what is kept
 abbrev pub Same : List ℕ → Header → List ℕ → Header → Type 0
 Same plan hp slice hs = netFrom slice hs .arcs ≡ restrict (sliceFrom slice hs .placeOrigins) (sliceFrom slice hs .transitionOrigins) (netFrom plan hp .arcs)
 
--- j of the plan's arcs and k of the slice's are gone through; where nothing differs, the rest decides
-pub record Walked (plan : List ℕ) (hp : Header) (slice : List ℕ) (hs : Header) (Q : List ℕ) (j k differs : ℕ) : Type 0 where
+-- j of the plan's arcs and k of the slice's are gone through, and d is the first rule in doubt; where nothing differs, the rest decides
+pub record Walked (plan : List ℕ) (hp : Header) (slice : List ℕ) (hs : Header) (Q : List ℕ) (j k differs d : ℕ) : Type 0 where
   pub within : j ≤ hp .arcs
   pub behind : k ≤ j
-  pub fine : (i : ℕ) → i < j → Fine (netFrom plan hp) (sliceFrom slice hs .placeOrigins) (sliceFrom slice hs .transitionOrigins) Q (arcAt plan (hp .arcstart + 8 * i))
+  pub fine : (i : ℕ) → i < j → Fine (netFrom plan hp) (sliceFrom slice hs .placeOrigins) (sliceFrom slice hs .transitionOrigins) Q d (arcAt plan (hp .arcstart + 8 * i))
   pub same : k ≤ hs .arcs → quietOf differs ≡ true
       → arcsFrom slice (hs .arcstart + 8 * k) (hs .arcs - k) ≡ restrict (sliceFrom slice hs .placeOrigins) (sliceFrom slice hs .transitionOrigins) (arcsFrom plan (hp .arcstart + 8 * j) (hp .arcs - j))
       → Same plan hp slice hs
 
--- all arcs are gone through
-pub record Passed (plan : List ℕ) (hp : Header) (slice : List ℕ) (hs : Header) (Q : List ℕ) : Type 0 where
+-- all arcs are gone through, and d is the first rule in doubt
+pub record Passed (plan : List ℕ) (hp : Header) (slice : List ℕ) (hs : Header) (Q : List ℕ) (d : ℕ) : Type 0 where
   pub same : Same plan hp slice hs
-  pub fine : (i : ℕ) → i < hp .arcs → Fine (netFrom plan hp) (sliceFrom slice hs .placeOrigins) (sliceFrom slice hs .transitionOrigins) Q (arcAt plan (hp .arcstart + 8 * i))
+  pub fine : (i : ℕ) → i < hp .arcs → Fine (netFrom plan hp) (sliceFrom slice hs .placeOrigins) (sliceFrom slice hs .transitionOrigins) Q d (arcAt plan (hp .arcstart + 8 * i))
 
 -- tables that tell each place and transition of the plan as left out
 pub record Blank (hp : Header) (S : Slice) (places transitions : List ℕ) : Type 0 where

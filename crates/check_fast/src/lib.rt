@@ -1,4 +1,4 @@
-// Are the rules 4 to 8 certainly kept? One pass over the plan's arcs, with no branch on what is kept.
+// Which of the rules 4 to 8 are certainly kept? One pass over the plan's arcs, with no branch on what is kept.
 //
 // An arc's number has the transition in bits 0 to 15, the direction in bit 16, zeros up to 31, the place in 32 to 47 and
 // the weight in 48 to 63. Entries of two tables are added to it, for its place and its transition. They put their own
@@ -9,7 +9,8 @@
 // place of the criterion (rule 6).
 ghost use mathlib.Core.Path.{_≡_};
 ghost use mathlib.Core.Bool.{true, _&&_};
-ghost use Prim.Native.Nat.{ℕ, _+_, _*_, _<_, _≤_};
+ghost use Prim.Native.Nat.{ℕ, _+_, _-_, _*_, _<_, _≤_};
+ghost use lib.Dec.{ltb};
 ghost use lib.ListN.{length, getD};
 ghost use lib.Bits.{bitXor};
 ghost use lib.IntN.{pos};
@@ -19,9 +20,9 @@ ghost use Rattle.file.specs.Facts.{Sound, arcOf};
 ghost use Rattle.file.specs.Layout.{arcAt, wordsFrom, netFrom, sliceFrom};
 ghost use Rattle.file.specs.Criterion.{criterionRefusal};
 ghost use Rattle.numbering.specs.Own.{Origins};
+ghost use Rattle.rules_tables.specs.Agreed.{Agreed};
 ghost use Rattle.check_fast.specs.Entries.{leftPlace, Numbered, Marked, Reached};
 ghost use Rattle.check_fast.specs.Pass.{Ready, joinedOf, keptOf, oddOf, quietOf, Settled, Walked, Passed, Blank};
-ghost use Rattle.rules_tables.specs.Agreed.{Agreed};
 use file::Header;
 use file::arcs::DIRECTION;
 use file::arcs::PLACE;
@@ -35,11 +36,12 @@ pub const LEFT_PLACE: usize = 1024 * PLACE + 15 * DIRECTION;
 
 pub const LEFT_TRANSITION: usize = 1024 + 7 * DIRECTION;
 
-// How far the arcs are gone through: the plan's, the slice's own, and the bits in which some differ.
+// How far the arcs are gone through: the plan's, the slice's own, the bits in which some differ, and the first rule in doubt, 9 where none is.
 pub struct Walk {
     pub arc: usize,
     pub own: usize,
     pub differs: usize,
+    pub doubt: usize,
 }
 
 // The entry of each origin: 1024 units, and what takes it to its own number.
@@ -108,7 +110,14 @@ fn kept(z: usize) -> bool
 fn odd(z: usize) -> bool
     ensures { λ r. ⌜ r ≡ oddOf z ⌝ }
 {
-    (z / 524288 % 2 == 1) | (z / 16777216 % 256 != 0)
+    z / 524288 % 2 == 1
+}
+
+// The same where the rules 6 to 8 are not in doubt already.
+fn pauses(z: usize, doubt: usize) -> bool
+    ensures { λ r. ⌜ r ≡ (oddOf z && ltb 6 doubt) ⌝ }
+{
+    odd(z) & (6 < doubt)
 }
 
 // Is every bit 0 but those of 1024 in both own numbers and the criterion's mark?
@@ -166,7 +175,7 @@ fn settled(
 ) -> bool
     requires { ⌜ Ready (now plan) hp (now slice) hs (now criterion) (now places) (now transitions) ⌝ }
     requires { ⌜ j < hp .arcs ⌝ }
-    ensures { λ r. ⌜ (r ≡ true → Settled (now (plan .entry)) hp (now (slice .entry)) hs (now (criterion .entry)) (arcAt (now (plan .entry)) (hp .arcstart + 8 * j))) ⌝ }
+    ensures { λ r. ⌜ (r ≡ true → Settled (now (plan .entry)) hp (now (slice .entry)) hs (now (criterion .entry)) 9 (arcAt (now (plan .entry)) (hp .arcstart + 8 * j))) ⌝ }
 {
     let w = word(plan, hp.arcstart + 8 * j);
     let z = joined(w, places, transitions);
@@ -181,6 +190,73 @@ fn settled(
     false
 }
 
+// The first rule that an arc leaves in doubt which wants a closer look; 4 where both its ends are kept.
+fn doubt_at(
+    plan: &[u8],
+    hp: Header,
+    slice: &[u8],
+    hs: Header,
+    criterion: &[u16],
+    j: usize,
+    places: &[usize],
+    transitions: &[usize],
+) -> usize
+    requires { ⌜ Ready (now plan) hp (now slice) hs (now criterion) (now places) (now transitions) ⌝ }
+    requires { ⌜ j < hp .arcs ⌝ }
+    ensures { λ r. ⌜ (4 < r → Settled (now (plan .entry)) hp (now (slice .entry)) hs (now (criterion .entry)) r (arcAt (now (plan .entry)) (hp .arcstart + 8 * j))) ⌝ }
+{
+    let w = word(plan, hp.arcstart + 8 * j);
+    let z = joined(w, places, transitions);
+    if z / 65536 % 65536 == 8 {
+        return 8;
+    }
+    if kept(z) {
+        return 4;
+    }
+    6
+}
+
+fn lower(a: usize, b: usize) -> usize
+    ensures { λ r. ⌜ (r ≤ a) × (r ≤ b) ⌝ }
+{
+    if a < b { a } else { b }
+}
+
+// The first rule in doubt after a closer look, 9 where none is; with no looks left the rules 6 to 8 are.
+fn look(
+    plan: &[u8],
+    hp: Header,
+    slice: &[u8],
+    hs: Header,
+    criterion: &[u16],
+    j: usize,
+    places: &[usize],
+    transitions: &[usize],
+    looks: usize,
+) -> usize
+    requires { ⌜ Ready (now plan) hp (now slice) hs (now criterion) (now places) (now transitions) ⌝ }
+    requires { ⌜ j < hp .arcs ⌝ }
+    ensures { λ r. ⌜ (4 < r → Settled (now (plan .entry)) hp (now (slice .entry)) hs (now (criterion .entry)) r (arcAt (now (plan .entry)) (hp .arcstart + 8 * j))) ⌝ }
+{
+    if looks == 0 {
+        return lower(
+            6,
+            doubt_at(plan, hp, slice, hs, criterion, j, places, transitions),
+        );
+    }
+    if settled(plan, hp, slice, hs, criterion, j, places, transitions) {
+        return 9;
+    }
+    doubt_at(plan, hp, slice, hs, criterion, j, places, transitions)
+}
+
+// One less, down to 0.
+fn fewer(n: usize) -> usize
+    ensures { λ r. ⌜ r ≡ n - 1 ⌝ }
+{
+    if n == 0 { 0 } else { n - 1 }
+}
+
 // Goes on from there through the plan's arcs, up to one that wants a closer look.
 fn stretch(
     plan: &[u8],
@@ -193,11 +269,13 @@ fn stretch(
     from: Walk,
 ) -> Walk
     requires { ⌜ Ready (now plan) hp (now slice) hs (now criterion) (now places) (now transitions) ⌝ }
-    requires { ⌜ Walked (now plan) hp (now slice) hs (now criterion) (from .arc) (from .own) (from .differs) ⌝ }
-    ensures { λ r. ⌜ Walked (now (plan .entry)) hp (now (slice .entry)) hs (now (criterion .entry)) (r .arc) (r .own) (r .differs) ⌝ }
+    requires { ⌜ Walked (now plan) hp (now slice) hs (now criterion) (from .arc) (from .own) (from .differs) (from .doubt) ⌝ }
+    ensures { λ r. ⌜ Walked (now (plan .entry)) hp (now (slice .entry)) hs (now (criterion .entry)) (r .arc) (r .own) (r .differs) (r .doubt) ⌝ }
+    ensures { λ r. ⌜ from .arc ≤ r .arc ⌝ }
 {
     let start = hp.arcstart;
     let first = hs.arcstart;
+    let doubt = from.doubt;
     let mut j = from.arc;
     let mut k = from.own;
     let mut differs = from.differs;
@@ -207,15 +285,17 @@ fn stretch(
                 arc: j,
                 own: k,
                 differs,
+                doubt,
             };
         }
         let w = word(plan, start + 8 * j);
         let z = joined(w, places, transitions);
-        if odd(z) {
+        if pauses(z, doubt) {
             return Walk {
                 arc: j,
                 own: k,
                 differs,
+                doubt,
             };
         }
         differs = differs | unlike(z, word(slice, first + 8 * k));
@@ -226,10 +306,11 @@ fn stretch(
         arc: j,
         own: k,
         differs,
+        doubt,
     }
 }
 
-// Do the plan's arcs break none of the rules 4, 6, 7 and 8? At most 16 of them get a closer look.
+// The first of the rules 4, 6, 7 and 8 that the plan's arcs leave in doubt; 9 where none is. At most 128 arcs get a closer look.
 fn pass(
     plan: &[u8],
     hp: Header,
@@ -238,40 +319,53 @@ fn pass(
     criterion: &[u16],
     places: &[usize],
     transitions: &[usize],
-) -> bool
+) -> usize
     requires { ⌜ Ready (now plan) hp (now slice) hs (now criterion) (now places) (now transitions) ⌝ }
-    ensures { λ r. ⌜ (r ≡ true → Passed (now (plan .entry)) hp (now (slice .entry)) hs (now (criterion .entry))) ⌝ }
+    ensures { λ r. ⌜ (4 < r → Passed (now (plan .entry)) hp (now (slice .entry)) hs (now (criterion .entry)) r) ⌝ }
 {
     let start = Walk {
         arc: 0,
         own: 0,
         differs: 0,
+        doubt: 9,
     };
     let mut at = stretch(plan, hp, slice, hs, criterion, places, transitions, start);
-    let mut looks: usize = 16;
+    let mut looks: usize = 128;
     while at.arc < hp.arcs {
-        if looks == 0 {
-            return false;
-        }
         if hs.arcs < at.own {
-            return false;
+            return 4;
         }
-        if !settled(plan, hp, slice, hs, criterion, at.arc, places, transitions) {
-            return false;
+        let seen = look(
+            plan,
+            hp,
+            slice,
+            hs,
+            criterion,
+            at.arc,
+            places,
+            transitions,
+            looks,
+        );
+        if seen <= 4 {
+            return 4;
         }
         let from = Walk {
             arc: at.arc + 1,
             own: at.own,
             differs: at.differs,
+            doubt: lower(at.doubt, seen),
         };
         let next = stretch(plan, hp, slice, hs, criterion, places, transitions, from);
         at = next;
-        looks -= 1;
+        looks = fewer(looks);
     }
-    quiet(at.differs) & (at.own == hs.arcs)
+    if quiet(at.differs) & (at.own == hs.arcs) {
+        return at.doubt;
+    }
+    4
 }
 
-// Are the rules 4 to 8 certainly kept? The tables start with what stands for left out.
+// The first of the rules 4 to 8 that is in doubt; 9 where all are certainly kept. The tables start with what stands for left out.
 pub fn agrees(
     plan: &[u8],
     hp: Header,
@@ -280,13 +374,13 @@ pub fn agrees(
     criterion: &[u16],
     places: &mut [usize],
     transitions: &mut [usize],
-) -> bool
+) -> usize
     requires { ⌜ Sound (now plan) hp ⌝ }
     requires { ⌜ Sound (now slice) hs ⌝ }
     requires { ⌜ hs .kind ≡ 1 ⌝ }
     requires { ⌜ criterionRefusal (hp .places) (now criterion) ≡ 0 ⌝ }
     requires { ⌜ Blank hp (sliceFrom (now slice) hs) (now places) (now transitions) ⌝ }
-    ensures { λ r. ⌜ (r ≡ true → Agreed (netFrom (now (plan .entry)) hp) (sliceFrom (now (slice .entry)) hs) (now (criterion .entry))) ⌝ }
+    ensures { λ r. ⌜ Agreed r (netFrom (now (plan .entry)) hp) (sliceFrom (now (slice .entry)) hs) (now (criterion .entry)) ⌝ }
 {
     number(slice, hs.originstart, hs.places, PLACE, places);
     number(
@@ -297,7 +391,7 @@ pub fn agrees(
         transitions,
     );
     if !all_kept(criterion, places) {
-        return false;
+        return 4;
     }
     mark(criterion, places);
     pass(plan, hp, slice, hs, criterion, places, transitions)

@@ -7,11 +7,18 @@ use lib.Dec.{ltb}
 use borrow.Author.Tests.{lt-ltb, le-ltb}
 use Rattle.net.specs.Net.{Net, Uncapped}
 use Rattle.net.specs.Slice.{Slice}
-use Rattle.net.specs.Checker.{Rule, breaker, verdictFrom, verdict, rules, rule1, rule2, rule3, rule4, rule5, rule6, rule7, rule8, rule9, rule10}
+use Rattle.net.specs.Checker.{Rule, breaks, breaker, verdictFrom, verdict, rules, rule1, rule2, rule3, rule4, rule5, rule6, rule7, rule8, rule9, rule10}
 use Rattle.net.proofs.Verdict.{AllHold, verdict-holds}
 use Rattle.net.proofs.Uncapped.{uncapped-rule9, uncapped-rule10}
 use Rattle.promise.specs.Calls.{told}
+use Rattle.net.proofs.Numbers.{first-none}
+use Rattle.rules_tables.specs.Agreed.{Unbroken}
 use Rattle.check_rules.specs.Room.{rulesFrom4}
+
+-- no number breaks the rule: its lowest number is past its range
+pub past : (R : Rule) → Unbroken R → R .range ≡ breaker R
+unfolding breaker
+past R u = first-none (breaks R) (R .range) (u .at)
 
 -- the rule is broken: its number and the number that breaks it
 module _ (k : ℕ) (R : Rule) (l : List Rule) (n r : ℕ) (range : R .range ≡ r) (found : n ≡ breaker R) where

@@ -2,12 +2,13 @@
 ghost use mathlib.Core.Path.{_≡_};
 ghost use Prim.Native.Nat.{_*_, _<_};
 ghost use lib.ListN.{length};
-ghost use Rattle.net.specs.Checker.{verdictFrom};
+ghost use Rattle.net.specs.Checker.{breaker, verdictFrom, rule4, rule6, rule7};
 ghost use Rattle.file.specs.Layout.{netFrom, sliceFrom};
 ghost use Rattle.file.specs.Facts.{Sound};
 ghost use Rattle.file.specs.Criterion.{criterionRefusal};
 ghost use Rattle.promise.specs.Calls.{told};
-ghost use Rattle.rules_tables.specs.Matched.{Starts, Matched};
+ghost use Rattle.rules_tables.specs.Agreed.{Unbroken, Agreed};
+ghost use Rattle.rules_tables.specs.Matched.{Matched};
 ghost use Rattle.rules_effects.specs.Movers.{Resting};
 ghost use Rattle.check_rules.specs.Answer.{outcomeNumbers};
 ghost use Rattle.check_rules.specs.Room.{rulesFrom4, rulesFrom6, Judged, Room, Filled};
@@ -27,8 +28,93 @@ pub enum Outcome {
     RaiserMissing(u16),
 }
 
-// Rules 6 to 8.
+// Rule 4, where it is in doubt; `runs` gets the starts of the slice's arcs.
+fn arcs_breaker(
+    doubt: usize,
+    plan: &[u8],
+    hp: Header,
+    table: &[u16],
+    slice: &[u8],
+    hs: Header,
+    ownp: &[u16],
+    ownt: &[u16],
+    runs: &mut [u16],
+) -> usize
+    requires { ⌜ Matched (now plan) hp (now table) (now slice) hs (now ownp) (now ownt) ⌝ }
+    requires { ⌜ 2 * hs .transitions < length (now runs) ⌝ }
+    requires { ⌜ (4 < doubt → Unbroken (rule4 (netFrom (now plan) hp) (sliceFrom (now slice) hs))) ⌝ }
+    ensures { λ r. ⌜ r ≡ breaker (rule4 (netFrom (now (plan .entry)) hp) (sliceFrom (now (slice .entry)) hs)) ⌝ }
+{
+    if 4 < doubt {
+        return hp.transitions;
+    }
+    arcs_starts::starts(slice, hs.arcstart, hs.arcs, hs.transitions, runs);
+    rules_arcs::other_arcs(plan, hp, table, slice, hs, runs, ownp, ownt)
+}
+
+// Rule 6, where it is in doubt.
+fn change_breaker(
+    doubt: usize,
+    plan: &[u8],
+    hp: Header,
+    table: &[u16],
+    slice: &[u8],
+    hs: Header,
+    ownp: &[u16],
+    ownt: &[u16],
+    criterion: &[u16],
+    limit: &mut [u32],
+    column: &mut [u32],
+) -> usize
+    requires { ⌜ Matched (now plan) hp (now table) (now slice) hs (now ownp) (now ownt) ⌝ }
+    requires { ⌜ criterionRefusal (hp .places) (now criterion) ≡ 0 ⌝ }
+    requires { ⌜ Resting (hp .places) (now column) ⌝ }
+    requires { ⌜ length (now limit) ≡ length (now column) ⌝ }
+    requires { ⌜ (6 < doubt → Unbroken (rule6 (netFrom (now plan) hp) (sliceFrom (now slice) hs) (now criterion))) ⌝ }
+    ensures { λ r. ⌜ r ≡ breaker (rule6 (netFrom (now (plan .entry)) hp) (sliceFrom (now (slice .entry)) hs) (now (criterion .entry))) ⌝ }
+    ensures { λ _. ⌜ Resting (hp .places) (now (column .exit)) ⌝ }
+{
+    if 6 < doubt {
+        return hp.transitions;
+    }
+    rules_effects::changer_missing(
+        plan,
+        hp,
+        table,
+        slice,
+        hs,
+        ownp,
+        ownt,
+        criterion,
+        limit,
+        column,
+    )
+}
+
+// Rule 7, where it is in doubt.
+fn input_breaker(
+    doubt: usize,
+    plan: &[u8],
+    hp: Header,
+    table: &[u16],
+    slice: &[u8],
+    hs: Header,
+    ownp: &[u16],
+    ownt: &[u16],
+) -> usize
+    requires { ⌜ Matched (now plan) hp (now table) (now slice) hs (now ownp) (now ownt) ⌝ }
+    requires { ⌜ (7 < doubt → Unbroken (rule7 (netFrom (now plan) hp) (sliceFrom (now slice) hs))) ⌝ }
+    ensures { λ r. ⌜ r ≡ breaker (rule7 (netFrom (now (plan .entry)) hp) (sliceFrom (now (slice .entry)) hs)) ⌝ }
+{
+    if 7 < doubt {
+        return hp.transitions;
+    }
+    rules_arcs::input_missing(plan, hp, table, slice, hs, ownp, ownt)
+}
+
+// Rules 6 to 8; `doubt` is the first rule that is in doubt.
 fn movers_outcome(
+    doubt: usize,
     plan: &[u8],
     hp: Header,
     table: &[u16],
@@ -44,10 +130,12 @@ fn movers_outcome(
     requires { ⌜ criterionRefusal (hp .places) (now criterion) ≡ 0 ⌝ }
     requires { ⌜ Resting (hp .places) (now column) ⌝ }
     requires { ⌜ length (now limit) ≡ length (now column) ⌝ }
+    requires { ⌜ Agreed doubt (netFrom (now plan) hp) (sliceFrom (now slice) hs) (now criterion) ⌝ }
     ensures { λ r. ⌜ outcomeNumbers r ≡ told (verdictFrom 6 (rulesFrom6 (netFrom (now (plan .entry)) hp) (sliceFrom (now (slice .entry)) hs) (now (criterion .entry)))) ⌝ }
 {
     let transitions = hp.transitions;
-    let changer = rules_effects::changer_missing(
+    let changer = change_breaker(
+        doubt,
         plan,
         hp,
         table,
@@ -62,7 +150,7 @@ fn movers_outcome(
     if changer < transitions {
         return Outcome::ChangerMissing(changer as u16);
     }
-    let taker = rules_arcs::input_missing(plan, hp, table, slice, hs, ownp, ownt);
+    let taker = input_breaker(doubt, plan, hp, table, slice, hs, ownp, ownt);
     if taker < transitions {
         return Outcome::InputMissing(taker as u16);
     }
@@ -83,14 +171,15 @@ fn movers_outcome(
     Outcome::Accepted
 }
 
-// Rules 4 to 8. `table` and `runs` have the starts of the plan's and the slice's arcs.
+// Rules 4 to 8; `doubt` is the first rule that is in doubt. `table` has the starts of the plan's arcs.
 fn links_outcome(
+    doubt: usize,
     plan: &[u8],
     hp: Header,
     table: &[u16],
     slice: &[u8],
     hs: Header,
-    runs: &[u16],
+    runs: &mut [u16],
     ownp: &[u16],
     ownt: &[u16],
     criterion: &[u16],
@@ -98,15 +187,16 @@ fn links_outcome(
     column: &mut [u32],
 ) -> Outcome
     requires { ⌜ Matched (now plan) hp (now table) (now slice) hs (now ownp) (now ownt) ⌝ }
-    requires { ⌜ Starts (now slice) hs (now runs) ⌝ }
+    requires { ⌜ 2 * hs .transitions < length (now runs) ⌝ }
     requires { ⌜ criterionRefusal (hp .places) (now criterion) ≡ 0 ⌝ }
     requires { ⌜ Resting (hp .places) (now column) ⌝ }
     requires { ⌜ length (now limit) ≡ length (now column) ⌝ }
+    requires { ⌜ Agreed doubt (netFrom (now plan) hp) (sliceFrom (now slice) hs) (now criterion) ⌝ }
     ensures { λ r. ⌜ outcomeNumbers r ≡ told (verdictFrom 4 (rulesFrom4 (netFrom (now (plan .entry)) hp) (sliceFrom (now (slice .entry)) hs) (now (criterion .entry)))) ⌝ }
 {
     let places = hp.places;
     let transitions = hp.transitions;
-    let other = rules_arcs::other_arcs(plan, hp, table, slice, hs, runs, ownp, ownt);
+    let other = arcs_breaker(doubt, plan, hp, table, slice, hs, ownp, ownt, runs);
     if other < transitions {
         return Outcome::OtherArcs(other as u16);
     }
@@ -115,6 +205,7 @@ fn links_outcome(
         return Outcome::CriterionMissing(missing as u16);
     }
     movers_outcome(
+        doubt,
         plan,
         hp,
         table,
@@ -128,26 +219,6 @@ fn links_outcome(
     )
 }
 
-// The starts of the plan's and of the slice's arcs.
-fn fill_starts(
-    plan: &[u8],
-    hp: Header,
-    slice: &[u8],
-    hs: Header,
-    table: &mut [u16],
-    runs: &mut [u16],
-)
-    requires { ⌜ Sound (now plan) hp ⌝ }
-    requires { ⌜ Sound (now slice) hs ⌝ }
-    requires { ⌜ 2 * hp .transitions < length (now table) ⌝ }
-    requires { ⌜ 2 * hs .transitions < length (now runs) ⌝ }
-    ensures { λ _. ⌜ Starts (now (plan .entry)) hp (now (table .exit)) ⌝ }
-    ensures { λ _. ⌜ Starts (now (slice .entry)) hs (now (runs .exit)) ⌝ }
-{
-    arcs_starts::starts(plan, hp.arcstart, hp.arcs, hp.transitions, table);
-    arcs_starts::starts(slice, hs.arcstart, hs.arcs, hs.transitions, runs);
-}
-
 // The slice's own numbers of places and transitions.
 fn fill_own(slice: &[u8], hs: Header, ownp: &mut [u16], ownt: &mut [u16])
     requires { ⌜ Sound (now slice) hs ⌝ }
@@ -158,8 +229,9 @@ fn fill_own(slice: &[u8], hs: Header, ownp: &mut [u16], ownt: &mut [u16])
     numbering::own(slice, hs.originstart + 2 * hs.places, hs.transitions, ownt);
 }
 
-// Rules 4 to 8, in arrays that are lent.
+// Rules 4 to 8, in arrays that are lent; `doubt` is the first rule that is in doubt.
 pub fn lent_outcome(
+    doubt: usize,
     plan: &[u8],
     hp: Header,
     slice: &[u8],
@@ -173,14 +245,16 @@ pub fn lent_outcome(
     column: &mut [u32],
 ) -> Outcome
     requires { ⌜ Judged (now plan) hp (now slice) hs (now criterion) ⌝ }
+    requires { ⌜ Agreed doubt (netFrom (now plan) hp) (sliceFrom (now slice) hs) (now criterion) ⌝ }
     requires { ⌜ Room hp hs (length (now table)) (length (now runs)) (length (now ownp)) (length (now ownt)) ⌝ }
     requires { ⌜ Resting (hp .places) (now column) ⌝ }
     requires { ⌜ length (now limit) ≡ length (now column) ⌝ }
     ensures { λ r. ⌜ outcomeNumbers r ≡ told (verdictFrom 4 (rulesFrom4 (netFrom (now (plan .entry)) hp) (sliceFrom (now (slice .entry)) hs) (now (criterion .entry)))) ⌝ }
 {
-    fill_starts(plan, hp, slice, hs, table, runs);
+    arcs_starts::starts(plan, hp.arcstart, hp.arcs, hp.transitions, table);
     fill_own(slice, hs, ownp, ownt);
     links_outcome(
+        doubt,
         plan,
         hp,
         table,

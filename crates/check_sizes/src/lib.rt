@@ -25,10 +25,18 @@ fn within(hp: Header, hs: Header, n: usize) -> bool
     (hp.places <= n) & (hp.transitions <= n) & (hs.transitions <= n)
 }
 
-// Rules 4 to 8 for nets of at most 128 places and 128 transitions.
-fn middle_outcome(plan: &[u8], hp: Header, slice: &[u8], hs: Header, criterion: &[u16]) -> Outcome
+// Rules 4 to 8 for nets of at most 128 places and 128 transitions; `doubt` is the first rule that is in doubt.
+fn middle_outcome(
+    doubt: usize,
+    plan: &[u8],
+    hp: Header,
+    slice: &[u8],
+    hs: Header,
+    criterion: &[u16],
+) -> Outcome
     requires { ⌜ Judged (now plan) hp (now slice) hs (now criterion) ⌝ }
     requires { ⌜ Within 128 hp hs ⌝ }
+    requires { ⌜ Agreed doubt (netFrom (now plan) hp) (sliceFrom (now slice) hs) (now criterion) ⌝ }
     ensures { λ r. ⌜ outcomeNumbers r ≡ told (verdictFrom 4 (rulesFrom4 (netFrom (now (plan .entry)) hp) (sliceFrom (now (slice .entry)) hs) (now (criterion .entry)))) ⌝ }
 {
     let mut table = [0u16; 2 * MIDDLE + 1];
@@ -38,6 +46,7 @@ fn middle_outcome(plan: &[u8], hp: Header, slice: &[u8], hs: Header, criterion: 
     let mut limit = [0u32; MIDDLE];
     let mut column = [AT_REST; MIDDLE];
     lent_outcome(
+        doubt,
         plan,
         hp,
         slice,
@@ -53,8 +62,16 @@ fn middle_outcome(plan: &[u8], hp: Header, slice: &[u8], hs: Header, criterion: 
 }
 
 // The same for all nets.
-fn large_outcome(plan: &[u8], hp: Header, slice: &[u8], hs: Header, criterion: &[u16]) -> Outcome
+fn large_outcome(
+    doubt: usize,
+    plan: &[u8],
+    hp: Header,
+    slice: &[u8],
+    hs: Header,
+    criterion: &[u16],
+) -> Outcome
     requires { ⌜ Judged (now plan) hp (now slice) hs (now criterion) ⌝ }
+    requires { ⌜ Agreed doubt (netFrom (now plan) hp) (sliceFrom (now slice) hs) (now criterion) ⌝ }
     ensures { λ r. ⌜ outcomeNumbers r ≡ told (verdictFrom 4 (rulesFrom4 (netFrom (now (plan .entry)) hp) (sliceFrom (now (slice .entry)) hs) (now (criterion .entry)))) ⌝ }
 {
     let mut table = [0u16; 2 * LARGE + 1];
@@ -64,6 +81,7 @@ fn large_outcome(plan: &[u8], hp: Header, slice: &[u8], hs: Header, criterion: &
     let mut limit = [0u32; LARGE];
     let mut column = [AT_REST; LARGE];
     lent_outcome(
+        doubt,
         plan,
         hp,
         slice,
@@ -78,23 +96,31 @@ fn large_outcome(plan: &[u8], hp: Header, slice: &[u8], hs: Header, criterion: &
     )
 }
 
-// Rules 4 to 8 in order, for all nets.
-pub fn sized(plan: &[u8], hp: Header, slice: &[u8], hs: Header, criterion: &[u16]) -> Outcome
+// Rules 4 to 8 in order, for all nets; `doubt` is the first rule that is in doubt.
+pub fn sized(
+    doubt: usize,
+    plan: &[u8],
+    hp: Header,
+    slice: &[u8],
+    hs: Header,
+    criterion: &[u16],
+) -> Outcome
     requires { ⌜ Judged (now plan) hp (now slice) hs (now criterion) ⌝ }
+    requires { ⌜ Agreed doubt (netFrom (now plan) hp) (sliceFrom (now slice) hs) (now criterion) ⌝ }
     ensures { λ r. ⌜ outcomeNumbers r ≡ told (verdictFrom 4 (rulesFrom4 (netFrom (now (plan .entry)) hp) (sliceFrom (now (slice .entry)) hs) (now (criterion .entry)))) ⌝ }
 {
     if within(hp, hs, MIDDLE) {
-        return middle_outcome(plan, hp, slice, hs, criterion);
+        return middle_outcome(doubt, plan, hp, slice, hs, criterion);
     }
-    large_outcome(plan, hp, slice, hs, criterion)
+    large_outcome(doubt, plan, hp, slice, hs, criterion)
 }
 
-// Are the rules 4 to 8 certainly kept? For nets of at most 16 places and 16 transitions.
-fn small_agrees(plan: &[u8], hp: Header, slice: &[u8], hs: Header, criterion: &[u16]) -> bool
+// The first of the rules 4 to 8 that is in doubt, 9 where none is, for nets of at most 16 places and 16 transitions.
+fn small_agrees(plan: &[u8], hp: Header, slice: &[u8], hs: Header, criterion: &[u16]) -> usize
     requires { ⌜ Judged (now plan) hp (now slice) hs (now criterion) ⌝ }
     requires { ⌜ KnownIn hp (sliceFrom (now slice) hs) ⌝ }
     requires { ⌜ Within 16 hp hs ⌝ }
-    ensures { λ r. ⌜ (r ≡ true → Agreed (netFrom (now (plan .entry)) hp) (sliceFrom (now (slice .entry)) hs) (now (criterion .entry))) ⌝ }
+    ensures { λ r. ⌜ Agreed r (netFrom (now (plan .entry)) hp) (sliceFrom (now (slice .entry)) hs) (now (criterion .entry)) ⌝ }
 {
     let mut places = [LEFT_PLACE; SMALL];
     let mut transitions = [LEFT_TRANSITION; SMALL];
@@ -110,11 +136,11 @@ fn small_agrees(plan: &[u8], hp: Header, slice: &[u8], hs: Header, criterion: &[
 }
 
 // The same for at most 128 of each.
-fn middle_agrees(plan: &[u8], hp: Header, slice: &[u8], hs: Header, criterion: &[u16]) -> bool
+fn middle_agrees(plan: &[u8], hp: Header, slice: &[u8], hs: Header, criterion: &[u16]) -> usize
     requires { ⌜ Judged (now plan) hp (now slice) hs (now criterion) ⌝ }
     requires { ⌜ KnownIn hp (sliceFrom (now slice) hs) ⌝ }
     requires { ⌜ Within 128 hp hs ⌝ }
-    ensures { λ r. ⌜ (r ≡ true → Agreed (netFrom (now (plan .entry)) hp) (sliceFrom (now (slice .entry)) hs) (now (criterion .entry))) ⌝ }
+    ensures { λ r. ⌜ Agreed r (netFrom (now (plan .entry)) hp) (sliceFrom (now (slice .entry)) hs) (now (criterion .entry)) ⌝ }
 {
     let mut places = [LEFT_PLACE; MIDDLE];
     let mut transitions = [LEFT_TRANSITION; MIDDLE];
@@ -130,10 +156,10 @@ fn middle_agrees(plan: &[u8], hp: Header, slice: &[u8], hs: Header, criterion: &
 }
 
 // The same for all nets.
-fn large_agrees(plan: &[u8], hp: Header, slice: &[u8], hs: Header, criterion: &[u16]) -> bool
+fn large_agrees(plan: &[u8], hp: Header, slice: &[u8], hs: Header, criterion: &[u16]) -> usize
     requires { ⌜ Judged (now plan) hp (now slice) hs (now criterion) ⌝ }
     requires { ⌜ KnownIn hp (sliceFrom (now slice) hs) ⌝ }
-    ensures { λ r. ⌜ (r ≡ true → Agreed (netFrom (now (plan .entry)) hp) (sliceFrom (now (slice .entry)) hs) (now (criterion .entry))) ⌝ }
+    ensures { λ r. ⌜ Agreed r (netFrom (now (plan .entry)) hp) (sliceFrom (now (slice .entry)) hs) (now (criterion .entry)) ⌝ }
 {
     let mut places = [LEFT_PLACE; LARGE];
     let mut transitions = [LEFT_TRANSITION; LARGE];
@@ -148,11 +174,11 @@ fn large_agrees(plan: &[u8], hp: Header, slice: &[u8], hs: Header, criterion: &[
     )
 }
 
-// Are the rules 4 to 8 certainly kept? By one pass, in tables that are not much larger than the net.
-pub fn agreeing(plan: &[u8], hp: Header, slice: &[u8], hs: Header, criterion: &[u16]) -> bool
+// The first of the rules 4 to 8 that is in doubt, 9 where none is: by one pass, in tables that are not much larger than the net.
+pub fn agreeing(plan: &[u8], hp: Header, slice: &[u8], hs: Header, criterion: &[u16]) -> usize
     requires { ⌜ Judged (now plan) hp (now slice) hs (now criterion) ⌝ }
     requires { ⌜ KnownIn hp (sliceFrom (now slice) hs) ⌝ }
-    ensures { λ r. ⌜ (r ≡ true → Agreed (netFrom (now (plan .entry)) hp) (sliceFrom (now (slice .entry)) hs) (now (criterion .entry))) ⌝ }
+    ensures { λ r. ⌜ Agreed r (netFrom (now (plan .entry)) hp) (sliceFrom (now (slice .entry)) hs) (now (criterion .entry)) ⌝ }
 {
     if within(hp, hs, SMALL) {
         return small_agrees(plan, hp, slice, hs, criterion);

@@ -2,27 +2,21 @@
 use mathlib.Core.Path.{_≡_, _∙_}
 use mathlib.Core.Bool.{false}
 use mathlib.Core.List.{List}
-use Prim.Native.Nat.{ℕ}
+use Prim.Native.Nat.{ℕ, _<_}
 use native.Mathlib.Omega.{arith}
 use Rattle.net.specs.Net.{Net, Uncapped}
 use Rattle.net.specs.Slice.{Slice}
-use Rattle.net.specs.Checker.{Rule, breaks, breaker, verdictFrom}
+use Rattle.net.specs.Checker.{verdictFrom}
 use Rattle.promise.specs.Calls.{told}
-use Rattle.net.proofs.Numbers.{first-none}
-use Rattle.rules_tables.specs.Agreed.{Unbroken, Agreed}
+use Rattle.rules_tables.specs.Agreed.{Agreed}
 use Rattle.check_rules.specs.Room.{rulesFrom4}
-use Rattle.check_rules.proofs.Steps.{holds-here, caps-left, range4, range5, range6, range7, range8}
+use Rattle.check_rules.proofs.Steps.{past, holds-here, caps-left, range4, range5, range6, range7, range8}
 
--- no number breaks the rule: its lowest number is past its range
-past : (R : Rule) → Unbroken R → R .range ≡ breaker R
-unfolding breaker
-past R u = first-none (breaks R) (R .range) (u .at)
-
-pub agreed-told : (N : Net) (S : Slice) (Q : List ℕ) → Uncapped N → Agreed N S Q → record { refused = false; code = 0; number = 0 } ≡ told (verdictFrom 4 (rulesFrom4 N S Q))
-agreed-told N S Q none a =
+pub agreed-told : (N : Net) (S : Slice) (Q : List ℕ) → Uncapped N → (d : ℕ) → 8 < d → Agreed d N S Q → record { refused = false; code = 0; number = 0 } ≡ told (verdictFrom 4 (rulesFrom4 N S Q))
+agreed-told N S Q none d l a =
     caps-left N S none
-    ∙ holds-here 8 _ _ _ _ (range8 N S) (past _ (a .eighth)) (omega (arith, range8 N S))
-    ∙ holds-here 7 _ _ _ _ (range7 N S) (past _ (a .seventh)) (omega (arith, range7 N S))
-    ∙ holds-here 6 _ _ _ _ (range6 N S Q) (past _ (a .sixth)) (omega (arith, range6 N S Q))
-    ∙ holds-here 5 _ _ _ _ (range5 N S Q) (past _ (a .fifth)) (omega (arith, range5 N S Q))
-    ∙ holds-here 4 _ _ _ _ (range4 N S) (past _ (a .fourth)) (omega (arith, range4 N S))
+    ∙ holds-here 8 _ _ _ _ (range8 N S) (past _ (a .eighth (omega arith))) (omega (arith, range8 N S))
+    ∙ holds-here 7 _ _ _ _ (range7 N S) (past _ (a .seventh (omega arith))) (omega (arith, range7 N S))
+    ∙ holds-here 6 _ _ _ _ (range6 N S Q) (past _ (a .sixth (omega arith))) (omega (arith, range6 N S Q))
+    ∙ holds-here 5 _ _ _ _ (range5 N S Q) (past _ (a .fifth (omega arith))) (omega (arith, range5 N S Q))
+    ∙ holds-here 4 _ _ _ _ (range4 N S) (past _ (a .fourth (omega arith))) (omega (arith, range4 N S))

@@ -76,10 +76,11 @@ fn whole_outcome(plan: &[u8], hp: Header, slice: &[u8], hs: Header, criterion: &
     if p < hp.places {
         return Outcome::OtherMarking(p as u16);
     }
-    if agreeing(plan, hp, slice, hs, criterion) {
+    let doubt = agreeing(plan, hp, slice, hs, criterion);
+    if 8 < doubt {
         return Outcome::Accepted;
     }
-    sized(plan, hp, slice, hs, criterion)
+    sized(doubt, plan, hp, slice, hs, criterion)
 }
 
 // The verdict for a plan, a slice and a criterion, none of them turned back.

@@ -1,4 +1,4 @@
--- Rules that no number breaks.
+-- What is known of the rules 4 to 8 before they are looked at one by one.
 use Prim.Native.Nat.{ℕ, _<_}
 use mathlib.Core.Bool.{false}
 use mathlib.Core.List.{List}
@@ -11,10 +11,10 @@ use Rattle.net.specs.Checker.{Rule, breaks, rule4, rule5, rule6, rule7, rule8}
 pub record Unbroken (R : Rule) : Type 0 where
   pub at : (n : ℕ) → n < R .range → breaks R n ≡ false
 
--- the rules 4 to 8 hold
-pub record Agreed (N : Net) (S : Slice) (Q : List ℕ) : Type 0 where
-  pub fourth : Unbroken (rule4 N S)
-  pub fifth : Unbroken (rule5 N S Q)
-  pub sixth : Unbroken (rule6 N S Q)
-  pub seventh : Unbroken (rule7 N S)
-  pub eighth : Unbroken (rule8 N S)
+-- of the rules 4 to 8, those that come before rule d hold
+pub record Agreed (d : ℕ) (N : Net) (S : Slice) (Q : List ℕ) : Type 0 where
+  pub fourth : 4 < d → Unbroken (rule4 N S)
+  pub fifth : 5 < d → Unbroken (rule5 N S Q)
+  pub sixth : 6 < d → Unbroken (rule6 N S Q)
+  pub seventh : 7 < d → Unbroken (rule7 N S)
+  pub eighth : 8 < d → Unbroken (rule8 N S)

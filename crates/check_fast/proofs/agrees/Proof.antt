@@ -1,11 +1,9 @@
 use borrow.Author.Tests.{not-false}
-use Rattle.check_fast.specs.Pass.{Ready}
 use Rattle.check_fast.proofs.Filling.{criterion-reached, ready}
-use Rattle.check_fast.proofs.Holding.{agreed}
+use Rattle.check_fast.proofs.Holding.{nothing-known, passed-agreed}
 use native.Mathlib.Omega.{arith}
 use Rattle.rules_origins.proofs.Reached.{place-origins, transition-origins}
-use mathlib.Core.Path.{refl}
-use Rattle.check_fast.proofs.Ends.{apart}
+use Rattle.check_fast.specs.Pass.{Ready}
 use borrow.Author.Needs.{needs}
 use Rattle.check_fast.proofs.agrees.Statement.{statement}
 use Rattle.check_fast.proofs.agrees.Tie as tie
@@ -65,7 +63,7 @@ same-length-2 : tie.Need-same-length-2
 same-length-2 c = search needs
 
 returns : tie.Need-returns
-returns c = λ e. apart e refl
+returns c = nothing-known _ _ _ _ (omega arith)
 
 mark-requires : tie.Need-mark-requires
 mark-requires c κs =
@@ -83,7 +81,7 @@ same-length-4 : tie.Need-same-length-4
 same-length-4 c = search needs
 
 returns-2 : tie.Need-returns-2
-returns-2 c = λ e. agreed _ _ _ _ _ (c .pass .ensures e) (ready-at (c .before .before .before .before .before) .criterion)
+returns-2 c = passed-agreed _ _ _ _ _ _ (c .pass .ensures) (ready-at (c .before .before .before .before .before) .criterion)
 
 pub agrees-spec : {M : Type 1} → statement M
 agrees-spec =

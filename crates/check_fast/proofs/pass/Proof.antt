@@ -1,81 +1,90 @@
+use Prim.Native.Nat.{_-_}
 use mathlib.Core.Bool.{_&&_}
+use mathlib.Core.Path.{sym, _∙_}
 use lib.Dec.{eqb, eqb→eq}
+use native.Mathlib.Omega.{arith}
 use Rattle.net.proofs.Numbers.{holds, is-true, and-left, and-right}
-use mathlib.Core.Path.{refl, sym, _∙_}
 use Rattle.check_fast.specs.Pass.{Walked}
-use Rattle.check_fast.proofs.Ends.{apart}
-use Rattle.check_fast.proofs.Walking.{walked-start, walked-past, walked-end}
+use Rattle.check_fast.proofs.Walking.{walked-start, walked-doubt, walked-past, walked-end, settled-less}
 use borrow.Author.Needs.{needs}
-use borrow.Author.Tests.{not-false}
 use Rattle.check_fast.proofs.pass.Statement.{statement}
 use Rattle.check_fast.proofs.pass.Tie as tie
 
 abbrev Inv-loop : tie.InvT-loop
-Inv-loop plan hp slice hs criterion places transitions at₀ looks₀ at looks = Walked plan hp slice hs criterion (at .arc) (at .own) (at .differs)
+Inv-loop plan hp slice hs criterion places transitions at₀ looks₀ at looks = Walked plan hp slice hs criterion (at .arc) (at .own) (at .differs) (at .doubt)
 
 abbrev μ-loop : tie.MeasureT-loop
-μ-loop plan hp slice hs criterion places transitions at₀ looks₀ at looks = looks
+μ-loop plan hp slice hs criterion places transitions at₀ looks₀ at looks = hp .arcs - at .arc
 
--- ---- the states: the call, the head of a turn, its arc looked at
+abbrev start-of : tie.At-loop Inv-loop μ-loop → tie.Start Inv-loop μ-loop
+start-of c = c .before .before .before .before .before .before .before
 
-abbrev call : tie.At-loop Inv-loop μ-loop → tie.Start Inv-loop μ-loop
-call c = c .before .before .before .before .before .before .before
+-- from where an arc is looked at, back to the loop
+abbrev inside : tie.After-look Inv-loop μ-loop → tie.Then1 Inv-loop μ-loop
+inside c = c .before .before .before .before
 
-abbrev loop-of : tie.Then1 Inv-loop μ-loop → tie.At-loop Inv-loop μ-loop
-loop-of c = c .before .before .before
+abbrev loop-at : tie.Then1 Inv-loop μ-loop → tie.At-loop Inv-loop μ-loop
+loop-at c = c .before .before .before
 
-abbrev turn-of : tie.Else3 Inv-loop μ-loop → tie.Then1 Inv-loop μ-loop
-turn-of c = c .before .before .before .before
+-- from where all arcs are gone through, back to the loop
+abbrev ended : tie.After-quiet Inv-loop μ-loop → tie.At-loop Inv-loop μ-loop
+ended c = c .before .before .before .before
 
 stretch-requires : tie.Need-stretch-requires Inv-loop μ-loop
 stretch-requires c κs = (c .before .before .before .before .before .pre, walked-start _ _ _ _ _)
 
 loop-holds : tie.Need-loop-holds Inv-loop μ-loop
-loop-holds c = c .stretch .ensures
+loop-holds c = c .stretch .ensures .0
 
 returns : tie.Need-returns Inv-loop μ-loop
-returns c = λ e. apart e refl
+returns c = λ h. absurd (omega arith)
+
+look-requires : tie.Need-look-requires Inv-loop μ-loop
+look-requires c κs = let from = c .before .before .before in (start-of (loop-at from) .pre, from .if1 .taken)
 
 returns-2 : tie.Need-returns-2 Inv-loop μ-loop
-returns-2 c = λ e. apart e refl
-
-settled-requires : tie.Need-settled-requires Inv-loop μ-loop
-settled-requires c κs = let t = turn-of c in (call (loop-of t) .pre, t .if1 .taken)
-
-returns-3 : tie.Need-returns-3 Inv-loop μ-loop
-returns-3 c = λ e. apart e refl
+returns-2 c = λ h. absurd (omega arith)
 
 add-t15 : tie.Need-add-t15 Inv-loop μ-loop
 add-t15 c = search needs
 
+lower-requires : tie.Need-lower-requires Inv-loop μ-loop
+lower-requires c κs = search needs
+
 stretch-requires-2 : tie.Need-stretch-requires-2 Inv-loop μ-loop
 stretch-requires-2 c κs =
-    let looked = c .before .before in
-    let t = turn-of (looked .before) in
-    let l = loop-of t in
-    (call l .pre, walked-past _ _ _ _ _ _ _ _ (l .loop .inv) (t .if1 .taken) (looked .settled .ensures (not-false _ (c .before .if4 .left))))
+    let looked = c .before .before .before in
+    let from = inside looked in
+    let at = loop-at from in
+    let low = c .lower .ensures in
+    let settled = looked .look .ensures (omega (arith, c .before .before .if3 .left)) in
+    (start-of at .pre, walked-past _ _ _ _ _ _ _ _ _ (walked-doubt _ _ _ _ _ _ _ _ _ (at .loop .inv) _ (low .0)) (from .if1 .taken) (settled-less _ _ _ _ _ _ _ _ (low .1) settled))
 
-sub-looks : tie.Need-sub-looks Inv-loop μ-loop
-sub-looks c = search needs
+fewer-requires : tie.Need-fewer-requires Inv-loop μ-loop
+fewer-requires c κs = search needs
 
 loop-less : tie.Need-loop-less Inv-loop μ-loop
-loop-less c = search needs
+loop-less c =
+    let from = inside (c .before .before .before .before .before) in
+    omega (arith, c .before .stretch2 .ensures .1, from .if1 .taken)
 
 loop-again : tie.Need-loop-again Inv-loop μ-loop
-loop-again c = c .stretch2 .ensures
+loop-again c = c .before .stretch2 .ensures .0
 
 quiet-requires : tie.Need-quiet-requires Inv-loop μ-loop
 quiet-requires c κs = search needs
 
+returns-3 : tie.Need-returns-3 Inv-loop μ-loop
+returns-3 c = λ g.
+    let calmed = c .before .before .before in
+    let at = ended calmed in
+    let calm = calmed .quiet .result in
+    let all = eqb (at .loop .at .own) (start-of at .args .hs .arcs) in
+    let h = holds (calm && all) (c .if4 .taken) in
+    walked-end _ _ _ _ _ _ _ _ _ (at .loop .inv) (calmed .before .if1 .left) (eqb→eq _ _ (and-right calm all h)) (sym (calmed .quiet .ensures) ∙ is-true calm (and-left calm all h))
+
 returns-4 : tie.Need-returns-4 Inv-loop μ-loop
-returns-4 c = λ e.
-    let quiet = c .before .before .quiet in
-    let ended = c .before .before .before in
-    let l = ended .before .before .before in
-    let own = l .loop .at .own in
-    let arcs = call l .args .hs .arcs in
-    let h = holds (quiet .result && eqb own arcs) e in
-    walked-end _ _ _ _ _ _ _ _ (l .loop .inv) (ended .if1 .left) (eqb→eq _ _ (and-right (quiet .result) (eqb own arcs) h)) (sym (quiet .ensures) ∙ is-true (quiet .result) (and-left (quiet .result) (eqb own arcs) h))
+returns-4 c = λ h. absurd (omega arith)
 
 pub pass-spec : {M : Type 1} → statement M
 pass-spec =
@@ -86,13 +95,14 @@ pass-spec =
     stretch-requires
     loop-holds
     returns
+    look-requires
     returns-2
-    settled-requires
-    returns-3
     add-t15
+    lower-requires
     stretch-requires-2
-    sub-looks
+    fewer-requires
     loop-less
     loop-again
     quiet-requires
+    returns-3
     returns-4)

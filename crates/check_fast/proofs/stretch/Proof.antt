@@ -1,4 +1,4 @@
-use Prim.Native.Nat.{ℕ, _+_, _-_}
+use Prim.Native.Nat.{ℕ, _+_, _-_, _≤_}
 use mathlib.Core.Path.{sym, ap, _∙_}
 use lib.Bits.{bitOr}
 use Rattle.check_fast.specs.Pass.{keptOf, Walked}
@@ -9,27 +9,23 @@ use Rattle.check_fast.proofs.stretch.Statement.{statement}
 use Rattle.check_fast.proofs.stretch.Tie as tie
 
 abbrev Inv-loop : tie.InvT-loop
-Inv-loop plan hp slice hs criterion places transitions start first j₀ k₀ differs₀ j k differs = Walked plan hp slice hs criterion j k differs
+Inv-loop plan hp slice hs criterion places transitions start first doubt j₀ k₀ differs₀ j k differs = Walked plan hp slice hs criterion j k differs doubt × (j₀ ≤ j)
 
 abbrev μ-loop : tie.MeasureT-loop
-μ-loop plan hp slice hs criterion places transitions start first j₀ k₀ differs₀ j k differs = hp .arcs - j
+μ-loop plan hp slice hs criterion places transitions start first doubt j₀ k₀ differs₀ j k differs = hp .arcs - j
 
--- ---- the states: the call, the head of a turn, an arc left, its word read
+-- from where an arc is gone through, back to where it was read, and to the loop
+abbrev joined-at : tie.After-step Inv-loop μ-loop → tie.After-joined Inv-loop μ-loop
+joined-at c = c .before .before .before .before .before
 
-abbrev call : tie.At-loop Inv-loop μ-loop → tie.Start Inv-loop μ-loop
-call c = c .before .before .before .before .before .before
+abbrev loop-at : tie.After-word Inv-loop μ-loop → tie.At-loop Inv-loop μ-loop
+loop-at c = c .before .before .before .before .before
 
-abbrev loop-of : tie.Then1 Inv-loop μ-loop → tie.At-loop Inv-loop μ-loop
-loop-of c = c .before .before
-
-abbrev turn-of : tie.After-word Inv-loop μ-loop → tie.Then1 Inv-loop μ-loop
-turn-of c = c .before .before .before
-
-abbrev word-of : tie.After-step Inv-loop μ-loop → tie.After-word Inv-loop μ-loop
-word-of c = c .before .before .before .before .before .before
+abbrev start-of : tie.At-loop Inv-loop μ-loop → tie.Start Inv-loop μ-loop
+start-of c = c .before .before .before .before .before .before
 
 loop-holds : tie.Need-loop-holds Inv-loop μ-loop
-loop-holds c = c .before .before .before .before .before .pre .1
+loop-holds c = (c .before .before .before .before .before .pre .1, omega arith)
 
 returns : tie.Need-returns Inv-loop μ-loop
 returns c = c .before .before .before .before .loop .inv
@@ -45,15 +41,14 @@ word-requires c κs = search needs
 
 joined-requires : tie.Need-joined-requires Inv-loop μ-loop
 joined-requires c κs =
-    let t = turn-of c in
-    let f = joined-fits _ _ _ _ _ _ _ (call (loop-of t) .pre .0) _ (t .if1 .taken) _ (c .word .ensures) (omega arith) in
+    let f = joined-fits _ _ _ _ _ _ _ (start-of (loop-at c) .pre .0) _ (c .before .before .before .if1 .taken) _ (c .word .ensures) (omega arith) in
     ((f .0, f .1), f .2)
 
-odd-requires : tie.Need-odd-requires Inv-loop μ-loop
-odd-requires c κs = search needs
+pauses-requires : tie.Need-pauses-requires Inv-loop μ-loop
+pauses-requires c κs = search needs
 
 returns-2 : tie.Need-returns-2 Inv-loop μ-loop
-returns-2 c = c .before .before .before .before .before .before .before .before .loop .inv
+returns-2 c = loop-at (c .before .before .before) .loop .inv
 
 mul-word-2 : tie.Need-mul-word-2 Inv-loop μ-loop
 mul-word-2 c = search needs
@@ -72,9 +67,8 @@ step-requires c κs = search needs
 
 add-k : tie.Need-add-k Inv-loop μ-loop
 add-k c =
-    let l = loop-of (turn-of (word-of c)) in
-    let z = c .before .before .before .before .before .joined .result in
-    omega (arith, c .step .ensures, counted-one (keptOf z), l .loop .inv .behind, l .loop .inv .within, call l .pre .0 .planned .placed .arcs)
+    let at = loop-at (joined-at c .before) in
+    omega (arith, c .step .ensures, counted-one (keptOf (joined-at c .joined .result)), at .loop .inv .0 .behind, at .loop .inv .0 .within, start-of at .pre .0 .planned .placed .arcs)
 
 add-j : tie.Need-add-j Inv-loop μ-loop
 add-j c = search needs
@@ -84,14 +78,14 @@ loop-less c = search needs
 
 loop-again : tie.Need-loop-again Inv-loop μ-loop
 loop-again c =
-    let w = word-of c in
-    let t = turn-of w in
-    let l = loop-of t in
-    let even = c .before .before .before in
-    let odd = even .before in
-    let own = c .before .before .word2 in
-    walked-next _ _ _ _ _ _ _ (call l .pre .0) _ (t .if1 .taken) _ (w .word .ensures) (omega arith) _ _ (l .loop .inv) _ (odd .before .joined .ensures) (sym (odd .odd .ensures) ∙ even .if3 .left)
-    _ (own .ensures) _ (ap (bitOr (l .loop .differs)) (c .before .unlike .ensures)) _ (ap (λ (n : ℕ). l .loop .k + n) (c .step .ensures))
+    let sum = joined-at c in
+    let read = sum .before in
+    let at = loop-at read in
+    let paused = c .before .before .before in (
+      walked-next _ _ _ _ _ _ _ (start-of at .pre .0) _ (read .before .before .before .if1 .taken) _ (read .word .ensures) (omega arith) _ _ _ (at .loop .inv .0) _ (sum .joined .ensures)
+          (sym (paused .before .pauses .ensures) ∙ paused .if3 .left) _ (c .before .before .word2 .ensures) _ (ap (bitOr (at .loop .differs)) (c .before .unlike .ensures)) _ (ap (λ (n : ℕ). at .loop .k + n) (c .step .ensures)),
+      omega (arith, at .loop .inv .1),
+    )
 
 returns-3 : tie.Need-returns-3 Inv-loop μ-loop
 returns-3 c = c .before .before .loop .inv
@@ -108,7 +102,7 @@ stretch-spec =
     add-word
     word-requires
     joined-requires
-    odd-requires
+    pauses-requires
     returns-2
     mul-word-2
     add-word-2

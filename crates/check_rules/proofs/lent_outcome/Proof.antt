@@ -1,43 +1,42 @@
 use borrow.Author.Needs.{needs}
 use native.Mathlib.Omega.{arith}
+use Rattle.arcs_starts.proofs.Reached.{tabled}
 use Rattle.check_rules.proofs.lent_outcome.Statement.{statement}
 use Rattle.check_rules.proofs.lent_outcome.Tie as tie
 
--- ---- the states: the starts filled, the own numbers filled
-
-abbrev call : tie.After-fill-starts → tie.Start
-call c =
-    let lent = c .before .before .before .before in
+abbrev start : tie.After-starts-arg → tie.Start
+start c =
+    let lent = c .before .before in
     lent .before .before .before .before .before .before .before .before
-
-abbrev starts-of : tie.After-fill-own → tie.After-fill-starts
-starts-of c = c .before .before .before .before .before .before .before
 
 abbrev filled : tie.After-links-outcome-arg → tie.After-fill-own
 filled c = c .before .before .before .before .before
 
-fill-starts-requires : tie.Need-fill-starts-requires
-fill-starts-requires c κs = search needs
+abbrev starts-at : tie.After-fill-own → tie.After-starts
+starts-at c = c .before .before .before .before .before
+
+starts-requires : tie.Need-starts-requires
+starts-requires c κs = let pre = start c .pre in tabled _ _ _ (pre .0 .planned) (pre .1 .1 .0 .starts)
 
 fill-own-requires : tie.Need-fill-own-requires
-fill-own-requires c κs = search needs
+fill-own-requires c κs = let pre = start (c .before .before .before .before .before) .pre in (pre .0 .sliced, pre .0 .kind)
 
 links-outcome-requires : tie.Need-links-outcome-requires
 links-outcome-requires c κs =
     let numbered = filled (c .before .before .before .before .before) in
     let own = numbered .fill-own .ensures in
-    let starts = starts-of numbered .fill-starts .ensures in
-    let pre = call (starts-of numbered) .pre in (
+    let made = starts-at numbered .starts .ensures in
+    let pre = start (starts-at numbered .before) .pre in (
       record {
         planned = pre .0 .planned;
         sliced = pre .0 .sliced;
-        starts = starts .0;
+        starts = record { long = omega (arith, made .0, pre .1 .1 .0 .starts); split = made .1 };
         places = own .places;
         transitions = own .transitions;
-        placesReached = omega (arith, own .long-p, pre .1 .0 .places);
-        transitionsReached = omega (arith, own .long-t, pre .1 .0 .transitions);
+        placesReached = omega (arith, own .long-p, pre .1 .1 .0 .places);
+        transitionsReached = omega (arith, own .long-t, pre .1 .1 .0 .transitions);
       },
-      (starts .1, (pre .0 .criterion, (pre .1 .1 .0, pre .1 .1 .1))),
+      (pre .1 .1 .0 .runs-start, (pre .0 .criterion, (pre .1 .1 .1 .0, (pre .1 .1 .1 .1, pre .1 .0)))),
     )
 
 same-length : tie.Need-same-length
@@ -65,7 +64,7 @@ pub lent-outcome-spec : {M : Type 1} → statement M
 lent-outcome-spec =
     tie.close
     (tie.spec
-    fill-starts-requires
+    starts-requires
     fill-own-requires
     links-outcome-requires
     same-length

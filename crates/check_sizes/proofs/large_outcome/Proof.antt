@@ -26,18 +26,22 @@ slice-aggregate-lent-outcome-6 c = search needs
 lent-outcome-requires : tie.Need-lent-outcome-requires
 lent-outcome-requires c κs =
     let lent = c .before .before .before .before .before .before in
-    let pre = lent .before .before .before .pre in (
-      pre,
+    let pre = lent .before .before .before .pre in
+    let judged = pre .0 in (
+      judged,
       (
-        record {
-          starts = omega (arith, pre .planned .placed .transitions);
-          runs-start = omega (arith, pre .sliced .placed .transitions);
-          places = pre .planned .placed .places;
-          transitions = pre .planned .placed .transitions;
-        },
+        pre .1,
         (
-          record { reached = pre .planned .placed .places; rest = λ p l. getD-replicate 1024 p 1073741824 0 l },
-          refl,
+          record {
+            starts = omega (arith, judged .planned .placed .transitions);
+            runs-start = omega (arith, judged .sliced .placed .transitions);
+            places = judged .planned .placed .places;
+            transitions = judged .planned .placed .transitions;
+          },
+          (
+            record { reached = judged .planned .placed .places; rest = λ p l. getD-replicate 1024 p 1073741824 0 l },
+            refl,
+          ),
         ),
       ),
     )

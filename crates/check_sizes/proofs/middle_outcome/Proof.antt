@@ -26,13 +26,17 @@ slice-aggregate-lent-outcome-6 c = search needs
 lent-outcome-requires : tie.Need-lent-outcome-requires
 lent-outcome-requires c κs =
     let lent = c .before .before .before .before .before .before in
-    let pre = lent .before .before .before .pre in (
+    let pre = lent .before .before .before .pre in
+    let few = pre .1 .0 in (
       pre .0,
       (
-        record { starts = omega (arith, pre .1 .transitions); runs-start = omega (arith, pre .1 .own); places = pre .1 .places; transitions = pre .1 .transitions },
+        pre .1 .1,
         (
-          record { reached = pre .1 .places; rest = λ p l. getD-replicate 128 p 1073741824 0 l },
-          refl,
+          record { starts = omega (arith, few .transitions); runs-start = omega (arith, few .own); places = few .places; transitions = few .transitions },
+          (
+            record { reached = few .places; rest = λ p l. getD-replicate 128 p 1073741824 0 l },
+            refl,
+          ),
         ),
       ),
     )

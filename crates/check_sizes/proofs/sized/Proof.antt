@@ -6,7 +6,7 @@ within-requires : tie.Need-within-requires
 within-requires c κs = search needs
 
 middle-outcome-requires : tie.Need-middle-outcome-requires
-middle-outcome-requires c κs = (c .before .before .before .before .before .pre, c .before .within .ensures (c .if1 .taken))
+middle-outcome-requires c κs = let pre = c .before .before .before .before .before .pre in (pre .0, (c .before .within .ensures (c .if1 .taken), pre .1))
 
 returns : tie.Need-returns
 returns c = search needs

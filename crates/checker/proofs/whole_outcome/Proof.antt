@@ -56,8 +56,8 @@ known c =
 unknown-place-requires : tie.Need-unknown-place-requires
 unknown-place-requires c κs = search needs
 
-cast-t10 : tie.Need-cast-t10
-cast-t10 c = search needs
+cast-t11 : tie.Need-cast-t11
+cast-t11 c = search needs
 
 returns : tie.Need-returns
 returns c =
@@ -66,8 +66,8 @@ returns c =
 unknown-transition-requires : tie.Need-unknown-transition-requires
 unknown-transition-requires c κs = search needs
 
-cast-t11 : tie.Need-cast-t11
-cast-t11 c = search needs
+cast-t12 : tie.Need-cast-t12
+cast-t12 c = search needs
 
 returns-2 : tie.Need-returns-2
 returns-2 c =
@@ -85,8 +85,8 @@ other-marking-requires c κs =
     let all = places-known N _ (length-words _ _ _) (least _ _ _ (places .unknown-place .ensures N refl) (at .before .if1 .left)) in
     (start .pre .planned, (start .pre .sliced, (start .pre .kind, all)))
 
-cast-t12 : tie.Need-cast-t12
-cast-t12 c = search needs
+cast-t13 : tie.Need-cast-t13
+cast-t13 c = search needs
 
 returns-3 : tie.Need-returns-3
 returns-3 c =
@@ -102,10 +102,10 @@ agreeing-requires c κs = (start c .pre, known c)
 returns-4 : tie.Need-returns-4
 returns-4 c =
     let held = c .before .before in
-    agreed-told _ _ _ (no-caps (now (start held .args .plan)) (start held .args .hp)) (c .before .agreeing .ensures (c .if4 .taken)) ∙ first-three held
+    agreed-told _ _ _ (no-caps (now (start held .args .plan)) (start held .args .hp)) _ (c .if4 .taken) (c .before .agreeing .ensures) ∙ first-three held
 
 sized-requires : tie.Need-sized-requires
-sized-requires c κs = search needs
+sized-requires c κs = (start (c .before .before) .pre, c .before .agreeing .ensures)
 
 returns-5 : tie.Need-returns-5
 returns-5 c = c .sized .ensures ∙ first-three (c .before .before .before)
@@ -115,13 +115,13 @@ whole-outcome-spec =
     tie.close
     (tie.spec
     unknown-place-requires
-    cast-t10
+    cast-t11
     returns
     unknown-transition-requires
-    cast-t11
+    cast-t12
     returns-2
     other-marking-requires
-    cast-t12
+    cast-t13
     returns-3
     agreeing-requires
     returns-4
