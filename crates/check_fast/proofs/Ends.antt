@@ -1,6 +1,6 @@
 -- An arc of the plan by what is kept of its ends, as its sum tells it.
 use Prim.Native.Nat.{ℕ, _+_, _-_, _*_, _/_, _%_, _≤_, _<_}
-use mathlib.Core.Path.{_≡_, refl, ap, _∙_}
+use mathlib.Core.Path.{_≡_, refl, sym, ap, _∙_}
 use mathlib.Core.Bool.{Bool, true, false, _&&_}
 use mathlib.Core.List.{List}
 use native.Mathlib.Omega.{arith}
@@ -9,13 +9,15 @@ use lib.ListN.{getD}
 use Rattle.net.specs.Numbers.{among, position}
 use Rattle.net.specs.Net.{Net}
 use Rattle.net.specs.Slice.{renumber}
+use Rattle.net.specs.declared.Arc.{Arc}
 use Rattle.net.proofs.Numbers.{by-cases, holds, position-lt}
 use Rattle.file.specs.Layout.{sliceFrom}
 use Rattle.file.specs.Facts.{ArcGood, arcOf}
 use Rattle.file.specs.declared.Header.{Header}
 use Rattle.file.proofs.Rows.{length-words}
+use Rattle.file.proofs.Words.{field-transition, field-direction, field-place, field-weight}
 use Rattle.check_fast.specs.Entries.{leftPlace, leftTransition, numbered, flagged, marked}
-use Rattle.check_fast.specs.Pass.{Ready, joinedOf, keptOf, oddOf, Fine}
+use Rattle.check_fast.specs.Pass.{Ready, joinedOf, keptOf, oddOf, dueOf, Fine}
 use Rattle.check_fast.proofs.Sums.{Flags, flags-at, below, few-flags, many-flags, even-flags, Alike, own-is}
 
 numbered-in : (unit : ℕ) (os : List ℕ) (rest x : ℕ) → among x os ≡ true → numbered unit os rest x ≡ unit * (1024 + position x os - x)
@@ -85,10 +87,10 @@ module _ (t d s p g v u z : ℕ) (sum : z ≡ t + 65536 * d + 16777216 * s + 429
   flags-neither e f = record { least-t = omega arith; small-t = omega arith; small-f = omega arith; small-s = sl; least-p = omega arith; small-p = omega arith; small-g = gl; sum = omega arith }
 
 module _ (plan : List ℕ) (hp : Header) (slice : List ℕ) (hs : Header) (Q places transitions : List ℕ) (r : Ready plan hp slice hs Q places transitions) (w : ℕ) (wl : w < 18446744073709551616) (good : ArcGood (hp .places) (hp .transitions) (arcOf w)) where
-  own-place : among (arcOf w .place) (sliceFrom slice hs .placeOrigins) ≡ true → position (arcOf w .place) (sliceFrom slice hs .placeOrigins) < 1024
+  pub own-place : among (arcOf w .place) (sliceFrom slice hs .placeOrigins) ≡ true → position (arcOf w .place) (sliceFrom slice hs .placeOrigins) < 1024
   own-place e = omega (arith, position-lt _ _ (holds _ e), length-words slice (hs .originstart) (hs .places), r .sliced .placed .places)
 
-  own-transition : among (arcOf w .transition) (sliceFrom slice hs .transitionOrigins) ≡ true → position (arcOf w .transition) (sliceFrom slice hs .transitionOrigins) < 1024
+  pub own-transition : among (arcOf w .transition) (sliceFrom slice hs .transitionOrigins) ≡ true → position (arcOf w .transition) (sliceFrom slice hs .transitionOrigins) < 1024
   own-transition e = omega (arith, position-lt _ _ (holds _ e), length-words slice (hs .originstart + 2 * hs .places) (hs .transitions), r .sliced .placed .transitions)
 
   module _ (z : ℕ) (is : z ≡ joinedOf w places transitions) where
@@ -211,3 +213,60 @@ module _ {ps ts Q : List ℕ} {w z : ℕ} (dl : arcOf w .direction ≤ 1) where
   changing (at-asked kp kt kq x) e f = kt
   changing (at-transition kp kt x) e f = absurd (omega (arith, flags-at x))
   changing (neither kp kt kq x) e f = kt
+
+-- ---- the arc due, as one word
+
+-- a sum of two ends that are kept: its own numbers are 1024 more each, and it may have the criterion's mark
+module _ (t p g d q z : ℕ) (sum : z ≡ t + 65536 * (d + 2 * q) + 4294967296 * p + 281474976710656 * g) (dl : d ≤ 1) (ql : q ≤ 1) (tl : 1024 ≤ t) (th : t < 2048) (pl : 1024 ≤ p) (ph : p < 2048) where
+  mark-at : z / 131072 % 2 ≡ q
+  mark-at = let e : z ≡ t + 65536 * d + 131072 * (q + 2 * (16384 * p + 1073741824 * g)) = omega arith in by-mark z (t + 65536 * d) q (16384 * p + 1073741824 * g) e (omega arith) ql
+    where
+      by-mark : (z u q m : ℕ) → z ≡ u + 131072 * (q + 2 * m) → u < 131072 → q ≤ 1 → z / 131072 % 2 ≡ q
+      by-mark z u q m e l h = omega arith
+
+  due-low : 4398046512128 + z / 131072 % 2 * 131072 ≤ z
+  due-low = omega (arith, mark-at)
+
+  due-parts : dueOf z ≡ (t - 1024) + 65536 * d + 16777216 * 0 + 4294967296 * (p - 1024) + 281474976710656 * g
+  due-parts = omega (arith, mark-at)
+
+module _ {ps ts Q : List ℕ} {w z : ℕ} (dl : arcOf w .direction ≤ 1) (plain : spare w ≡ 0) where
+  pub due-fits : Ends ps ts Q w z → keptOf z ≡ true → 4398046512128 + z / 131072 % 2 * 131072 ≤ z
+  due-fits (both q ql kp kt x) k = due-low _ _ (arcOf w .weight) (arcOf w .direction) q z (omega (arith, x .sum, plain)) dl ql (x .least-t) (x .small-t) (x .least-p) (x .small-p)
+  due-fits (at-place kp kt kq x) k = absurd (omega (arith, few-flags x k .0))
+  due-fits (at-asked kp kt kq x) k = absurd (omega (arith, few-flags x k .0))
+  due-fits (at-transition kp kt x) k = absurd (omega (arith, few-flags x k .0))
+  due-fits (neither kp kt kq x) k = absurd (omega (arith, few-flags x k .0))
+
+  -- the word of the arc due
+  pub due-word : Ends ps ts Q w z → keptOf z ≡ true → dueOf z ≡ position (arcOf w .transition) ts + 65536 * arcOf w .direction + 16777216 * 0 + 4294967296 * position (arcOf w .place) ps + 281474976710656 * arcOf w .weight
+  due-word (both q ql kp kt x) k = omega (arith, due-parts _ _ (arcOf w .weight) (arcOf w .direction) q z (omega (arith, x .sum, plain)) dl ql (x .least-t) (x .small-t) (x .least-p) (x .small-p))
+  due-word (at-place kp kt kq x) k = absurd (omega (arith, few-flags x k .0))
+  due-word (at-asked kp kt kq x) k = absurd (omega (arith, few-flags x k .0))
+  due-word (at-transition kp kt x) k = absurd (omega (arith, few-flags x k .0))
+  due-word (neither kp kt kq x) k = absurd (omega (arith, few-flags x k .0))
+
+  module _ (z-ends : Ends ps ts Q w z) (k : keptOf z ≡ true) (tl : position (arcOf w .transition) ts < 65536) (pl : position (arcOf w .place) ps < 65536) (wl : arcOf w .weight < 65536) (v : ℕ) where
+    -- equal words, equal arcs
+    pub word-arc : v ≡ dueOf z → arcOf v ≡ renumber ps ts (arcOf w)
+    unfolding renumber
+    word-arc e =
+        let f = e ∙ due-word z-ends k in
+        λ i. record {
+          transition = field-transition v _ _ 0 _ _ f tl (omega arith) (omega arith) pl wl i;
+          direction = field-direction v _ _ 0 _ _ f tl (omega arith) (omega arith) pl wl i;
+          place = field-place v _ _ 0 _ _ f tl (omega arith) (omega arith) pl wl i;
+          weight = field-weight v _ _ 0 _ _ f tl (omega arith) (omega arith) pl wl i;
+        }
+
+    pub arc-word : spare v ≡ 0 → arcOf v ≡ renumber ps ts (arcOf w) → v ≡ dueOf z
+    unfolding renumber
+    arc-word n e =
+        let a = ap (λ (a : Arc). a .transition) e in
+        let b = ap (λ (a : Arc). a .direction) e in
+        let c = ap (λ (a : Arc). a .place) e in
+        let g = ap (λ (a : Arc). a .weight) e in
+        whole v ∙ by-fields a b n c g ∙ sym (due-word z-ends k)
+      where
+        by-fields : {t t′ d d′ s p p′ g g′ : ℕ} → t ≡ t′ → d ≡ d′ → s ≡ 0 → p ≡ p′ → g ≡ g′ → t + 65536 * d + 16777216 * s + 4294967296 * p + 281474976710656 * g ≡ t′ + 65536 * d′ + 16777216 * 0 + 4294967296 * p′ + 281474976710656 * g′
+        by-fields a b n c g = omega arith

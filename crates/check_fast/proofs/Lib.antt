@@ -5,3 +5,5 @@ pub mod Walking
 pub mod Settling
 pub mod Filling
 pub mod Holding
+pub mod Parting
+pub mod Meeting

@@ -174,6 +174,12 @@ zero-byte w b e l = let one : w / 65536 / 256 ≡ w / 16777216 = div-div-eq-div-
     low : (a c b : ℕ) → a / 256 ≡ c → a % 65536 ≡ b → b < 256 → c % 256 ≡ 0
     low a c b e f l = omega arith
 
+-- the zero byte of an arc
+pub plain-word : (s : List ℕ) (h : Header) → Sound s h → (k : ℕ) → k < h .arcs → (v : ℕ) → ArcWord s (h .arcstart + 8 * k) v → spare v ≡ 0
+plain-word s h so k l v its =
+    let g = range-at (h .places) (h .transitions) s (h .arcstart) (h .arcs) k (so .arcs) l in
+    zero-byte v (byteAt s (h .arcstart + 8 * k + 2)) (omega (arith, its .middle, so .zeros k l)) (omega (arith, g .direction))
+
 -- an arc of the slice has small numbers
 slice-word : (slice : List ℕ) (hs : Header) → Sound slice hs → (k : ℕ) → k < hs .arcs → (own : ℕ) → ArcWord slice (hs .arcstart + 8 * k) own → ArcGood 1024 1024 (arcOf own)
 slice-word slice hs so k l own its =
@@ -192,11 +198,15 @@ module _ (plan : List ℕ) (hp : Header) (slice : List ℕ) (hs : Header) (Q pla
 
   -- its zero byte
   pub plain : spare w ≡ 0
-  plain = zero-byte w (byteAt plan (hp .arcstart + 8 * j + 2)) (omega (arith, is .middle, r .planned .zeros j l)) (omega (arith, ap (λ (a : Arc). a .direction) (is .arc), good-word .direction))
+  plain = plain-word plan hp (r .planned) j l w is
 
   -- an end is left out
   pub left-out-here : (z : ℕ) → z ≡ joinedOf w places transitions → keptOf z ≡ false → (among (arcAt plan (hp .arcstart + 8 * j) .place) (sliceFrom slice hs .placeOrigins) && among (arcAt plan (hp .arcstart + 8 * j) .transition) (sliceFrom slice hs .transitionOrigins)) ≡ false
   left-out-here z sum e = subst (λ (a : Arc). (among (a .place) (sliceFrom slice hs .placeOrigins) && among (a .transition) (sliceFrom slice hs .transitionOrigins)) ≡ false) (is .arc) (end-out (good-word .direction) (word-ends z sum) plain e)
+
+  -- both are kept
+  pub kept-here : (z : ℕ) → z ≡ joinedOf w places transitions → keptOf z ≡ true → (among (arcAt plan (hp .arcstart + 8 * j) .place) (sliceFrom slice hs .placeOrigins) && among (arcAt plan (hp .arcstart + 8 * j) .transition) (sliceFrom slice hs .transitionOrigins)) ≡ true
+  kept-here z sum e = subst (λ (a : Arc). (among (a .place) (sliceFrom slice hs .placeOrigins) && among (a .transition) (sliceFrom slice hs .transitionOrigins)) ≡ true) (is .arc) (ends-kept (good-word .direction) (word-ends z sum) e)
 
   module _ (k differs d : ℕ) (x : Walked plan hp slice hs Q j k differs d) (z : ℕ) (sum : z ≡ joinedOf w places transitions) (even : (oddOf z && ltb 6 d) ≡ false) where
     fine-here : Fine (netFrom plan hp) (sliceFrom slice hs .placeOrigins) (sliceFrom slice hs .transitionOrigins) Q d (arcAt plan (hp .arcstart + 8 * j))
@@ -225,7 +235,7 @@ module _ (plan : List ℕ) (hp : Header) (slice : List ℕ) (hs : Header) (Q pla
             let calm : quietOf n ≡ true → Quiet (bitOr differs (bitXor z own)) = λ q. subst Quiet a (quiet-is n q) in
             rw b (by-cases (ltb k (hs .arcs))
             (λ h. walked-on plan hp slice hs Q j k differs d x l (ltb-true _ _ h) fine-here
-            (subst (λ (a : Arc). (among (a .place) (sliceFrom slice hs .placeOrigins) && among (a .transition) (sliceFrom slice hs .transitionOrigins)) ≡ true) (is .arc) (ends-kept (good-word .direction) (word-ends z sum) e))
+            (kept-here z sum e)
             n (λ q. is-quiet differs (quiet-left differs _ (calm q)))
             (λ q. sym (its .arc)
             ∙ due-arc (good-word .direction) (word-ends z sum) e own (slice-word slice hs (r .sliced) k (ltb-true _ _ h) own its) (like z own (quiet-right differs _ (calm q)))

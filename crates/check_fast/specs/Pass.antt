@@ -10,7 +10,7 @@ use Rattle.net.specs.Net.{Net, changes, raises}
 use Rattle.net.specs.Slice.{Slice, restrict}
 use Rattle.net.specs.declared.Arc.{Arc}
 use Rattle.file.specs.Layout.{arcAt, arcsFrom, netFrom, sliceFrom}
-use Rattle.file.specs.Facts.{Sound, arcOf}
+use Rattle.file.specs.Facts.{Sound, ArcWord, arcOf}
 use Rattle.file.specs.declared.Header.{Header}
 use Rattle.check_fast.specs.Entries.{leftPlace, leftTransition, numbered, marked, Reached}
 
@@ -32,6 +32,16 @@ joinedOf w places transitions = w + getD places (arcOf w .place) 0 + getD transi
 -- both ends of the arc are kept
 abbrev pub keptOf : ℕ → Bool
 keptOf z = ltb (z % 4294967296) 262144
+
+-- the slice's arc as one word, of an arc whose ends are kept: without the 1024 in both own numbers and the criterion's mark
+abbrev pub dueOf : ℕ → ℕ
+dueOf z = z - 4398046512128 - z / 131072 % 2 * 131072
+
+-- what comes after the slice's arc k, for an arc of the plan: k where that is left out, k + 1 where the slice has the arc due, past all arcs where not
+pub record Meets (z : ℕ) (slice : List ℕ) (hs : Header) (k r : ℕ) : Type 0 where
+  pub out : keptOf z ≡ false → r ≡ k
+  pub same : keptOf z ≡ true → r ≤ hs .arcs → (r ≡ k + 1) × (k < hs .arcs) × ArcWord slice (hs .arcstart + 8 * k) (dueOf z)
+  pub other : keptOf z ≡ true → hs .arcs < r → k < hs .arcs → (v : ℕ) × ArcWord slice (hs .arcstart + 8 * k) v × (v ≡ dueOf z → ⊥)
 
 -- the arc wants a closer look
 abbrev pub oddOf : ℕ → Bool

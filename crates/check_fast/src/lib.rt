@@ -9,20 +9,21 @@
 // place of the criterion (rule 6).
 ghost use mathlib.Core.Path.{_≡_};
 ghost use mathlib.Core.Bool.{true, _&&_};
-ghost use Prim.Native.Nat.{ℕ, _+_, _-_, _*_, _<_, _≤_};
+ghost use Prim.Native.Nat.{ℕ, _+_, _-_, _*_, _/_, _%_, _<_, _≤_};
 ghost use lib.Dec.{ltb};
 ghost use lib.ListN.{length, getD};
 ghost use lib.Bits.{bitXor};
 ghost use lib.IntN.{pos};
 ghost use lib.Signed.{leZ};
 ghost use Rattle.net.specs.Net.{counted};
+ghost use Rattle.net.specs.Checker.{breaker, rule4};
 ghost use Rattle.file.specs.Facts.{Sound, arcOf};
 ghost use Rattle.file.specs.Layout.{arcAt, wordsFrom, netFrom, sliceFrom};
 ghost use Rattle.file.specs.Criterion.{criterionRefusal};
 ghost use Rattle.numbering.specs.Own.{Origins};
 ghost use Rattle.rules_tables.specs.Agreed.{Agreed};
 ghost use Rattle.check_fast.specs.Entries.{leftPlace, Numbered, Marked, Reached};
-ghost use Rattle.check_fast.specs.Pass.{Ready, joinedOf, keptOf, oddOf, quietOf, Settled, Walked, Passed, Blank};
+ghost use Rattle.check_fast.specs.Pass.{Ready, joinedOf, keptOf, oddOf, quietOf, dueOf, Meets, Settled, Walked, Passed, Blank};
 use file::Header;
 use file::arcs::DIRECTION;
 use file::arcs::PLACE;
@@ -35,6 +36,9 @@ use tables::wide;
 pub const LEFT_PLACE: usize = 1024 * PLACE + 15 * DIRECTION;
 
 pub const LEFT_TRANSITION: usize = 1024 + 7 * DIRECTION;
+
+// What the entries put more in both own numbers of an arc whose ends are kept.
+const RAISED: usize = 1024 * PLACE + 1024;
 
 // How far the arcs are gone through: the plan's, the slice's own, the bits in which some differ, and the first rule in doubt, 9 where none is.
 pub struct Walk {
@@ -365,7 +369,88 @@ fn pass(
     4
 }
 
-// The first of the rules 4 to 8 that is in doubt; 9 where all are certainly kept. The tables start with what stands for left out.
+// The slice's arc as one word, by the sum of an arc whose ends are kept.
+fn due(z: usize) -> usize
+    requires { ⌜ 4398046512128 + z / 131072 % 2 * 131072 ≤ z ⌝ }
+    ensures { λ r. ⌜ r ≡ dueOf z ⌝ }
+{
+    z - RAISED - z / 131072 % 2 * 131072
+}
+
+// The slice's next arc after the plan's arc with the sum z: k where that is left out, k + 1 where the slice has the arc due, one past all where not.
+fn meet(z: usize, slice: &[u8], hs: Header, k: usize) -> usize
+    requires { ⌜ Sound (now slice) hs ⌝ }
+    requires { ⌜ k ≤ hs .arcs ⌝ }
+    requires { ⌜ (keptOf z ≡ true → 4398046512128 + z / 131072 % 2 * 131072 ≤ z) ⌝ }
+    ensures { λ r. ⌜ Meets z (now (slice .entry)) hs k r ⌝ }
+{
+    if !kept(z) {
+        return k;
+    }
+    if hs.arcs <= k {
+        return hs.arcs + 1;
+    }
+    if word(slice, hs.arcstart + 8 * k) == due(z) {
+        return k + 1;
+    }
+    hs.arcs + 1
+}
+
+// The plan's number of the transition of the slice's arc k; 65536 where it has no such arc.
+fn origin(slice: &[u8], hs: Header, k: usize) -> usize
+    requires { ⌜ Sound (now slice) hs ⌝ }
+    requires { ⌜ hs .kind ≡ 1 ⌝ }
+    ensures { λ r. ⌜ (k < hs .arcs → r ≡ getD (sliceFrom (now (slice .entry)) hs .transitionOrigins) (arcAt (now (slice .entry)) (hs .arcstart + 8 * k) .transition) 0) ⌝ }
+    ensures { λ r. ⌜ (hs .arcs ≤ k → r ≡ 65536) ⌝ }
+{
+    if hs.arcs <= k {
+        return 65536;
+    }
+    let w = word(slice, hs.arcstart + 8 * k);
+    get16(slice, hs.originstart + 2 * hs.places + 2 * (w % 65536))
+}
+
+fn earlier(a: usize, b: usize) -> usize
+    ensures { λ r. ⌜ (a ≤ b → r ≡ a) × (b < a → r ≡ b) ⌝ }
+{
+    if b < a { b } else { a }
+}
+
+// Rule 4 where an arc is not the one due: the lowest transition that breaks it. Past all transitions where none was found.
+fn first_other(
+    plan: &[u8],
+    hp: Header,
+    slice: &[u8],
+    hs: Header,
+    criterion: &[u16],
+    places: &[usize],
+    transitions: &[usize],
+) -> usize
+    requires { ⌜ Ready (now plan) hp (now slice) hs (now criterion) (now places) (now transitions) ⌝ }
+    ensures { λ r. ⌜ (r < hp .transitions → r ≡ breaker (rule4 (netFrom (now (plan .entry)) hp) (sliceFrom (now (slice .entry)) hs))) ⌝ }
+{
+    let start = hp.arcstart;
+    let mut j: usize = 0;
+    let mut k: usize = 0;
+    while j < hp.arcs {
+        let w = word(plan, start + 8 * j);
+        let next = meet(joined(w, places, transitions), slice, hs, k);
+        if hs.arcs < next {
+            return earlier(w % 65536, origin(slice, hs, k));
+        }
+        k = next;
+        j += 1;
+    }
+    origin(slice, hs, k)
+}
+
+// The first of the rules 4 to 8 that is in doubt, 9 where all are certainly kept; and the lowest transition that breaks rule 4, past all where none is known.
+pub struct Found {
+    pub doubt: usize,
+    pub other: usize,
+}
+
+// What one pass tells, and a second one where an arc is not the one due. The tables start with what stands for left out.
 pub fn agrees(
     plan: &[u8],
     hp: Header,
@@ -374,13 +459,14 @@ pub fn agrees(
     criterion: &[u16],
     places: &mut [usize],
     transitions: &mut [usize],
-) -> usize
+) -> Found
     requires { ⌜ Sound (now plan) hp ⌝ }
     requires { ⌜ Sound (now slice) hs ⌝ }
     requires { ⌜ hs .kind ≡ 1 ⌝ }
     requires { ⌜ criterionRefusal (hp .places) (now criterion) ≡ 0 ⌝ }
     requires { ⌜ Blank hp (sliceFrom (now slice) hs) (now places) (now transitions) ⌝ }
-    ensures { λ r. ⌜ Agreed r (netFrom (now (plan .entry)) hp) (sliceFrom (now (slice .entry)) hs) (now (criterion .entry)) ⌝ }
+    ensures { λ r. ⌜ Agreed (r .doubt) (netFrom (now (plan .entry)) hp) (sliceFrom (now (slice .entry)) hs) (now (criterion .entry)) ⌝ }
+    ensures { λ r. ⌜ (r .other < hp .transitions → r .other ≡ breaker (rule4 (netFrom (now (plan .entry)) hp) (sliceFrom (now (slice .entry)) hs))) ⌝ }
 {
     number(slice, hs.originstart, hs.places, PLACE, places);
     number(
@@ -391,8 +477,19 @@ pub fn agrees(
         transitions,
     );
     if !all_kept(criterion, places) {
-        return 4;
+        return Found {
+            doubt: 4,
+            other: hp.transitions,
+        };
     }
     mark(criterion, places);
-    pass(plan, hp, slice, hs, criterion, places, transitions)
+    let doubt = pass(plan, hp, slice, hs, criterion, places, transitions);
+    if 4 < doubt {
+        return Found {
+            doubt,
+            other: hp.transitions,
+        };
+    }
+    let other = first_other(plan, hp, slice, hs, criterion, places, transitions);
+    Found { doubt: 4, other }
 }

@@ -1,7 +1,8 @@
 // Rules 4 to 8 in tables that are not much larger than the nets.
 ghost use mathlib.Core.Path.{_≡_};
 ghost use mathlib.Core.Bool.{true};
-ghost use Rattle.net.specs.Checker.{verdictFrom};
+ghost use Prim.Native.Nat.{_<_};
+ghost use Rattle.net.specs.Checker.{breaker, verdictFrom, rule4};
 ghost use Rattle.file.specs.Layout.{netFrom, sliceFrom};
 ghost use Rattle.promise.specs.Calls.{told};
 ghost use Rattle.rules_tables.specs.Agreed.{Agreed};
@@ -9,6 +10,7 @@ ghost use Rattle.check_rules.specs.Answer.{outcomeNumbers};
 ghost use Rattle.check_rules.specs.Room.{rulesFrom4, Judged};
 ghost use Rattle.check_sizes.specs.Sizes.{KnownIn, Within};
 use arcs_column::AT_REST;
+use check_fast::Found;
 use check_fast::LEFT_PLACE;
 use check_fast::LEFT_TRANSITION;
 use check_rules::Outcome;
@@ -115,12 +117,13 @@ pub fn sized(
     large_outcome(doubt, plan, hp, slice, hs, criterion)
 }
 
-// The first of the rules 4 to 8 that is in doubt, 9 where none is, for nets of at most 16 places and 16 transitions.
-fn small_agrees(plan: &[u8], hp: Header, slice: &[u8], hs: Header, criterion: &[u16]) -> usize
+// What one pass tells of the rules 4 to 8, for nets of at most 16 places and 16 transitions.
+fn small_agrees(plan: &[u8], hp: Header, slice: &[u8], hs: Header, criterion: &[u16]) -> Found
     requires { ⌜ Judged (now plan) hp (now slice) hs (now criterion) ⌝ }
     requires { ⌜ KnownIn hp (sliceFrom (now slice) hs) ⌝ }
     requires { ⌜ Within 16 hp hs ⌝ }
-    ensures { λ r. ⌜ Agreed r (netFrom (now (plan .entry)) hp) (sliceFrom (now (slice .entry)) hs) (now (criterion .entry)) ⌝ }
+    ensures { λ r. ⌜ Agreed (r .doubt) (netFrom (now (plan .entry)) hp) (sliceFrom (now (slice .entry)) hs) (now (criterion .entry)) ⌝ }
+    ensures { λ r. ⌜ (r .other < hp .transitions → r .other ≡ breaker (rule4 (netFrom (now (plan .entry)) hp) (sliceFrom (now (slice .entry)) hs))) ⌝ }
 {
     let mut places = [LEFT_PLACE; SMALL];
     let mut transitions = [LEFT_TRANSITION; SMALL];
@@ -136,11 +139,12 @@ fn small_agrees(plan: &[u8], hp: Header, slice: &[u8], hs: Header, criterion: &[
 }
 
 // The same for at most 128 of each.
-fn middle_agrees(plan: &[u8], hp: Header, slice: &[u8], hs: Header, criterion: &[u16]) -> usize
+fn middle_agrees(plan: &[u8], hp: Header, slice: &[u8], hs: Header, criterion: &[u16]) -> Found
     requires { ⌜ Judged (now plan) hp (now slice) hs (now criterion) ⌝ }
     requires { ⌜ KnownIn hp (sliceFrom (now slice) hs) ⌝ }
     requires { ⌜ Within 128 hp hs ⌝ }
-    ensures { λ r. ⌜ Agreed r (netFrom (now (plan .entry)) hp) (sliceFrom (now (slice .entry)) hs) (now (criterion .entry)) ⌝ }
+    ensures { λ r. ⌜ Agreed (r .doubt) (netFrom (now (plan .entry)) hp) (sliceFrom (now (slice .entry)) hs) (now (criterion .entry)) ⌝ }
+    ensures { λ r. ⌜ (r .other < hp .transitions → r .other ≡ breaker (rule4 (netFrom (now (plan .entry)) hp) (sliceFrom (now (slice .entry)) hs))) ⌝ }
 {
     let mut places = [LEFT_PLACE; MIDDLE];
     let mut transitions = [LEFT_TRANSITION; MIDDLE];
@@ -156,10 +160,11 @@ fn middle_agrees(plan: &[u8], hp: Header, slice: &[u8], hs: Header, criterion: &
 }
 
 // The same for all nets.
-fn large_agrees(plan: &[u8], hp: Header, slice: &[u8], hs: Header, criterion: &[u16]) -> usize
+fn large_agrees(plan: &[u8], hp: Header, slice: &[u8], hs: Header, criterion: &[u16]) -> Found
     requires { ⌜ Judged (now plan) hp (now slice) hs (now criterion) ⌝ }
     requires { ⌜ KnownIn hp (sliceFrom (now slice) hs) ⌝ }
-    ensures { λ r. ⌜ Agreed r (netFrom (now (plan .entry)) hp) (sliceFrom (now (slice .entry)) hs) (now (criterion .entry)) ⌝ }
+    ensures { λ r. ⌜ Agreed (r .doubt) (netFrom (now (plan .entry)) hp) (sliceFrom (now (slice .entry)) hs) (now (criterion .entry)) ⌝ }
+    ensures { λ r. ⌜ (r .other < hp .transitions → r .other ≡ breaker (rule4 (netFrom (now (plan .entry)) hp) (sliceFrom (now (slice .entry)) hs))) ⌝ }
 {
     let mut places = [LEFT_PLACE; LARGE];
     let mut transitions = [LEFT_TRANSITION; LARGE];
@@ -174,11 +179,12 @@ fn large_agrees(plan: &[u8], hp: Header, slice: &[u8], hs: Header, criterion: &[
     )
 }
 
-// The first of the rules 4 to 8 that is in doubt, 9 where none is: by one pass, in tables that are not much larger than the net.
-pub fn agreeing(plan: &[u8], hp: Header, slice: &[u8], hs: Header, criterion: &[u16]) -> usize
+// What one pass tells of the rules 4 to 8, in tables that are not much larger than the net.
+pub fn agreeing(plan: &[u8], hp: Header, slice: &[u8], hs: Header, criterion: &[u16]) -> Found
     requires { ⌜ Judged (now plan) hp (now slice) hs (now criterion) ⌝ }
     requires { ⌜ KnownIn hp (sliceFrom (now slice) hs) ⌝ }
-    ensures { λ r. ⌜ Agreed r (netFrom (now (plan .entry)) hp) (sliceFrom (now (slice .entry)) hs) (now (criterion .entry)) ⌝ }
+    ensures { λ r. ⌜ Agreed (r .doubt) (netFrom (now (plan .entry)) hp) (sliceFrom (now (slice .entry)) hs) (now (criterion .entry)) ⌝ }
+    ensures { λ r. ⌜ (r .other < hp .transitions → r .other ≡ breaker (rule4 (netFrom (now (plan .entry)) hp) (sliceFrom (now (slice .entry)) hs))) ⌝ }
 {
     if within(hp, hs, SMALL) {
         return small_agrees(plan, hp, slice, hs, criterion);

@@ -76,7 +76,12 @@ fn whole_outcome(plan: &[u8], hp: Header, slice: &[u8], hs: Header, criterion: &
     if p < hp.places {
         return Outcome::OtherMarking(p as u16);
     }
-    let doubt = agreeing(plan, hp, slice, hs, criterion);
+    let found = agreeing(plan, hp, slice, hs, criterion);
+    let t = found.other;
+    if t < hp.transitions {
+        return Outcome::OtherArcs(t as u16);
+    }
+    let doubt = found.doubt;
     if 8 < doubt {
         return Outcome::Accepted;
     }

@@ -63,7 +63,7 @@ same-length-2 : tie.Need-same-length-2
 same-length-2 c = search needs
 
 returns : tie.Need-returns
-returns c = nothing-known _ _ _ _ (omega arith)
+returns c = (nothing-known _ _ _ _ (omega arith), λ l. absurd (omega arith))
 
 mark-requires : tie.Need-mark-requires
 mark-requires c κs =
@@ -81,7 +81,19 @@ same-length-4 : tie.Need-same-length-4
 same-length-4 c = search needs
 
 returns-2 : tie.Need-returns-2
-returns-2 c = passed-agreed _ _ _ _ _ _ (c .pass .ensures) (ready-at (c .before .before .before .before .before) .criterion)
+returns-2 c = (passed-agreed _ _ _ _ _ _ (c .before .pass .ensures) (ready-at (c .before .before .before .before .before .before) .criterion), λ l. absurd (omega arith))
+
+first-other-requires : tie.Need-first-other-requires
+first-other-requires c κs = ready-at (c .before .before .before .before .before .before .before .before)
+
+same-length-5 : tie.Need-same-length-5
+same-length-5 c = search needs
+
+same-length-6 : tie.Need-same-length-6
+same-length-6 c = search needs
+
+returns-3 : tie.Need-returns-3
+returns-3 c = (nothing-known _ _ _ _ (omega arith), c .first-other .ensures)
 
 pub agrees-spec : {M : Type 1} → statement M
 agrees-spec =
@@ -99,4 +111,8 @@ agrees-spec =
     pass-requires
     same-length-3
     same-length-4
-    returns-2)
+    returns-2
+    first-other-requires
+    same-length-5
+    same-length-6
+    returns-3)
