@@ -416,8 +416,8 @@ fn earlier(a: usize, b: usize) -> usize
     if b < a { b } else { a }
 }
 
-// Rule 4 where an arc is not the one due: the lowest transition that breaks it. Past all transitions where none was found.
-fn first_other(
+// Rule 4 where an arc is not the one due, in the same tables: the lowest transition that breaks it. Past all transitions where none was found.
+pub fn first_other(
     plan: &[u8],
     hp: Header,
     slice: &[u8],
@@ -444,13 +444,7 @@ fn first_other(
     origin(slice, hs, k)
 }
 
-// The first of the rules 4 to 8 that is in doubt, 9 where all are certainly kept; and the lowest transition that breaks rule 4, past all where none is known.
-pub struct Found {
-    pub doubt: usize,
-    pub other: usize,
-}
-
-// What one pass tells, and a second one where an arc is not the one due. The tables start with what stands for left out.
+// The first of the rules 4 to 8 that is in doubt, 9 where all are certainly kept; 0 where nothing is known. The tables start with what stands for left out, and are filled where something is known.
 pub fn agrees(
     plan: &[u8],
     hp: Header,
@@ -459,14 +453,14 @@ pub fn agrees(
     criterion: &[u16],
     places: &mut [usize],
     transitions: &mut [usize],
-) -> Found
+) -> usize
     requires { ⌜ Sound (now plan) hp ⌝ }
     requires { ⌜ Sound (now slice) hs ⌝ }
     requires { ⌜ hs .kind ≡ 1 ⌝ }
     requires { ⌜ criterionRefusal (hp .places) (now criterion) ≡ 0 ⌝ }
     requires { ⌜ Blank hp (sliceFrom (now slice) hs) (now places) (now transitions) ⌝ }
-    ensures { λ r. ⌜ Agreed (r .doubt) (netFrom (now (plan .entry)) hp) (sliceFrom (now (slice .entry)) hs) (now (criterion .entry)) ⌝ }
-    ensures { λ r. ⌜ (r .other < hp .transitions → r .other ≡ breaker (rule4 (netFrom (now (plan .entry)) hp) (sliceFrom (now (slice .entry)) hs))) ⌝ }
+    ensures { λ r. ⌜ Agreed r (netFrom (now (plan .entry)) hp) (sliceFrom (now (slice .entry)) hs) (now (criterion .entry)) ⌝ }
+    ensures { λ r. ⌜ (0 < r → Ready (now (plan .entry)) hp (now (slice .entry)) hs (now (criterion .entry)) (now (places .exit)) (now (transitions .exit))) ⌝ }
 {
     number(slice, hs.originstart, hs.places, PLACE, places);
     number(
@@ -477,19 +471,8 @@ pub fn agrees(
         transitions,
     );
     if !all_kept(criterion, places) {
-        return Found {
-            doubt: 4,
-            other: hp.transitions,
-        };
+        return 0;
     }
     mark(criterion, places);
-    let doubt = pass(plan, hp, slice, hs, criterion, places, transitions);
-    if 4 < doubt {
-        return Found {
-            doubt,
-            other: hp.transitions,
-        };
-    }
-    let other = first_other(plan, hp, slice, hs, criterion, places, transitions);
-    Found { doubt: 4, other }
+    pass(plan, hp, slice, hs, criterion, places, transitions)
 }

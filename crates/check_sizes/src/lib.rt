@@ -6,11 +6,11 @@ ghost use Rattle.net.specs.Checker.{breaker, verdictFrom, rule4};
 ghost use Rattle.file.specs.Layout.{netFrom, sliceFrom};
 ghost use Rattle.promise.specs.Calls.{told};
 ghost use Rattle.rules_tables.specs.Agreed.{Agreed};
+ghost use Rattle.check_fast.specs.Pass.{Ready};
 ghost use Rattle.check_rules.specs.Answer.{outcomeNumbers};
 ghost use Rattle.check_rules.specs.Room.{rulesFrom4, Judged};
 ghost use Rattle.check_sizes.specs.Sizes.{KnownIn, Within};
 use arcs_column::AT_REST;
-use check_fast::Found;
 use check_fast::LEFT_PLACE;
 use check_fast::LEFT_TRANSITION;
 use check_rules::Outcome;
@@ -117,6 +117,38 @@ pub fn sized(
     large_outcome(doubt, plan, hp, slice, hs, criterion)
 }
 
+// What is known of the rules 4 to 8: the first that is in doubt, 9 where none is; and the lowest transition that breaks rule 4, past all where none is known.
+pub struct Found {
+    pub doubt: usize,
+    pub other: usize,
+}
+
+// What the pass told, and where rule 4 is in doubt what a second one tells, in the same tables.
+fn further(
+    doubt: usize,
+    plan: &[u8],
+    hp: Header,
+    slice: &[u8],
+    hs: Header,
+    criterion: &[u16],
+    places: &[usize],
+    transitions: &[usize],
+) -> Found
+    requires { ⌜ Agreed doubt (netFrom (now plan) hp) (sliceFrom (now slice) hs) (now criterion) ⌝ }
+    requires { ⌜ (0 < doubt → Ready (now plan) hp (now slice) hs (now criterion) (now places) (now transitions)) ⌝ }
+    ensures { λ r. ⌜ Agreed (r .doubt) (netFrom (now (plan .entry)) hp) (sliceFrom (now (slice .entry)) hs) (now (criterion .entry)) ⌝ }
+    ensures { λ r. ⌜ (r .other < hp .transitions → r .other ≡ breaker (rule4 (netFrom (now (plan .entry)) hp) (sliceFrom (now (slice .entry)) hs))) ⌝ }
+{
+    if doubt != 4 {
+        return Found {
+            doubt,
+            other: hp.transitions,
+        };
+    }
+    let other = check_fast::first_other(plan, hp, slice, hs, criterion, places, transitions);
+    Found { doubt, other }
+}
+
 // What one pass tells of the rules 4 to 8, for nets of at most 16 places and 16 transitions.
 fn small_agrees(plan: &[u8], hp: Header, slice: &[u8], hs: Header, criterion: &[u16]) -> Found
     requires { ⌜ Judged (now plan) hp (now slice) hs (now criterion) ⌝ }
@@ -127,7 +159,7 @@ fn small_agrees(plan: &[u8], hp: Header, slice: &[u8], hs: Header, criterion: &[
 {
     let mut places = [LEFT_PLACE; SMALL];
     let mut transitions = [LEFT_TRANSITION; SMALL];
-    check_fast::agrees(
+    let doubt = check_fast::agrees(
         plan,
         hp,
         slice,
@@ -135,7 +167,8 @@ fn small_agrees(plan: &[u8], hp: Header, slice: &[u8], hs: Header, criterion: &[
         criterion,
         &mut places,
         &mut transitions,
-    )
+    );
+    further(doubt, plan, hp, slice, hs, criterion, &places, &transitions)
 }
 
 // The same for at most 128 of each.
@@ -148,7 +181,7 @@ fn middle_agrees(plan: &[u8], hp: Header, slice: &[u8], hs: Header, criterion: &
 {
     let mut places = [LEFT_PLACE; MIDDLE];
     let mut transitions = [LEFT_TRANSITION; MIDDLE];
-    check_fast::agrees(
+    let doubt = check_fast::agrees(
         plan,
         hp,
         slice,
@@ -156,7 +189,8 @@ fn middle_agrees(plan: &[u8], hp: Header, slice: &[u8], hs: Header, criterion: &
         criterion,
         &mut places,
         &mut transitions,
-    )
+    );
+    further(doubt, plan, hp, slice, hs, criterion, &places, &transitions)
 }
 
 // The same for all nets.
@@ -168,7 +202,7 @@ fn large_agrees(plan: &[u8], hp: Header, slice: &[u8], hs: Header, criterion: &[
 {
     let mut places = [LEFT_PLACE; LARGE];
     let mut transitions = [LEFT_TRANSITION; LARGE];
-    check_fast::agrees(
+    let doubt = check_fast::agrees(
         plan,
         hp,
         slice,
@@ -176,7 +210,8 @@ fn large_agrees(plan: &[u8], hp: Header, slice: &[u8], hs: Header, criterion: &[
         criterion,
         &mut places,
         &mut transitions,
-    )
+    );
+    further(doubt, plan, hp, slice, hs, criterion, &places, &transitions)
 }
 
 // What one pass tells of the rules 4 to 8, in tables that are not much larger than the net.

@@ -81,19 +81,7 @@ same-length-4 : tie.Need-same-length-4
 same-length-4 c = search needs
 
 returns-2 : tie.Need-returns-2
-returns-2 c = (passed-agreed _ _ _ _ _ _ (c .before .pass .ensures) (ready-at (c .before .before .before .before .before .before) .criterion), λ l. absurd (omega arith))
-
-first-other-requires : tie.Need-first-other-requires
-first-other-requires c κs = ready-at (c .before .before .before .before .before .before .before .before)
-
-same-length-5 : tie.Need-same-length-5
-same-length-5 c = search needs
-
-same-length-6 : tie.Need-same-length-6
-same-length-6 c = search needs
-
-returns-3 : tie.Need-returns-3
-returns-3 c = (nothing-known _ _ _ _ (omega arith), c .first-other .ensures)
+returns-2 c = let made = ready-at (c .before .before .before .before .before) in (passed-agreed _ _ _ _ _ _ (c .pass .ensures) (made .criterion), λ l. made)
 
 pub agrees-spec : {M : Type 1} → statement M
 agrees-spec =
@@ -111,8 +99,4 @@ agrees-spec =
     pass-requires
     same-length-3
     same-length-4
-    returns-2
-    first-other-requires
-    same-length-5
-    same-length-6
-    returns-3)
+    returns-2)

@@ -16,9 +16,26 @@ agrees-requires c κs =
     let j = pre .0 in
     (j .planned, (j .sliced, (j .kind, (j .criterion, blank _ _ 1024 (omega arith) (j .planned .placed .places) (j .planned .placed .transitions) (pre .1)))))
 
+slice-aggregate-further : tie.Need-slice-aggregate-further
+slice-aggregate-further c = search needs
+
+slice-aggregate-further-2 : tie.Need-slice-aggregate-further-2
+slice-aggregate-further-2 c = search needs
+
+further-requires : tie.Need-further-requires
+further-requires c κs = c .before .before .before .before .agrees .ensures
+
 returns : tie.Need-returns
 returns c = search needs
 
 pub large-agrees-spec : {M : Type 1} → statement M
 large-agrees-spec =
-    tie.close (tie.spec slice-aggregate-agrees slice-aggregate-agrees-2 agrees-requires returns)
+    tie.close
+    (tie.spec
+    slice-aggregate-agrees
+    slice-aggregate-agrees-2
+    agrees-requires
+    slice-aggregate-further
+    slice-aggregate-further-2
+    further-requires
+    returns)
