@@ -226,7 +226,7 @@ fn lower(a: usize, b: usize) -> usize
     if a < b { a } else { b }
 }
 
-// The first rule in doubt after a closer look, 9 where none is; with no looks left the rules 6 to 8 are.
+// The first rule in doubt after a closer look, 9 where none is. Where one is already, no effect is looked up; where the pass is tired, the rules 6 to 8 are in doubt.
 fn look(
     plan: &[u8],
     hp: Header,
@@ -236,29 +236,26 @@ fn look(
     j: usize,
     places: &[usize],
     transitions: &[usize],
-    looks: usize,
+    doubt: usize,
+    tired: bool,
 ) -> usize
     requires { ⌜ Ready (now plan) hp (now slice) hs (now criterion) (now places) (now transitions) ⌝ }
     requires { ⌜ j < hp .arcs ⌝ }
     ensures { λ r. ⌜ (4 < r → Settled (now (plan .entry)) hp (now (slice .entry)) hs (now (criterion .entry)) r (arcAt (now (plan .entry)) (hp .arcstart + 8 * j))) ⌝ }
 {
-    if looks == 0 {
+    if tired {
         return lower(
             6,
             doubt_at(plan, hp, slice, hs, criterion, j, places, transitions),
         );
     }
+    if doubt < 9 {
+        return doubt_at(plan, hp, slice, hs, criterion, j, places, transitions);
+    }
     if settled(plan, hp, slice, hs, criterion, j, places, transitions) {
         return 9;
     }
     doubt_at(plan, hp, slice, hs, criterion, j, places, transitions)
-}
-
-// One less, down to 0.
-fn fewer(n: usize) -> usize
-    ensures { λ r. ⌜ r ≡ n - 1 ⌝ }
-{
-    if n == 0 { 0 } else { n - 1 }
 }
 
 // Goes on from there through the plan's arcs, up to one that wants a closer look.
@@ -314,7 +311,7 @@ fn stretch(
     }
 }
 
-// The first of the rules 4, 6, 7 and 8 that the plan's arcs leave in doubt; 9 where none is. At most 128 arcs get a closer look.
+// The first of the rules 4, 6, 7 and 8 that the plan's arcs leave in doubt; 9 where none is. One arc in 32 gets a closer look, and 16 more.
 fn pass(
     plan: &[u8],
     hp: Header,
@@ -334,12 +331,13 @@ fn pass(
         doubt: 9,
     };
     let mut at = stretch(plan, hp, slice, hs, criterion, places, transitions, start);
-    let mut looks: usize = 128;
+    let mut seen: usize = 0;
     while at.arc < hp.arcs {
         if hs.arcs < at.own {
             return 4;
         }
-        let seen = look(
+        let tired = 512 + at.arc < 32 * seen;
+        let doubt = look(
             plan,
             hp,
             slice,
@@ -348,20 +346,21 @@ fn pass(
             at.arc,
             places,
             transitions,
-            looks,
+            at.doubt,
+            tired,
         );
-        if seen <= 4 {
+        if doubt <= 4 {
             return 4;
         }
         let from = Walk {
             arc: at.arc + 1,
             own: at.own,
             differs: at.differs,
-            doubt: lower(at.doubt, seen),
+            doubt: lower(at.doubt, doubt),
         };
         let next = stretch(plan, hp, slice, hs, criterion, places, transitions, from);
         at = next;
-        looks = fewer(looks);
+        seen += 1;
     }
     if quiet(at.differs) & (at.own == hs.arcs) {
         return at.doubt;
