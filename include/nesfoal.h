@@ -149,7 +149,8 @@ uint32_t nesfoal_safety(const uint8_t *plan, size_t plan_length,
                         uint8_t *slice, size_t slice_length,
                         uint32_t *length, uint32_t *places, uint32_t *transitions);
 
-/* The branching cut: the same call for the slice that also keeps every transition that changes a kept place. */
+/* The branching cut: the same call for the slice that also keeps every transition that changes a kept place. So every list that
+ * fires in the plan, struck out, ends there with the plan's tokens on each of its places, and not on the criterion alone. */
 uint32_t nesfoal_branching(const uint8_t *plan, size_t plan_length,
                            const uint16_t *criterion, size_t criterion_count,
                            uint8_t *slice, size_t slice_length,
