@@ -65,14 +65,14 @@ begin() {
     named "$beside" "$1"
 }
 
-# end OUT: gives the file beside the mode, and OUT's name. A file system without modes is no hindrance.
+# end OUT: gives the file beside OUT's name, and the mode of the file that was there; a new one has the umask's from its making. A file
+# system without modes is no hindrance.
 end() {
-    local said mask new key
-    # the umask, where the system tells it without another process
-    { read -r _ && read -r key mask; } 2> /dev/null < /proc/self/status && [ "$key" = Umask: ] || mask=$(umask)
-    printf -v new %o $((0666 & ~0$mask))
-    mode=${mode:-$new}
-    [ "$mode $new" = '644 644' ] || chmod "$mode" -- "$beside" 2> /dev/null
+    local said made
+    if [ -n "$mode" ]; then
+        printf -v made %o $((0666 & ~0$(umask)))
+        [ "$mode" = "$made" ] || chmod "$mode" -- "$beside" 2> /dev/null
+    fi
     said=$(mv -fT -- "$beside" "$1" 2>&1) || fail "$1: $(reason "$said")"
 }
 
