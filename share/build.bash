@@ -1,7 +1,7 @@
 # shellcheck shell=bash disable=SC2154
 # Building, in the repository: the program is proved, compiled and linked where a source changed since.
-# The stamp holds one number for all sources, and its time is from before they were read for it: where nothing changed after that time, they
-# are not read again.
+# The stamp holds one number for all sources, then what `fresh` looks at: crates.txt, and the code's files and folders. Its time is from before
+# they were read: where nothing changed after that time, they are not read again.
 archive=$here/target/staticlib/libnesfoal.a
 
 # changed SINCE KIND..: has crates.txt, or a file or folder of crates/*/KIND, changed after the time of the file SINCE? By the time
@@ -24,6 +24,14 @@ sources() {
             [ -f "$f" ] && files+=("$f")
         done
         sha256sum -- "${files[@]}" | sha256sum
+    )
+}
+
+# The code's files and folders, one a line; crates.txt first.
+code() {
+    (
+        shopt -s globstar nullglob
+        cd -- "$here" && printf '%s\n' crates.txt crates/*/src/**
     )
 }
 
@@ -104,14 +112,13 @@ began() {
 
 # ready: builds where the program is not that of the sources.
 ready() {
-    local sum
+    local sum was=''
     if [ -x "$program" ] && [ -f "$stamp" ] && ! changed "$stamp" src specs proofs; then return; fi
     began
     sum=$(sources)
-    if [ ! -x "$program" ] || [ ! -f "$stamp" ] || [ "$(< "$stamp")" != "$sum" ]; then
-        build
-        printf '%s\n' "$sum" > "$stamp"
-    fi
+    { read -r was < "$stamp"; } 2> /dev/null
+    if [ ! -x "$program" ] || [ "$was" != "$sum" ]; then build; fi
+    { { printf '%s\n' "$sum" && code; } > "$stamp"; } 2> /dev/null
     touch -r "$room/began" -- "$stamp" 2> /dev/null
 }
 

@@ -1,25 +1,22 @@
 # shellcheck shell=bash disable=SC2034,SC2154
-# The cuts: where OUT may be written, and that it appears whole or not at all. The program writes a temporary file in OUT's folder, which
-# gets OUT's mode and name once it is whole.
+# The cuts: where OUT may be written, and that it appears whole or not at all. The program writes a file beside OUT, which gets OUT's name
+# once it is whole, and replaces nothing but a slice or an empty file.
 more room
+no_slice='it is no slice, and only --force replaces it' # as the program says it
+mask='' # the umask of the next file that the program makes
 
 # The program as `run` has it, for a short answer: a signal is seen while it runs, and ends it.
 run() {
     local code
     running=1
-    IFS= read -r -d '' answer < <(exec "$program" "$@")
+    IFS= read -r -d '' answer < <([ -z "$mask" ] || umask "$mask"; exec "$program" "$@")
     wait "$!"
     code=$?
     running='' answer=${answer%$'\n'}
     return "$code"
 }
 
-# is_slice FILE: does it end as a slice file does, with the kind 1, an edition and the letters?
-is_slice() {
-    { [[ $(tail -c 6 -- "$1") == $'\1'?BELL ]]; } 2> /dev/null
-}
-
-# out_bad OUT PLAN LIST: why OUT is not written, into `why`. The mode of the file that is there, into `mode`.
+# out_bad OUT PLAN LIST: why OUT is not written, into `why`, but for what its end says. The mode of the file that is there, into `mode`.
 out_bad() {
     local out=$1 name=${1##*/}
     mode='' why=''
@@ -43,45 +40,50 @@ out_bad() {
         why='it is the list'
     elif mode=$(stat -c %a -- "$out" 2> /dev/null) && { [ ! -w "$out" ] || [ $((0${mode:-200} & 0222)) -eq 0 ]; }; then
         why='it may not be written'
-    elif [ -s "$out" ] && [ -z "$force" ] && ! is_slice "$out"; then
-        why='it is no slice, and only --force replaces it'
     fi
     [ -n "$why" ]
 }
 
-# begin OUT: makes an empty file in OUT's folder, under a short name of its own, into `beside`.
-begin() {
-    local folder=./ try i
-    case $1 in */*) folder=${1%/*}/ ;; esac
+# is_slice FILE: is it empty, or does it end as a slice file does, with the kind 1, an edition and the letters?
+is_slice() {
+    [ ! -s "$1" ] || { [[ $(tail -c 6 -- "$1") == $'\1'?BELL ]]; } 2> /dev/null
+}
+
+# write CUT PLAN OUT [Q..]: to a file that may be written. One that is there keeps its mode: the program's file has it from the umask, or,
+# where that cannot be, from `replace`.
+write() {
+    folder=./ mask=''
+    case $3 in */*) folder=${3%/*}/ ;; esac
+    if [ $((0${mode:-0} & ~0666)) -ne 0 ]; then
+        replace "$@"
+        return
+    fi
+    [ -z "$mode" ] || printf -v mask %o $((0777 & ~0$mode))
+    ask "$@"
+    if [ -n "$force" ] && [ "$answer" = "error: $3: $no_slice" ]; then replace "$@"; else tell "$answer"; fi
+}
+
+# replace CUT PLAN OUT [Q..]: by way of an empty file of ours, which gets OUT's mode and name. A file system without modes is no hindrance.
+replace() {
+    local try i said
+    mask=''
+    if [ -z "$force" ] && ! is_slice "$3"; then fail "$3: $no_slice"; fi
     for ((i = 0; i < 20; i++)); do
         try=$folder.nesfoal-$$-$RANDOM
         set -C
         { true > "$try"; } 2> /dev/null && beside=$try
         set +C
         [ -z "$beside" ] || break
-        [ -e "$try" ] || fail "$1: $(reason "$(set -C && { true > "$try"; } 2>&1)")"
+        [ -e "$try" ] || fail "$3: $(reason "$(set -C && { true > "$try"; } 2>&1)")"
     done
-    [ -n "$beside" ] || fail "$1: no temporary file can be made beside it"
-    named "$beside" "$1"
-}
-
-# end OUT: gives the file beside OUT's name, and the mode of the file that was there; a new one has the umask's from its making. A file
-# system without modes is no hindrance.
-end() {
-    local said made
-    if [ -n "$mode" ]; then
-        printf -v made %o $((0666 & ~0$(umask)))
-        [ "$mode" = "$made" ] || chmod "$mode" -- "$beside" 2> /dev/null
-    fi
-    said=$(mv -fT -- "$beside" "$1" 2>&1) || fail "$1: $(reason "$said")"
-}
-
-# write CUT PLAN OUT [Q..]: to a file that may be written.
-write() {
-    begin "$3"
+    [ -n "$beside" ] || fail "$3: no temporary file can be made beside it"
+    named "$beside" "$3"
     ask "$1" "$2" "$beside" "${@:4}"
     case $answer in
-        'written '*) end "$3" ;;
+        'written '*)
+            [ -z "$mode" ] || chmod "$mode" -- "$beside" 2> /dev/null
+            said=$(mv -fT -- "$beside" "$3" 2>&1) || fail "$3: $(reason "$said")"
+            ;;
         *) rm -f -- "$beside" ;;
     esac
     unset 'temporary[-1]' 'names[-1]'
@@ -123,8 +125,8 @@ cut_through() {
 
 # cut_each CUT PLAN FOLDER: for each place P alone, FOLDER/P.slice.
 cut_each() {
-    local folder=${3%/} count p said
-    [ -n "$folder" ] || folder=/.
+    local to=${3%/} count p said
+    [ -n "$to" ] || to=/.
     make_room
     ask safety "$2" "$room/slice" 0 # refused for the plan's own sake, or because there is no place 0
     case $answer in
@@ -136,17 +138,18 @@ cut_each() {
     ask show "$2"
     [[ $answer =~ ^plan\ of\ ([0-9]+)\ place ]] || fail "$2: the number of its places is not told"
     count=${BASH_REMATCH[1]}
-    if [ -e "$folder" ] && [ ! -d "$folder" ]; then fail "$3: it is no folder"; fi
-    if [ ! -d "$folder" ]; then
-        said=$(mkdir -- "$folder" 2>&1) || fail "$3: $(reason "$said")"
+    if [ -e "$to" ] && [ ! -d "$to" ]; then fail "$3: it is no folder"; fi
+    if [ ! -d "$to" ]; then
+        said=$(mkdir -- "$to" 2>&1) || fail "$3: $(reason "$said")"
     fi
     for ((p = 0; p < count; p++)); do
-        if out_bad "$folder/$p.slice" "$2" ''; then fail "$folder/$p.slice: $why; nothing was written"; fi
+        if out_bad "$to/$p.slice" "$2" ''; then fail "$to/$p.slice: $why; nothing was written"; fi
+        if [ -z "$force" ] && [ -e "$to/$p.slice" ] && ! is_slice "$to/$p.slice"; then fail "$to/$p.slice: $no_slice; nothing was written"; fi
     done
     for ((p = 0; p < count; p++)); do
         if [ -t 2 ]; then printf '\r%d of %d places\r' "$p" "$count" >&2; fi
-        out_bad "$folder/$p.slice" "$2" '' # for its mode
-        write "$1" "$2" "$folder/$p.slice" "$p"
+        out_bad "$to/$p.slice" "$2" '' # for its mode
+        write "$1" "$2" "$to/$p.slice" "$p"
         [ "$status" -eq 0 ] || return
     done
     if [ -t 2 ]; then printf '\r%d of %d places\n' "$p" "$count" >&2; fi

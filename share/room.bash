@@ -3,6 +3,7 @@
 if [ -n "${room+x}" ]; then return 0; fi
 room=''    # a folder for temporary files
 beside=''  # a temporary file beside OUT
+folder=''  # OUT's folder, where the program makes one
 child=''   # the process group of a build
 running='' # set while the program runs that $! is
 
@@ -10,8 +11,12 @@ running='' # set while the program runs that $! is
 leave() {
     trap '' HUP INT TERM
     if [ -n "$child" ]; then kill -TERM -- "-$child"; fi 2> /dev/null
-    if [ -n "$running" ]; then kill -TERM "$!"; fi 2> /dev/null
-    if [ -n "$beside" ]; then rm -f -- "$beside" "$beside".??????; fi
+    if [ -n "$running" ]; then
+        kill -TERM "$!"
+        wait "$!"
+        if [ -n "$folder" ]; then rm -f -- "$folder.nesfoal-$!-"????????; fi
+    fi 2> /dev/null
+    if [ -n "$beside" ]; then rm -f -- "$beside"; fi
     if [ -n "$room" ]; then rm -rf -- "$room"; fi
 }
 trap leave EXIT

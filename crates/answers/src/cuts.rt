@@ -1,10 +1,10 @@
 // safety and branching: the slice written to OUT, argument 3.
-use terminal::files;
 use terminal::phrases;
 use terminal::say;
+use terminal::whole;
 
 fn written(slice: &[u8], places: u32, transitions: u32) {
-    if files::save(3, slice) {
+    if whole::save(3, slice) {
         say::four(
             phrases::WRITTEN,
             3,

@@ -1,4 +1,4 @@
-// Files, read whole and written whole.
+// Files, read whole.
 ghost use Rattle.io.specs.Counts.{Counts};
 ghost use mathlib.Core.Path.{_≡_};
 ghost use Rattle.terminal.specs.Names.{listed};
@@ -72,14 +72,14 @@ fn reason(e: usize) {
 }
 
 // Says why the last call on the file that argument i names failed.
-fn failed(i: usize) {
+pub fn failed(i: usize) {
     let e = say::size(os::errno()) as usize;
     say::one(phrases::ERROR_OF, i);
     reason(e);
 }
 
-// Opens the file whose name is argument i from byte `from` on: made or emptied, and written, where it is new, else read. -1 where that fails.
-fn open(i: usize, from: usize, new: bool) -> i32 {
+// Opens the file whose name is argument i from byte `from` on, to be read. -1 where that fails.
+fn open(i: usize, from: usize) -> i32 {
     let mut path = io::buffer();
     let n = os::arg(i, &mut path);
     if os::errno() != 0 {
@@ -88,14 +88,11 @@ fn open(i: usize, from: usize, new: bool) -> i32 {
     if n < from {
         return -1;
     }
-    if new {
-        return os::open_overwrite(&path[from..n]);
-    }
     os::open_read(&path[from..n])
 }
 
 // Is nothing left to read, and did no read fail?
-fn ended(fd: i32) -> bool {
+pub fn ended(fd: i32) -> bool {
     let mut one = [0u8; 1];
     libc::read(fd, &mut one) == 0
 }
@@ -104,7 +101,7 @@ fn ended(fd: i32) -> bool {
 pub fn read(i: usize, from: usize, to: &mut [u8]) -> Loaded
     ensures { λ r. ⌜ Counts (r .length) (now (to .exit)) ⌝ }
 {
-    let fd = open(i, from, false);
+    let fd = open(i, from);
     if fd < 0 {
         failed(i);
         return Loaded {
@@ -119,27 +116,4 @@ pub fn read(i: usize, from: usize, to: &mut [u8]) -> Loaded
     }
     libc::close(fd);
     Loaded { good, length }
-}
-
-// Writes all of an open file, and has it kept by the disk.
-fn fill(fd: i32, bytes: &[u8]) -> bool {
-    if !io::write_all(fd, bytes) {
-        return false;
-    }
-    libc::fsync(fd) == 0
-}
-
-// Writes the file that argument i names. Where that fails, a line says why.
-pub fn save(i: usize, bytes: &[u8]) -> bool {
-    let fd = open(i, 0, true);
-    if fd < 0 {
-        failed(i);
-        return false;
-    }
-    let good = fill(fd, bytes);
-    if !good {
-        failed(i);
-    }
-    libc::close(fd);
-    good
 }

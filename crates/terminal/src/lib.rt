@@ -4,3 +4,4 @@ pub mod entries;
 pub mod files;
 pub mod phrases;
 pub mod say;
+pub mod whole;
