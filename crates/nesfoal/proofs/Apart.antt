@@ -3,8 +3,9 @@ use Rattle.nesfoal.specs.Answers.{Pinned}
 use Rattle.checker.proofs.Apart.{told-apart as verdicts}
 use Rattle.replay.proofs.Apart.{told-apart as outcomes}
 use Rattle.projection.proofs.Apart.{told-apart as projections}
+use Rattle.together.proofs.Apart.{told-apart as takings}
 use Rattle.slice.proofs.Apart.{told-apart as cuts}
 use Rattle.call_firing.proofs.Apart.{told-apart as changes}
 
 pub pinned : Pinned
-pinned = record { check = verdicts; replay = outcomes; project = projections; safety-and-branching = cuts; effect = changes }
+pinned = record { check = verdicts; replay = outcomes; project = projections; safety-and-branching = cuts; effect = changes; together = takings }

@@ -2,6 +2,7 @@
 use Rattle.checker.specs.Answer.{ToldApart as Verdicts}
 use Rattle.replay.specs.Told.{ToldApart as Outcomes}
 use Rattle.projection.specs.Told.{ToldApart as Projections}
+use Rattle.together.specs.Told.{ToldApart as Takings}
 use Rattle.slice.specs.Kept.{ToldApart as Cuts}
 use Rattle.call_firing.specs.Effect.{ToldApart as Changes}
 
@@ -12,3 +13,4 @@ pub record Pinned : Type 0 where
   pub project : Projections
   pub safety-and-branching : Cuts
   pub effect : Changes
+  pub together : Takings

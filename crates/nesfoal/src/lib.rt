@@ -5,4 +5,5 @@ pub mod effects;
 pub mod projections;
 pub mod replays;
 pub mod runs;
+pub mod takings;
 pub mod verdicts;

@@ -14,3 +14,4 @@ pub mod Exactness
 pub mod Uncapped
 pub mod Rakow
 pub mod Replay
+pub mod Together

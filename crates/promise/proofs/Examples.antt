@@ -5,6 +5,7 @@ use Rattle.net.specs.Net.{below, weightOn, input, output, effect, changes, rais
 use Rattle.net.specs.Cut.{growth, safety, branching, drawnBy, grown, rounds, keptPlaces, keptTransitions}
 use Rattle.net.specs.Slice.{strike, own, project, renumber, restrict, arcsOf, sliceRun, planRun, placeOf, transitionOf, keeping, cut}
 use Rattle.net.specs.Guarantee.{planTokens, sliceTokens}
+use Rattle.net.specs.Together.{allowed, fewest, together, remainder}
 use Rattle.net.specs.Checker.{breaks, breaker, sameArc, sameArcs, lacksInput, lacksOutput, rule1, rule2, rule3, rule4, rule5, rule6, rule7, rule8, rule9, rule10, rules, verdictFrom, verdict}
 use Rattle.file.specs.Word.{le16, le32, bytes16, bytes32}
 use Rattle.file.specs.Layout.{trailerOf, headerOf, arcsFrom, wordsFrom}
@@ -13,8 +14,9 @@ use Rattle.file.specs.Criterion.{placesRefusal, criterionRefusal, criterionOf, 
 use Rattle.file.specs.Writing.{markingsBytes, arcBytes, arcsBytes, originsBytes, sliceBody, trailerBytes, sliceBytes}
 use Rattle.promise.specs.Calls.{cutOf, safetyFile, branchingFile, cutRefusal, writeRefusal, safetyAnswer, checkRefusal, checked, checkedBytes}
 use Rattle.promise.specs.Firing.{effectRefusal, effectAnswer, listRefusal, replayRefusal, replayAnswer, replayMarking, projectRefusal, projectAnswer, projectOutput, before, runIn, arcRun}
+use Rattle.promise.specs.Together.{togetherRefusal, togetherAnswer, togetherRest}
 use Rattle.promise.specs.Promise.{emptySlice}
-use Rattle.promise.specs.Example.{smallPlan, onePlace, onePlaceCut, parallelPlan, Starred, Noted, ForNoPlace, Parallels, withCaps, oneCap, twoCaps, loopNet, overNet, Capped}
+use Rattle.promise.specs.Example.{smallPlan, onePlace, onePlaceCut, parallelPlan, Starred, Noted, ForNoPlace, Parallels, TakenTogether, withCaps, oneCap, twoCaps, loopNet, overNet, Capped}
 
 pub starred : Starred
 unfolding among position any selected first below weightOn input output effect changes raises takesFrom addsTo capped fire shortPlace fullPlace testInputs testCaps testFiring replayFrom replay tokens growth safety branching drawnBy grown rounds keptPlaces keptTransitions strike own project renumber restrict arcsOf sliceRun planRun placeOf transitionOf keeping cut breaks breaker sameArc sameArcs lacksInput lacksOutput rule1 rule2 rule3 rule4 rule5 rule6 rule7 rule8 rule9 rule10 rules verdictFrom verdict le16 le32 bytes16 bytes32 trailerOf headerOf arcsFrom wordsFrom trailerRefusal arcsRefusal tableRefusal originsRefusal bodyRefusal fileRefusal placesRefusal criterionRefusal markingsBytes arcBytes arcsBytes originsBytes sliceBody trailerBytes sliceBytes cutOf safetyFile branchingFile checkRefusal checked smallPlan effectRefusal effectAnswer listRefusal replayRefusal replayAnswer replayMarking projectRefusal projectAnswer projectOutput
@@ -103,8 +105,27 @@ parallels = record {
   falling = refl;
 }
 
+pub taken-together : TakenTogether
+unfolding selected below weightOn input takesFrom tokens allowed fewest together remainder le16 le32 trailerOf headerOf arcsFrom trailerRefusal arcsRefusal tableRefusal originsRefusal bodyRefusal fileRefusal smallPlan parallelPlan emptySlice togetherRefusal togetherAnswer togetherRest
+taken-together = record {
+  fewest = record { answer = refl; rest = refl };
+  first-fewest = record { answer = refl; rest = refl };
+  rounded-down = record { answer = refl; rest = refl };
+  of-a-sum = record { answer = refl; rest = refl };
+  not-once = record { answer = refl; rest = refl };
+  most = record { answer = refl; rest = refl };
+  no-inputs = refl;
+  same = refl;
+  no-plan = refl;
+  no-transition = refl;
+  four-entries = refl;
+  six-entries = refl;
+  little-room = refl;
+  kept = refl;
+}
+
 pub with-caps : Capped
-unfolding among position any selected first below weightOn input output effect changes raises takesFrom addsTo capped fire shortPlace fullPlace testInputs testCaps testFiring replayFrom replay tokens growth safety branching drawnBy grown rounds keptPlaces keptTransitions strike own project renumber restrict arcsOf sliceRun planRun placeOf transitionOf keeping cut breaks breaker sameArc sameArcs lacksInput lacksOutput rule1 rule2 rule3 rule4 rule5 rule6 rule7 rule8 rule9 rule10 rules verdictFrom verdict le16 le32 bytes16 bytes32 trailerOf headerOf arcsFrom wordsFrom trailerRefusal arcsRefusal tableRefusal originsRefusal bodyRefusal fileRefusal placesRefusal criterionRefusal markingsBytes arcBytes arcsBytes originsBytes sliceBody trailerBytes sliceBytes cutOf safetyFile branchingFile checkRefusal checked smallPlan effectRefusal effectAnswer listRefusal replayRefusal replayAnswer replayMarking projectRefusal projectAnswer projectOutput withCaps oneCap twoCaps loopNet overNet
+unfolding among position any selected first below weightOn input output effect changes raises takesFrom addsTo capped fire shortPlace fullPlace testInputs testCaps testFiring replayFrom replay tokens growth safety branching drawnBy grown rounds keptPlaces keptTransitions strike own project renumber restrict arcsOf sliceRun planRun placeOf transitionOf keeping cut breaks breaker sameArc sameArcs lacksInput lacksOutput rule1 rule2 rule3 rule4 rule5 rule6 rule7 rule8 rule9 rule10 rules verdictFrom verdict le16 le32 bytes16 bytes32 trailerOf headerOf arcsFrom wordsFrom trailerRefusal arcsRefusal tableRefusal originsRefusal bodyRefusal fileRefusal placesRefusal criterionRefusal markingsBytes arcBytes arcsBytes originsBytes sliceBody trailerBytes sliceBytes cutOf safetyFile branchingFile checkRefusal checked smallPlan effectRefusal effectAnswer listRefusal replayRefusal replayAnswer replayMarking projectRefusal projectAnswer projectOutput withCaps oneCap twoCaps loopNet overNet allowed fewest together
 with-caps = record {
   fourth-full = refl;
   before = refl;
@@ -127,4 +148,5 @@ with-caps = record {
   over-accepted = refl;
   over-in-slice = refl;
   over-in-plan = refl;
+  caps-aside = refl;
 }

@@ -13,12 +13,14 @@ use Rattle.net.specs.Cut.{safety, branching, keptPlaces, keptTransitions}
 use Rattle.net.specs.Slice.{keeping, cut}
 use Rattle.net.specs.Checker.{rule9, accepted, broken, breaker, verdict}
 use Rattle.net.specs.Guarantee.{planTokens, sliceTokens}
+use Rattle.net.specs.Together.{times, together}
 use Rattle.file.specs.Layout.{netOf, sliceOf}
 use Rattle.file.specs.Refusal.{fileRefusal}
 use Rattle.file.specs.Writing.{sliceBytes}
 use Rattle.file.specs.declared.Due.the-variants as due
 use Rattle.promise.specs.Calls.{cutOf, safetyFile, branchingFile, safetyAnswer, checked, checkedBytes}
 use Rattle.promise.specs.Firing.{effectAnswer, replayAnswer, replayMarking, projectAnswer, projectOutput, arcRun}
+use Rattle.promise.specs.Together.{togetherAnswer, togetherRest}
 use Rattle.promise.specs.Promise.{emptySlice}
 
 -- "Places 0 waiting (2 tokens), 1 bay free (1), 2 in bay, 3 left, 4 bell (0 each)", the arcs of transitions 0 to 3, the trailer
@@ -148,6 +150,32 @@ pub record Parallels : Type 0 where
   pub joined : checked parallelPlan (safetyFile smallPlan (3 ∷ [])) (3 ∷ []) ≡ record { refused = false; code = 104; number = 2 }
   pub falling : fileRefusal due.Plan (set smallPlan 24 2) ≡ 7
 
+-- a transition's inputs taken k times from a marking, and the six entries lent after it, the last of them being 7 before
+pub record Leaves (plan : List ℕ) (t : ℕ) (marking : List ℕ) (k : ℕ) (entries : List ℕ) : Type 0 where
+  pub answer : togetherAnswer plan t marking 6 ≡ record { refused = false; refusal = 0; unlimited = false; times = k }
+  pub rest : togetherRest plan t marking (9 ∷ 9 ∷ 9 ∷ 9 ∷ 9 ∷ 7 ∷ []) ≡ entries
+
+-- "Buses let through together" (document 02, A6)
+pub record TakenTogether : Type 0 where
+  -- transition 0 takes one of place 0 and one of place 1; transition 2 takes two of place 3, by one arc or by two
+  pub fewest : Leaves smallPlan 0 (5 ∷ 3 ∷ 0 ∷ 0 ∷ 0 ∷ []) 3 (2 ∷ 0 ∷ 0 ∷ 0 ∷ 0 ∷ 7 ∷ [])
+  pub first-fewest : Leaves smallPlan 0 (2 ∷ 4 ∷ 6 ∷ 8 ∷ 1 ∷ []) 2 (0 ∷ 2 ∷ 6 ∷ 8 ∷ 1 ∷ 7 ∷ [])
+  pub rounded-down : Leaves smallPlan 2 (0 ∷ 0 ∷ 0 ∷ 5 ∷ 0 ∷ []) 2 (0 ∷ 0 ∷ 0 ∷ 1 ∷ 0 ∷ 7 ∷ [])
+  pub of-a-sum : Leaves parallelPlan 2 (0 ∷ 0 ∷ 0 ∷ 5 ∷ 0 ∷ []) 2 (0 ∷ 0 ∷ 0 ∷ 1 ∷ 0 ∷ 7 ∷ [])
+  pub not-once : Leaves smallPlan 2 (0 ∷ 0 ∷ 0 ∷ 1 ∷ 0 ∷ []) 0 (0 ∷ 0 ∷ 0 ∷ 1 ∷ 0 ∷ 7 ∷ [])
+  -- "The marking has 64-bit entries"
+  pub most : Leaves smallPlan 3 (18446744073709551615 ∷ 1 ∷ 0 ∷ 0 ∷ 0 ∷ []) 18446744073709551615 (0 ∷ 1 ∷ 0 ∷ 0 ∷ 0 ∷ 7 ∷ [])
+  -- "A transition with no inputs": transition 3 gives to place 0 where the direction of its arc is 1
+  pub no-inputs : togetherAnswer (set smallPlan 86 1) 3 (2 ∷ 1 ∷ 0 ∷ 5 ∷ 0 ∷ []) 5 ≡ record { refused = false; refusal = 0; unlimited = true; times = 0 }
+  pub same : togetherRest (set smallPlan 86 1) 3 (2 ∷ 1 ∷ 0 ∷ 5 ∷ 0 ∷ []) (9 ∷ 9 ∷ 9 ∷ 9 ∷ 9 ∷ 7 ∷ []) ≡ 2 ∷ 1 ∷ 0 ∷ 5 ∷ 0 ∷ 7 ∷ []
+  -- the plan, then 12; "15: .. after the transition number, before the buffer", also for a longer marking; 13
+  pub no-plan : togetherAnswer emptySlice 9 [] 0 ≡ record { refused = true; refusal = 3; unlimited = false; times = 0 }
+  pub no-transition : togetherAnswer smallPlan 4 [] 0 ≡ record { refused = true; refusal = 12; unlimited = false; times = 0 }
+  pub four-entries : togetherAnswer smallPlan 3 (2 ∷ 1 ∷ 0 ∷ 0 ∷ []) 0 ≡ record { refused = true; refusal = 15; unlimited = false; times = 0 }
+  pub six-entries : togetherAnswer smallPlan 3 (2 ∷ 1 ∷ 0 ∷ 0 ∷ 0 ∷ 0 ∷ []) 6 ≡ record { refused = true; refusal = 15; unlimited = false; times = 0 }
+  pub little-room : togetherAnswer smallPlan 3 (2 ∷ 1 ∷ 0 ∷ 0 ∷ 0 ∷ []) 4 ≡ record { refused = true; refusal = 13; unlimited = false; times = 0 }
+  pub kept : togetherRest smallPlan 3 (2 ∷ 1 ∷ 0 ∷ 0 ∷ 0 ∷ []) (9 ∷ 8 ∷ []) ≡ 9 ∷ 8 ∷ []
+
 -- the small plan's net with caps, as files of edition 2 will have them
 unfoldable pub withCaps : (ℕ → ℕ) → Net
 withCaps caps =
@@ -203,3 +231,5 @@ pub record Capped : Type 0 where
   pub over-accepted : verdict overNet (cut overNet (safety overNet (0 ∷ []))) (0 ∷ []) ≡ accepted
   pub over-in-slice : replay (cut overNet (safety overNet (0 ∷ [])) .net) (0 ∷ []) .answer ≡ fired
   pub over-in-plan : replay overNet (0 ∷ []) .answer ≡ full 0 1 1
+  -- "A6 still counts inputs alone": place 3 holds 9 tokens of 1, and loses 8
+  pub caps-aside : together oneCap 2 (λ p. 9) ≡ times 4

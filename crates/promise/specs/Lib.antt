@@ -2,5 +2,6 @@ pub mod Calls
 pub mod Firing
 pub mod Conclusions
 pub mod Exactness
+pub mod Together
 pub mod Promise
 pub mod Example

@@ -1,17 +1,14 @@
--- The initial marking, written entry by entry, and the entries of a marking.
-use Prim.Native.Nat.{ℕ, zero, suc, _+_, _*_, _^_, _<_, _≤_}
-use mathlib.Core.Path.{_≡_, refl, ap, sym, _∙_, fun-ext}
-use mathlib.Core.List.{List, map}
-use mathlib.Core.Bool.{true}
+-- The initial marking, written entry by entry.
+use Prim.Native.Nat.{ℕ, _+_, _*_, _^_, _<_, _≤_}
+use mathlib.Core.Path.{_≡_, refl, ap, _∙_, fun-ext}
+use mathlib.Core.List.{List}
 use native.Mathlib.Decide.{decLt}
-use native.Mathlib.Nat.{add-zero}
 use native.Mathlib.Omega.{arith}
 use borrow.Author.Count.{below-none, below-more}
 use lib.ListN.{length, getD, set, length-set, List·getD-eq-default}
-use lib.Seq.{getD-set-same, getD-set-other, ext-getD}
-use Rattle.net.specs.Numbers.{selected}
-use Rattle.net.specs.Net.{Net, Marking, Replay, tokens, replay, replayFrom}
-use Rattle.net.proofs.Markings.{below-at, below-off}
+use lib.Seq.{getD-set-same, getD-set-other}
+use Rattle.net.specs.Net.{Marking, Replay, tokens, replay, replayFrom}
+use Rattle.net.proofs.Markings.{below-at, below-off, tokens-are}
 use Rattle.file.specs.Word.{Bytes, le32}
 use Rattle.file.specs.Layout.{netFrom}
 use Rattle.file.specs.declared.Header.{Header}
@@ -61,30 +58,6 @@ marking-low s h b p = go (decLt p (h .places))
     go (yes l) = omega (arith, below-at (h .places) (λ q. le32 s (h .markstart + 4 * q)) p l, le32-lt s b (h .markstart + 4 * p))
     go (no l) = omega (arith, below-off (h .places) (λ q. le32 s (h .markstart + 4 * q)) p (omega (arith, l)))
 
-length-tokens : (M : Marking) (a n : ℕ) → length (map M (selected (λ p. true) a n)) ≡ n
-unfolding selected
-length-tokens M a zero = refl
-length-tokens M a (suc n) = ap suc (length-tokens M (suc a) n)
-
-getD-tokens : (M : Marking) (a n i : ℕ) → i < n → getD (map M (selected (λ p. true) a n)) i 0 ≡ M (a + i)
-unfolding selected
-getD-tokens M a zero i l = absurd (omega arith)
-getD-tokens M a (suc n) zero l = ap M (sym (add-zero a))
-getD-tokens M a (suc n) (suc i) l =
-    let e : suc a + i ≡ a + suc i = omega arith in
-    getD-tokens M (suc a) n i (omega arith) ∙ ap M e
-
--- a list is the entries of the marking that it holds
-tokens-are : (N : Net) (M : Marking) (m : List ℕ) → length m ≡ N .places → ((p : ℕ) → getD m p 0 ≡ M p) → m ≡ tokens N M
-unfolding tokens
-tokens-are N M m e f =
-    ext-getD 0 m (map M (selected (λ p. true) 0 (N .places))) (e ∙ sym (length-tokens M 0 (N .places)))
-    (λ i l. let z : i ≡ 0 + i = omega arith in f i ∙ ap M z ∙ sym (getD-tokens M 0 (N .places) i (omega arith)))
-
-pub length-tokens-of : (N : Net) (M : Marking) → length (tokens N M) ≡ N .places
-unfolding tokens
-length-tokens-of N M = length-tokens M 0 (N .places)
-
 -- "starts at the initial marking"
 from-initial : (s : List ℕ) (h : Header) {m₀ m : List ℕ} → Holds m₀ m (netFrom s h .marking) → (ts : List ℕ) → replayFrom (netFrom s h) 0 (held m) ts ≡ replay (netFrom s h) ts
 unfolding replay
@@ -109,5 +82,5 @@ module _ {s : List ℕ} {h : Header} {ts m₀ m : List ℕ} (passed : Passed s h
         let e = from-initial s h loaded ts in (
           r .0 ∙ ap (λ (R : Replay). replayTold (R .answer)) e,
           tokens-are (netFrom s h) (replay (netFrom s h) ts .marking) _ (r .1 .long ∙ loaded .long ∙ passed .places)
-              (λ p. r .1 .at p ∙ ap (λ (R : Replay). R .marking p) e),
+              (λ p l. r .1 .at p ∙ ap (λ (R : Replay). R .marking p) e),
         )

@@ -2,10 +2,10 @@ use mathlib.Core.Path.{sym}
 use lib.ListN.{length}
 use lib.Seq.{length-take-le}
 use Rattle.net.specs.Net.{replay}
+use Rattle.net.proofs.Markings.{length-tokens}
 use Rattle.file.specs.Layout.{netFrom}
 use Rattle.inputs_lists.proofs.Passing.{kept-refused, written-whole}
 use Rattle.replay.proofs.Listing.{list-passes, room-enough, told-refused, told-whole}
-use Rattle.replay.proofs.Loading.{length-tokens-of}
 use borrow.Author.Needs.{needs}
 use Rattle.replay.proofs.replay.Statement.{statement}
 use Rattle.replay.proofs.replay.Tie as tie
@@ -49,7 +49,7 @@ returns-2 c =
     let net = netFrom (s .file .now) (s .h) in
     let none = all .before .before .if1 .left in (
       told-whole _ _ _ (back .held-back .ensures) none (all .replay-all .ensures .0),
-      written-whole _ _ _ _ _ (back .held-back .ensures) none (length-tokens-of net (replay net (s .list .now) .marking)) (all .replay-all .ensures .1),
+      written-whole _ _ _ _ _ (back .held-back .ensures) none (length-tokens net (replay net (s .list .now) .marking)) (all .replay-all .ensures .1),
     )
 
 pub replay-spec : {M : Type 1} → statement M

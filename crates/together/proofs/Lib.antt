@@ -1,0 +1,5 @@
+pub mod Inputs
+pub mod Weighing
+pub mod Ends
+pub mod Passing
+pub mod Apart
