@@ -32,7 +32,7 @@ pub fn agree(cases: u64) -> bool {
 fn effect(c: &EffectCase) -> Answer {
     let mut effect = UNSET as i32;
     let number = unsafe { tuned::effect(c.file.pointer(), c.file.len, c.place, c.transition, &mut effect) };
-    Answer::new(number, [i64::from(effect), 0, 0], Cells::None)
+    Answer::new(number, [effect], vec![])
 }
 
 fn arcs(c: &ArcsCase) -> Answer {
@@ -41,7 +41,7 @@ fn arcs(c: &ArcsCase) -> Answer {
     let number = unsafe {
         tuned::arcs(plan.pointer(), plan.len, slice.pointer(), slice.len, c.of_slice, c.transition, &mut start)
     };
-    Answer::new(number, [i64::from(start), 0, 0], Cells::None)
+    Answer::new(number, [start], vec![])
 }
 
 fn replay(c: &ReplayCase) -> Answer {
@@ -52,7 +52,7 @@ fn replay(c: &ReplayCase) -> Answer {
     let number = unsafe {
         tuned::replay(file.pointer(), file.len, from, firings, to, room, &mut index, &mut place, &mut amount)
     };
-    Answer::new(number, [i64::from(index), i64::from(place), i64::from(amount)], Cells::Longs(lent.cells))
+    Answer::new(number, [index, place, amount], vec![Cells::Longs(lent.cells)])
 }
 
 fn cut_answer(c: &CutCase) -> Answer {
@@ -65,7 +65,7 @@ fn cut_answer(c: &CutCase) -> Answer {
     let (to, room) = (lent.pointer_mut(), lent.len);
     let number =
         unsafe { call(plan.pointer(), plan.len, q.pointer(), q.len, to, room, &mut length, &mut places, &mut kept) };
-    Answer::new(number, [i64::from(length), i64::from(places), i64::from(kept)], Cells::Bytes(lent.cells))
+    Answer::new(number, [length, places, kept], vec![Cells::Bytes(lent.cells)])
 }
 
 fn project(c: &ProjectCase) -> Answer {
@@ -76,13 +76,13 @@ fn project(c: &ProjectCase) -> Answer {
     let number = unsafe {
         tuned::project(plan.pointer(), plan.len, slice.pointer(), slice.len, list, entries, to, room, &mut count)
     };
-    Answer::new(number, [i64::from(count), 0, 0], Cells::Halves(lent.cells))
+    Answer::new(number, [count], vec![Cells::Halves(lent.cells)])
 }
 
 fn check(c: &CheckCase) -> Answer {
     let (plan, slice, q) = (&c.plan, &c.slice, &c.q);
     let number = unsafe { tuned::check(plan.pointer(), plan.len, slice.pointer(), slice.len, q.pointer(), q.len) };
-    Answer::new(number, [0; 3], Cells::None)
+    Answer::number(number)
 }
 
 fn verdict(c: &VerdictCase) -> Answer {
@@ -91,7 +91,7 @@ fn verdict(c: &VerdictCase) -> Answer {
     let number = unsafe {
         tuned::verdict(plan.pointer(), plan.len, slice.pointer(), slice.len, q.pointer(), q.len, &mut breaking)
     };
-    Answer::new(number, [i64::from(breaking), 0, 0], Cells::None)
+    Answer::new(number, [breaking], vec![])
 }
 
 fn call<C: Case>(

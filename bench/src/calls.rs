@@ -5,7 +5,8 @@ use crate::tuned;
 
 type Effect = unsafe extern "C" fn(*const u8, usize, u16, u16, *mut i32) -> u32;
 type Arcs = unsafe extern "C" fn(*const u8, usize, *const u8, usize, bool, u16, *mut u32) -> u32;
-type Replay = unsafe extern "C" fn(*const u8, usize, *const u16, usize, *mut u64, usize, *mut u32, *mut u32, *mut u32) -> u32;
+type Replay =
+    unsafe extern "C" fn(*const u8, usize, *const u16, usize, *mut u64, usize, *mut u32, *mut u32, *mut u32) -> u32;
 type Cut =
     unsafe extern "C" fn(*const u8, usize, *const u16, usize, *mut u8, usize, *mut u32, *mut u32, *mut u32) -> u32;
 type Project =

@@ -12,7 +12,9 @@ pub fn print() {
     println!(
         "Stack of each call in bytes, from the arguments that are handed over on the stack, not counted, down to the"
     );
-    println!("lowest byte written, the return address included: the most on the eight nets, a full one and the checks'.");
+    println!(
+        "lowest byte written, the return address included: the most on the eight nets, a full one and the checks'."
+    );
     let mut inputs = nets::eight();
     inputs.push(nets::random(1_024, 11));
     inputs.extend(nets::checks());

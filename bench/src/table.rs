@@ -41,7 +41,9 @@ pub fn checks(effort: Effort) {
     println!("Checks of 1,024 places, 1,024 transitions and 4,096 arcs, in microseconds: every sixteenth place and");
     println!("transition is left out. To reading: to merely reading the two files.");
     println!();
-    println!("| answer | ours | tuned | ours : tuned | ours to our reading | to tuned reading | tuned to tuned reading |");
+    println!(
+        "| answer | ours | tuned | ours : tuned | ours to our reading | to tuned reading | tuned to tuned reading |"
+    );
     println!("|---|---|---|---|---|---|---|");
     for input in nets::checks() {
         let name = input.name.clone();

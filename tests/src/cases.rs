@@ -48,7 +48,6 @@ impl<T: Copy> Lent<T> {
 /// A lent buffer after the call, guard zone included.
 #[derive(Clone, PartialEq, Eq, Debug)]
 pub enum Cells {
-    None,
     Bytes(Vec<u8>),
     Halves(Vec<u16>),
     Longs(Vec<u64>),
@@ -58,27 +57,32 @@ pub enum Cells {
 #[derive(Clone, PartialEq, Eq, Debug)]
 pub struct Answer {
     pub number: u32,
-    /// The values handed back through pointers; unused ones are 0.
-    pub outs: [i64; 3],
-    pub cells: Cells,
+    /// The values handed back through pointers, in order.
+    pub outs: Vec<i128>,
+    /// The lent buffers, in order.
+    pub cells: Vec<Cells>,
     /// Whether everything handed in to be read is as it was.
     pub inputs_kept: bool,
 }
 
 impl Answer {
-    pub fn new(number: u32, outs: [i64; 3], cells: Cells) -> Answer {
-        Answer { number, outs, cells, inputs_kept: true }
+    pub fn new<T: Into<i128>, const N: usize>(number: u32, outs: [T; N], cells: Vec<Cells>) -> Answer {
+        Answer { number, outs: outs.map(Into::into).into(), cells, inputs_kept: true }
+    }
+
+    /// The answer of a call that hands nothing back but its number.
+    pub fn number(number: u32) -> Answer {
+        Answer::new(number, [0; 0], vec![])
     }
 
     pub fn show(&self) -> String {
-        let cells = match &self.cells {
-            Cells::None => String::new(),
+        let cells = self.cells.iter().map(|cells| match cells {
             Cells::Bytes(b) => format!(" buffer {}", hex(b)),
             Cells::Halves(h) => format!(" buffer {h:x?}"),
             Cells::Longs(l) => format!(" buffer {l:x?}"),
-        };
+        });
         let kept = if self.inputs_kept { "" } else { " INPUTS CHANGED" };
-        format!("number {} outs {:?}{kept}{cells}", self.number, self.outs)
+        format!("number {} outs {:?}{kept}{}", self.number, self.outs, cells.collect::<String>())
     }
 }
 
@@ -121,8 +125,8 @@ pub struct EffectCase {
 impl Case for EffectCase {
     fn second(&self) -> Answer {
         match effect::effect(self.file.part(), self.place, self.transition) {
-            Ok(effect) => Answer::new(0, [i64::from(effect), 0, 0], Cells::None),
-            Err(refusal) => Answer::new(refusal, [0; 3], Cells::None),
+            Ok(effect) => Answer::new(0, [effect], vec![]),
+            Err(refusal) => Answer::new(refusal, [0], vec![]),
         }
     }
 
@@ -152,7 +156,7 @@ pub struct ArcsCase {
 impl Case for ArcsCase {
     fn second(&self) -> Answer {
         let (start, run) = arcs::arcs(self.plan.part(), self.slice.part(), self.of_slice, self.transition);
-        Answer::new(run.len() as u32, [start as i64, 0, 0], Cells::None)
+        Answer::new(run.len() as u32, [start as i64], vec![])
     }
 
     fn show(&self) -> String {
@@ -202,7 +206,7 @@ impl Case for ReplayCase {
             Ok(Replayed::Stuck { index, place, amount }) => (100, index as i64, i64::from(place), amount as i64),
             Err(refusal) => (refusal, 0, 0, 0),
         };
-        Answer::new(number, [index, place, amount], Cells::Longs(lent.cells))
+        Answer::new(number, [index, place, amount], vec![Cells::Longs(lent.cells)])
     }
 
     fn show(&self) -> String {
@@ -238,9 +242,9 @@ impl Case for CutCase {
         match cut(self.which, self.plan.part(), self.q.part(), lent.part_mut()) {
             Ok(w) => {
                 let outs = [w.length as i64, w.places as i64, w.transitions as i64];
-                Answer::new(0, outs, Cells::Bytes(lent.cells))
+                Answer::new(0, outs, vec![Cells::Bytes(lent.cells)])
             }
-            Err(refusal) => Answer::new(refusal, [0; 3], Cells::Bytes(lent.cells)),
+            Err(refusal) => Answer::new(refusal, [0; 3], vec![Cells::Bytes(lent.cells)]),
         }
     }
 
@@ -267,7 +271,7 @@ impl Case for ProjectCase {
                 Ok(count) => (0, count as i64),
                 Err(refusal) => (refusal, 0),
             };
-        Answer::new(number, [count, 0, 0], Cells::Halves(lent.cells))
+        Answer::new(number, [count], vec![Cells::Halves(lent.cells)])
     }
 
     fn show(&self) -> String {
@@ -296,7 +300,7 @@ pub struct CheckCase {
 impl Case for CheckCase {
     fn second(&self) -> Answer {
         let number = check::check_number(self.plan.part(), self.slice.part(), self.q.part());
-        Answer::new(number, [0; 3], Cells::None)
+        Answer::number(number)
     }
 
     fn show(&self) -> String {
@@ -319,7 +323,7 @@ impl Case for VerdictCase {
             Ok(check::Verdict::Broken { rule, number }) => (100 + rule, number as i64),
             Err(refusal) => (refusal, 0),
         };
-        Answer::new(answer, [number, 0, 0], Cells::None)
+        Answer::new(answer, [number], vec![])
     }
 
     fn show(&self) -> String {

@@ -12,8 +12,8 @@ pub struct Fixed<C> {
     pub name: String,
     pub case: C,
     pub number: u32,
-    pub outs: [i64; 3],
-    pub cells: Option<Cells>,
+    pub outs: Vec<i128>,
+    pub cells: Option<Vec<Cells>>,
 }
 
 impl<C: Case> Fixed<C> {
@@ -28,8 +28,8 @@ impl<C: Case> Fixed<C> {
     }
 }
 
-fn fixed<C>(name: impl Into<String>, case: C, number: u32, outs: [i64; 3]) -> Fixed<C> {
-    Fixed { name: name.into(), case, number, outs, cells: None }
+fn fixed<C, T: Into<i128>, const N: usize>(name: impl Into<String>, case: C, number: u32, outs: [T; N]) -> Fixed<C> {
+    Fixed { name: name.into(), case, number, outs: outs.map(Into::into).into(), cells: None }
 }
 
 fn from_hex(text: &str) -> Vec<u8> {
@@ -279,12 +279,12 @@ pub fn effects() -> Vec<Fixed<EffectCase>> {
     for p in 0..5u16 {
         for t in 0..4u16 {
             let effect = due[usize::from(p)][usize::from(t)];
-            list.push(fixed(format!("kerb, effect of {t} on {p}"), case(&small, p, t), 0, [effect, 0, 0]));
+            list.push(fixed(format!("kerb, effect of {t} on {p}"), case(&small, p, t), 0, [effect]));
         }
     }
     let numbers = [(5, 0, 10), (65_535, 0, 10), (0, 4, 12), (4, 65_535, 12), (5, 4, 10)];
     for (p, t, number) in numbers {
-        list.push(fixed(format!("kerb, effect of {t} on {p}"), case(&small, p, t), number, [0; 3]));
+        list.push(fixed(format!("kerb, effect of {t} on {p}"), case(&small, p, t), number, [0]));
     }
     let nets = [
         ("reader", loop_net(3, 3, 0), 0),
@@ -305,7 +305,7 @@ pub fn effects() -> Vec<Fixed<EffectCase>> {
         ("2,048 of 65,535 both", several(&[65_535; 2_048], &[65_535; 2_048], 0).bytes(), 0),
     ];
     for (name, file, effect) in nets {
-        list.push(fixed(name, case(&file, 0, 0), 0, [effect, 0, 0]));
+        list.push(fixed(name, case(&file, 0, 0), 0, [effect]));
     }
     let edges = [
         ("one place, no transition", one_place_plan(), 12),
@@ -314,17 +314,17 @@ pub fn effects() -> Vec<Fixed<EffectCase>> {
         ("the empty slice", empty_slice(), 10),
     ];
     for (name, file, number) in edges {
-        list.push(fixed(name, case(&file, 0, 0), number, [0; 3]));
+        list.push(fixed(name, case(&file, 0, 0), number, [0]));
     }
     let mut longest = self::small_plan();
     longest.note = vec![9; 65_536 - 108];
-    list.push(fixed("65,536 bytes", case(&longest.bytes(), 3, 2), 0, [-2, 0, 0]));
+    list.push(fixed("65,536 bytes", case(&longest.bytes(), 3, 2), 0, [-2]));
     for (name, file, number) in bad_of_either() {
-        list.push(fixed(name, case(&file, 0, 0), number, [0; 3]));
+        list.push(fixed(name, case(&file, 0, 0), number, [0]));
     }
     let mut null = case(&[], 0, 0);
     null.file.null = true;
-    list.push(fixed("null file", null, 1, [0; 3]));
+    list.push(fixed("null file", null, 1, [0]));
     list
 }
 
@@ -352,39 +352,39 @@ pub fn arc_runs() -> Vec<Fixed<ArcsCase>> {
     ];
     for (of_slice, t, length, start) in runs {
         let which = if of_slice { "slice" } else { "kerb" };
-        list.push(fixed(format!("{which}, transition {t}"), case(&plan, &slice, of_slice, t), length, [start, 0, 0]));
+        list.push(fixed(format!("{which}, transition {t}"), case(&plan, &slice, of_slice, t), length, [start]));
     }
     let mut noted = small_plan();
     noted.note = vec![1; 7];
-    list.push(fixed("a note moves the run", case(&noted.bytes(), &slice, false, 1), 24, [51, 0, 0]));
+    list.push(fixed("a note moves the run", case(&noted.bytes(), &slice, false, 1), 24, [51]));
     let mut noted = small_safety();
     noted.note = vec![1; 3];
-    list.push(fixed("a note moves the slice's run", case(&plan, &noted.bytes(), true, 1), 16, [39, 0, 0]));
+    list.push(fixed("a note moves the slice's run", case(&plan, &noted.bytes(), true, 1), 16, [39]));
     let bare = Draft::plan(vec![1], 2, vec![DraftArc::new(1, 0, 0, 1)]).bytes();
-    list.push(fixed("transition without arcs", case(&bare, &slice, false, 0), 0, [0; 3]));
-    list.push(fixed("after one without arcs", case(&bare, &slice, false, 1), 8, [4, 0, 0]));
+    list.push(fixed("transition without arcs", case(&bare, &slice, false, 0), 0, [0]));
+    list.push(fixed("after one without arcs", case(&bare, &slice, false, 1), 8, [4]));
     let (parallel, parallel_cut) = (parallel_plan().bytes(), parallel_safety_for_3().bytes());
-    list.push(fixed("parallel arcs", case(&parallel, &parallel_cut, false, 2), 24, [68, 0, 0]));
-    list.push(fixed("after parallel arcs", case(&parallel, &parallel_cut, false, 3), 8, [92, 0, 0]));
-    list.push(fixed("parallel arcs in the slice", case(&parallel, &parallel_cut, true, 2), 16, [64, 0, 0]));
+    list.push(fixed("parallel arcs", case(&parallel, &parallel_cut, false, 2), 24, [68]));
+    list.push(fixed("after parallel arcs", case(&parallel, &parallel_cut, false, 3), 8, [92]));
+    list.push(fixed("parallel arcs in the slice", case(&parallel, &parallel_cut, true, 2), 16, [64]));
     let widest = several(&[65_535; 4_096], &[], 0).bytes();
-    list.push(fixed("4,096 parallel arcs", case(&widest, &slice, false, 0), 32_768, [4, 0, 0]));
+    list.push(fixed("4,096 parallel arcs", case(&widest, &slice, false, 0), 32_768, [4]));
     let nothing = empty_slice();
-    list.push(fixed("the empty slice", case(&plan, &nothing, true, 0), 0, [0; 3]));
-    list.push(fixed("beside the empty slice", case(&plan, &nothing, false, 1), 24, [44, 0, 0]));
+    list.push(fixed("the empty slice", case(&plan, &nothing, true, 0), 0, [0]));
+    list.push(fixed("beside the empty slice", case(&plan, &nothing, false, 1), 24, [44]));
     let full = full_net().bytes();
-    list.push(fixed("last run of the full net", case(&full, &slice, false, 1_023), 32, [4_096 + 32_736, 0, 0]));
+    list.push(fixed("last run of the full net", case(&full, &slice, false, 1_023), 32, [4_096 + 32_736]));
     for (name, bad, _) in bad_plans() {
-        list.push(fixed(format!("plan: {name}"), case(&bad, &slice, true, 0), 0, [0; 3]));
-        list.push(fixed(format!("plan: {name}"), case(&bad, &slice, false, 0), 0, [0; 3]));
+        list.push(fixed(format!("plan: {name}"), case(&bad, &slice, true, 0), 0, [0]));
+        list.push(fixed(format!("plan: {name}"), case(&bad, &slice, false, 0), 0, [0]));
     }
     for (name, bad, _) in bad_slices() {
-        list.push(fixed(format!("slice: {name}"), case(&plan, &bad, false, 0), 0, [0; 3]));
-        list.push(fixed(format!("slice: {name}"), case(&plan, &bad, true, 0), 0, [0; 3]));
+        list.push(fixed(format!("slice: {name}"), case(&plan, &bad, false, 0), 0, [0]));
+        list.push(fixed(format!("slice: {name}"), case(&plan, &bad, true, 0), 0, [0]));
     }
     let mut null = case(&[], &[], false, 0);
     (null.plan.null, null.slice.null) = (true, true);
-    list.push(fixed("null files", null, 0, [0; 3]));
+    list.push(fixed("null files", null, 0, [0]));
     for net in published::nets() {
         let transitions = net.plan[net.plan.len() - 10];
         let mut at = net.plan.len() - 16 - 8 * usize::from(net.plan[net.plan.len() - 8]);
@@ -395,7 +395,7 @@ pub fn arc_runs() -> Vec<Fixed<ArcsCase>> {
             let run = net.plan[at..net.plan.len() - 16].chunks(8).take_while(|a| a[0] == t).count();
             let start = if run == 0 { 0 } else { at as i64 };
             let case = case(&net.plan, &slice, false, u16::from(t));
-            list.push(fixed(format!("{}, transition {t}", net.name), case, 8 * run as u32, [start, 0, 0]));
+            list.push(fixed(format!("{}, transition {t}", net.name), case, 8 * run as u32, [start]));
             at += 8 * run;
         }
     }
@@ -408,7 +408,7 @@ pub fn replays() -> Vec<Fixed<ReplayCase>> {
     let mut add =
         |name: String, file: &[u8], numbers: &[u16], len: usize, number, stuck: (i64, i64, i64), marking: &[u64]| {
             let mut one = fixed(name, case(file, numbers, len), number, [stuck.0, stuck.1, stuck.2]);
-            one.cells = Some(Cells::Longs(after(len, marking)));
+            one.cells = Some(vec![Cells::Longs(after(len, marking))]);
             list.push(one);
         };
     let small = small_plan().bytes();
@@ -524,13 +524,13 @@ pub fn cuts(which: Cut) -> Vec<Fixed<CutCase>> {
             let len = slice.len() + more;
             let outs = [slice.len() as i64, places, transitions];
             let mut one = fixed(format!("{name}, {more} bytes more lent"), case(plan, q, len), 0, outs);
-            one.cells = Some(Cells::Bytes(after(len, slice)));
+            one.cells = Some(vec![Cells::Bytes(after(len, slice))]);
             list.push(one);
         }
         for short in [1, slice.len() / 2, slice.len()] {
             let len = slice.len() - short;
             let mut one = fixed(format!("{name}, {short} bytes too few lent"), case(plan, q, len), 13, [0; 3]);
-            one.cells = Some(Cells::Bytes(after(len, &[])));
+            one.cells = Some(vec![Cells::Bytes(after(len, &[]))]);
             list.push(one);
         }
     };
@@ -579,7 +579,7 @@ pub fn cuts(which: Cut) -> Vec<Fixed<CutCase>> {
 
     let mut refused = |name: String, plan: &[u8], q: &[u16], len, number| {
         let mut one = fixed(name, case(plan, q, len), number, [0; 3]);
-        one.cells = Some(Cells::Bytes(after(len, &[])));
+        one.cells = Some(vec![Cells::Bytes(after(len, &[]))]);
         list.push(one);
     };
     refused("no place".into(), &Draft::plan(vec![], 1, vec![]).bytes(), &[0], 200, 10);
@@ -611,8 +611,8 @@ pub fn projections() -> Vec<Fixed<ProjectCase>> {
     let (plan, slice, branching) = (small_plan().bytes(), small_safety().bytes(), small_branching().bytes());
     let mut list = Vec::new();
     let mut add = |name: String, plan: &[u8], slice: &[u8], numbers: &[u16], len: usize, number, due: &[u16]| {
-        let mut one = fixed(name, case(plan, slice, numbers, len), number, [due.len() as i64, 0, 0]);
-        one.cells = Some(Cells::Halves(after(len, due)));
+        let mut one = fixed(name, case(plan, slice, numbers, len), number, [due.len() as i64]);
+        one.cells = Some(vec![Cells::Halves(after(len, due))]);
         list.push(one);
     };
     for len in [2, 3, 10] {
@@ -777,7 +777,7 @@ fn one_place_of(tokens: u32) -> Vec<u8> {
 pub fn verdicts() -> Vec<Fixed<VerdictCase>> {
     let case = |(name, plan, slice, q, number, breaking): (String, Vec<u8>, Vec<u8>, Vec<u16>, u32, i64)| {
         let case = VerdictCase { plan: lent(plan), slice: lent(slice), q: lent(q) };
-        fixed(name, case, number, [breaking, 0, 0])
+        fixed(name, case, number, [breaking])
     };
     judged().into_iter().map(case).collect()
 }
@@ -787,7 +787,7 @@ pub fn checks() -> Vec<Fixed<CheckCase>> {
         |plan: Vec<u8>, slice: Vec<u8>, q: Vec<u8>| CheckCase { plan: lent(plan), slice: lent(slice), q: lent(q) };
     let mut list: Vec<Fixed<CheckCase>> = judged()
         .into_iter()
-        .map(|(name, plan, slice, q, number, _)| fixed(name, case(plan, slice, to_bytes(&q)), number, [0; 3]))
+        .map(|(name, plan, slice, q, number, _)| fixed(name, case(plan, slice, to_bytes(&q)), number, [0; 0]))
         .collect();
     let (plan, slice) = (small_plan().bytes(), small_safety().bytes());
     let odd: [(&str, &[u8]); 4] = [
@@ -797,16 +797,16 @@ pub fn checks() -> Vec<Fixed<CheckCase>> {
         ("odd and falling", &[2, 0, 1, 0, 0]),
     ];
     for (name, q) in odd {
-        list.push(fixed(name, case(plan.clone(), slice.clone(), q.to_vec()), 9, [0; 3]));
+        list.push(fixed(name, case(plan.clone(), slice.clone(), q.to_vec()), 9, [0; 0]));
     }
     let mut none = case(plan.clone(), empty_slice(), vec![]);
     none.q.null = true;
-    list.push(fixed("no bytes at null", none, 0, [0; 3]));
-    list.push(fixed("one byte, the empty slice", case(plan.clone(), empty_slice(), vec![0]), 9, [0; 3]));
-    list.push(fixed("high byte", case(plan, slice, vec![2, 1]), 10, [0; 3]));
+    list.push(fixed("no bytes at null", none, 0, [0; 0]));
+    list.push(fixed("one byte, the empty slice", case(plan.clone(), empty_slice(), vec![0]), 9, [0; 0]));
+    list.push(fixed("high byte", case(plan, slice, vec![2, 1]), 10, [0; 0]));
     let mut null = case(vec![], vec![], vec![]);
     (null.plan.null, null.slice.null, null.q.null) = (true, true, true);
-    list.push(fixed("null pointers", null, 1, [0; 3]));
+    list.push(fixed("null pointers", null, 1, [0; 0]));
     list
 }
 

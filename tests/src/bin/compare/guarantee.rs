@@ -213,7 +213,7 @@ fn our_cut(case: &GuaranteeCase, plan: &Net, which: Cut) -> Vec<u8> {
         #[allow(unreachable_patterns)]
         _ => None,
     };
-    match answer.map(|answer| answer.cells) {
+    match answer.and_then(|mut answer| answer.cells.pop()) {
         Some(Cells::Bytes(bytes)) => bytes,
         _ => cut,
     }

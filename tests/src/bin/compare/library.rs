@@ -18,7 +18,7 @@ pub fn effect(case: &EffectCase) -> Answer {
     let file = case.file.clone();
     let mut effect = UNSET as i32;
     let number = unsafe { nesfoal_effect(file.pointer(), file.len, case.place, case.transition, &mut effect) };
-    Answer { number, outs: [i64::from(effect), 0, 0], cells: Cells::None, inputs_kept: file == case.file }
+    Answer { inputs_kept: file == case.file, ..Answer::new(number, [effect], vec![]) }
 }
 
 #[cfg(feature = "arcs")]
@@ -29,7 +29,7 @@ pub fn arcs(case: &ArcsCase) -> Answer {
         nesfoal_arcs(plan.pointer(), plan.len, slice.pointer(), slice.len, case.of_slice, case.transition, &mut start)
     };
     let inputs_kept = plan == case.plan && slice == case.slice;
-    Answer { number, outs: [i64::from(start), 0, 0], cells: Cells::None, inputs_kept }
+    Answer { inputs_kept, ..Answer::new(number, [start], vec![]) }
 }
 
 #[cfg(feature = "replay")]
@@ -50,8 +50,7 @@ pub fn replay(case: &ReplayCase) -> Answer {
         )
     };
     let inputs_kept = file == case.file && list == case.list;
-    let outs = [i64::from(index), i64::from(place), i64::from(amount)];
-    Answer { number, outs, cells: Cells::Longs(marking.cells), inputs_kept }
+    Answer { inputs_kept, ..Answer::new(number, [index, place, amount], vec![Cells::Longs(marking.cells)]) }
 }
 
 #[cfg(feature = "safety")]
@@ -86,8 +85,7 @@ fn cut(case: &CutCase, call: CutCall) -> Answer {
         )
     };
     let inputs_kept = plan == case.plan && q == case.q;
-    let outs = [i64::from(length), i64::from(places), i64::from(transitions)];
-    Answer { number, outs, cells: Cells::Bytes(slice.cells), inputs_kept }
+    Answer { inputs_kept, ..Answer::new(number, [length, places, transitions], vec![Cells::Bytes(slice.cells)]) }
 }
 
 #[cfg(feature = "project")]
@@ -109,7 +107,7 @@ pub fn project(case: &ProjectCase) -> Answer {
         )
     };
     let inputs_kept = plan == case.plan && slice == case.slice && list == case.list;
-    Answer { number, outs: [i64::from(count), 0, 0], cells: Cells::Halves(out.cells), inputs_kept }
+    Answer { inputs_kept, ..Answer::new(number, [count], vec![Cells::Halves(out.cells)]) }
 }
 
 #[cfg(feature = "check")]
@@ -117,7 +115,7 @@ pub fn check(case: &CheckCase) -> Answer {
     let (plan, slice, q) = (case.plan.clone(), case.slice.clone(), case.q.clone());
     let number = unsafe { nesfoal_check(plan.pointer(), plan.len, slice.pointer(), slice.len, q.pointer(), q.len) };
     let inputs_kept = plan == case.plan && slice == case.slice && q == case.q;
-    Answer { number, outs: [0; 3], cells: Cells::None, inputs_kept }
+    Answer { inputs_kept, ..Answer::number(number) }
 }
 
 #[cfg(feature = "check")]
@@ -128,5 +126,5 @@ pub fn verdict(case: &VerdictCase) -> Answer {
         nesfoal_verdict(plan.pointer(), plan.len, slice.pointer(), slice.len, q.pointer(), q.len, &mut breaking)
     };
     let inputs_kept = plan == case.plan && slice == case.slice && q == case.q;
-    Answer { number, outs: [i64::from(breaking), 0, 0], cells: Cells::None, inputs_kept }
+    Answer { inputs_kept, ..Answer::new(number, [breaking], vec![]) }
 }

@@ -28,7 +28,8 @@ impl Call for Replay {
     /// Another short place where a later firing sticks; where the first does, one token too many.
     fn spoil(answer: &mut Answer) {
         if answer.number == 100 {
-            answer.outs[if answer.outs[0] > 0 { 1 } else { 2 }] += 1;
+            let which = if answer.outs[0] > 0 { 1 } else { 2 };
+            answer.outs[which] += 1;
         }
     }
 }

@@ -28,7 +28,7 @@ impl Call for Safety {
 
     /// A guard byte after the buffer is taken as written.
     fn spoil(answer: &mut Answer) {
-        if let (0, Cells::Bytes(cells)) = (answer.number, &mut answer.cells) {
+        if let (0, [Cells::Bytes(cells)]) = (answer.number, &mut answer.cells[..]) {
             *cells.last_mut().unwrap() ^= 1;
         }
     }
