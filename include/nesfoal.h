@@ -10,12 +10,13 @@
  *   in a lent buffer written, until the call returns; they take at most PTRDIFF_MAX bytes, as every object in C does.
  * - Where the count is 0 the pointer is not used: it may be null, or point anywhere. With any other count it is not null.
  * - Lists of 16 bits and of 64 bits stand at the alignment of their type; byte strings may stand at any address.
- * - Each result pointer (int32_t * or uint32_t * without a count) is not null and points to one number, at its alignment.
+ * - Each result pointer (int32_t *, uint32_t * or uint64_t * without a count) is not null and points to one number, at its
+ *   alignment.
  * - What a call writes overlaps nothing else that it is given: a lent buffer and a result overlap no input, no other buffer
  *   and no other result. Inputs may overlap each other, or be the same string.
  * - While a call runs nobody else writes what it reads, and nobody else reads or writes what it writes.
- * - There is stack, measured on x86-64: below 1 KB for effect and arcs, 3 KB for project, 27 KB for the cuts, 32 KB for the
- *   check, 38 KB for replay.
+ * - There is stack, measured on x86-64: below 1 KB for effect, arcs and together, 3 KB for project, 27 KB for the cuts, 32 KB
+ *   for the check, 38 KB for replay.
  *
  * What is proved of every such call, on every input: whatever the counts are, whatever the strings, lists and buffers hold, and
  * whatever numbers are passed
@@ -37,7 +38,7 @@
 #include <stdint.h>
 
 /* One more with each change of a call, of a number or of the files, so that a program can refuse to be built with another. */
-#define NESFOAL_VERSION 4
+#define NESFOAL_VERSION 5
 
 /* The limits of a file, and of a list that a call takes. */
 #define NESFOAL_MAX_FILE_BYTES 65536
@@ -47,16 +48,17 @@
 #define NESFOAL_MAX_LIST_ENTRIES 65535
 
 /* Room that always suffices, whatever the plan and the list, so that 13 is not met: bytes for the slice that a cut writes,
- * 40,976 (4 for a marking, 8 for an arc, 2 for an origin, 16 for the trailer); entries for the marking of a replay; entries
- * for a projection.
+ * 40,976 (4 for a marking, 8 for an arc, 2 for an origin, 16 for the trailer); entries for a marking, of a replay or of what
+ * nesfoal_together leaves; entries for a projection.
  */
 #define NESFOAL_SLICE_ROOM \
     (4 * NESFOAL_MAX_PLACES + 8 * NESFOAL_MAX_ARCS + 2 * NESFOAL_MAX_PLACES + 2 * NESFOAL_MAX_TRANSITIONS + 16)
 #define NESFOAL_MARKING_ROOM NESFOAL_MAX_PLACES
 #define NESFOAL_PROJECTION_ROOM NESFOAL_MAX_LIST_ENTRIES
 
-/* What the calls return, but for nesfoal_arcs. Refusals stand in the order of checking: files come first (plan before
- * slice), then criterion, list and buffer; each file is gone through from 1 to 8, its arcs one by one, 6 before 7.
+/* What the calls return, but for nesfoal_arcs. In the order of checking: files come first (plan before slice), then
+ * criterion, list or transition, marking, and last the buffer; each file is gone through from 1 to 8, its arcs one by one,
+ * 6 before 7.
  */
 enum {
     NESFOAL_DONE = 0,
@@ -76,11 +78,13 @@ enum {
     NESFOAL_REFUSED_PLACE = 10,      /* criterion or place: a number that is no place, or a criterion that does not rise */
     NESFOAL_REFUSED_LIST = 11,       /* list: above 65,535 entries */
     NESFOAL_REFUSED_TRANSITION = 12, /* list or transition: a number that is no transition */
-    NESFOAL_REFUSED_BUFFER = 13,     /* buffer: shorter than what the call writes */
-    NESFOAL_LAST_REFUSAL = 13,       /* answers from 1 to this one are refusals */
+    NESFOAL_REFUSED_BUFFER = 13,     /* buffer: shorter than what the call writes; always the last */
+    NESFOAL_REFUSED_MARKING = 15,    /* marking: not as many entries as the plan has places */
+    NESFOAL_LAST_REFUSAL = 15,       /* answers from 1 to this one are refusals */
 
-    NESFOAL_STUCK = 100, /* of a replay: a transition is not enabled */
-    NESFOAL_RULE = 100   /* of a check: plus the number of the broken rule, 1 to 8 */
+    NESFOAL_STUCK = 100,     /* of a replay: a transition is not enabled */
+    NESFOAL_UNLIMITED = 100, /* of nesfoal_together: the transition takes nothing */
+    NESFOAL_RULE = 100       /* of a check: plus the number of the broken rule, 1 to 8 */
 };
 
 #ifdef __cplusplus
@@ -135,6 +139,23 @@ uint32_t nesfoal_replay(const uint8_t *file, size_t file_length,
                         const uint16_t *list, size_t list_count,
                         uint64_t *marking, size_t marking_count,
                         uint32_t *index, uint32_t *place, uint32_t *amount);
+
+/* How many times can the inputs of a transition of a plan be taken together from a marking, and what is then left? The
+ * answer is the largest k for which every place holds k times what the transition takes from it: for k + 1 some place is
+ * short. What the transition adds does not count, nor does the plan's own marking.
+ *
+ * marking: the tokens of each place, as many entries as the plan has places, any numbers.
+ * Returns 0, with k, from 0 to 2^64 - 1, in *times; NESFOAL_UNLIMITED, exactly where the transition takes nothing from any
+ * place; or a refusal: 1 to 7, 12 for an unknown transition, 15 where marking_count is not the number of places, and 13
+ * where rest has fewer entries than that. *times is 0 but where k is put there.
+ * The first entries of rest, one for each place, become the tokens less k times what is taken there, exactly; where it is
+ * unlimited, the marking. Later entries keep their values.
+ */
+uint32_t nesfoal_together(const uint8_t *plan, size_t plan_length,
+                          uint16_t transition,
+                          const uint64_t *marking, size_t marking_count,
+                          uint64_t *rest, size_t rest_count,
+                          uint64_t *times);
 
 /* The safety cut of a plan for a criterion (places of the plan, strictly rising): the smallest slice that nesfoal_check
  * accepts for them, written as a slice file without note. For no place either cut is the slice of 16 bytes with no places

@@ -3,7 +3,7 @@
 
 #![allow(dead_code)]
 
-pub const NESFOAL_VERSION: u32 = 4;
+pub const NESFOAL_VERSION: u32 = 5;
 
 pub const NESFOAL_MAX_FILE_BYTES: usize = 65536;
 pub const NESFOAL_MAX_PLACES: usize = 1024;
@@ -31,8 +31,10 @@ pub const NESFOAL_REFUSED_PLACE: u32 = 10;
 pub const NESFOAL_REFUSED_LIST: u32 = 11;
 pub const NESFOAL_REFUSED_TRANSITION: u32 = 12;
 pub const NESFOAL_REFUSED_BUFFER: u32 = 13;
-pub const NESFOAL_LAST_REFUSAL: u32 = 13;
+pub const NESFOAL_REFUSED_MARKING: u32 = 15;
+pub const NESFOAL_LAST_REFUSAL: u32 = 15;
 pub const NESFOAL_STUCK: u32 = 100;
+pub const NESFOAL_UNLIMITED: u32 = 100;
 pub const NESFOAL_RULE: u32 = 100;
 
 #[link(name = "nesfoal", kind = "static")]
@@ -90,6 +92,16 @@ extern "C" {
         out: *mut u16,
         out_len: usize,
         count: *mut u32,
+    ) -> u32;
+    pub fn nesfoal_together(
+        plan: *const u8,
+        plan_len: usize,
+        transition: u16,
+        marking: *const u64,
+        marking_len: usize,
+        rest: *mut u64,
+        rest_len: usize,
+        times: *mut u64,
     ) -> u32;
     pub fn nesfoal_check(
         plan: *const u8,

@@ -174,6 +174,78 @@ static void replays(void)
     expect("parallel arcs, amount", amount, 4);
 }
 
+/* The kerb with the input of transition 2 as two arcs of weight 1. */
+static void parallel_kerb(uint8_t *to)
+{
+    memcpy(to, plan, 76);
+    to[74] = 1;
+    memcpy(to + 76, to + 68, 8);
+    memcpy(to + 84, plan + 76, 32);
+    to[100] = 100; /* body length */
+    to[108] = 10;  /* arcs */
+}
+
+/* One place with these tokens, and one transition joined with it by as many arcs as there may be, of weight 65,535 in this direction. */
+static uint8_t widest[4 + 8 * NESFOAL_MAX_ARCS + 16];
+
+static void widen(uint32_t tokens, uint8_t direction)
+{
+    const uint8_t trailer[16] = {4, 128, 0, 0, 1, 0, 1, 0, 0, 16, 0, 1, 'B', 'E', 'L', 'L'};
+    for (int i = 0; i < 4; i++)
+        widest[i] = (uint8_t)(tokens >> 8 * i);
+    for (int i = 0; i < NESFOAL_MAX_ARCS; i++) {
+        const uint8_t arc[8] = {0, 0, direction, 0, 0, 0, 255, 255};
+        memcpy(widest + 4 + 8 * i, arc, 8);
+    }
+    memcpy(widest + sizeof widest - 16, trailer, 16);
+}
+
+static void takings(void)
+{
+    const uint64_t most = UINT64_MAX;
+    const struct {
+        const char *what;
+        uint16_t transition;
+        uint64_t marking[6];
+        size_t n, room;
+        uint32_t answer;
+        uint64_t times, rest[6];
+    } cases[] = {
+        {"together, 0", 0, {2, 1, 0, 0, 0}, 5, 6, 0, 1, {1, 0, 0, 0, 0, 7}},
+        {"together, 2", 2, {0, 0, 0, 5, 0}, 5, 5, 0, 2, {0, 0, 0, 1, 0, 7}},
+        {"together, 3", 3, {most, most, 0, 0, 1}, 5, 5, 0, most, {0, most, 0, 0, 1, 7}},
+        {"together, 1, not once", 1, {most, 9, 0, 0, 0}, 5, 5, 0, 0, {most, 9, 0, 0, 0, 7}},
+        {"together, an unknown transition", 4, {2, 1, 0, 0, 0}, 5, 5, NESFOAL_REFUSED_TRANSITION, 0, {7, 7, 7, 7, 7, 7}},
+        {"together, 4 entries", 0, {2, 1, 0, 0, 0}, 4, 5, NESFOAL_REFUSED_MARKING, 0, {7, 7, 7, 7, 7, 7}},
+        {"together, 6 entries", 0, {2, 1, 0, 0, 0}, 6, 6, NESFOAL_REFUSED_MARKING, 0, {7, 7, 7, 7, 7, 7}},
+        {"together, marking before buffer", 0, {2}, 1, 0, NESFOAL_REFUSED_MARKING, 0, {7, 7, 7, 7, 7, 7}},
+        {"together, too little room", 0, {2, 1, 0, 0, 0}, 5, 4, NESFOAL_REFUSED_BUFFER, 0, {7, 7, 7, 7, 7, 7}},
+    };
+    uint64_t times = 99;
+    for (size_t i = 0; i < sizeof cases / sizeof cases[0]; i++) {
+        uint64_t rest[6] = {7, 7, 7, 7, 7, 7};
+        times = 99;
+        expect(cases[i].what, nesfoal_together(plan, 108, cases[i].transition, cases[i].marking, cases[i].n, rest, cases[i].room, &times), cases[i].answer);
+        expect(cases[i].what, times == cases[i].times, 1);
+        expect(cases[i].what, memcmp(rest, cases[i].rest, sizeof rest), 0);
+    }
+    expect("together, a slice", nesfoal_together(cut, 78, 0, cases[0].marking, 3, NULL, 0, &times), NESFOAL_REFUSED_KIND);
+
+    /* Parallel arcs are taken together. */
+    uint8_t twice[116];
+    uint64_t rest[5] = {7, 7, 7, 7, 7};
+    parallel_kerb(twice);
+    expect("together, parallel", nesfoal_together(twice, 116, 2, cases[1].marking, 5, rest, 5, &times), 0);
+    expect("together, parallel, twice", times == 2 && rest[3] == 1 && rest[4] == 0, 1);
+    widen(0, 0);
+    expect("together, 4,096 arcs", nesfoal_together(widest, sizeof widest, 0, &most, 1, rest, 1, &times), 0);
+    expect("together, 4,096 arcs, times", times == 68720525328 && rest[0] == 65535, 1);
+    widen(0, 1);
+    rest[0] = times = 7;
+    expect("together, no inputs", nesfoal_together(widest, sizeof widest, 0, &most, 1, rest, 1, &times), NESFOAL_UNLIMITED);
+    expect("together, no inputs, all left", times == 0 && rest[0] == most, 1);
+}
+
 static void cuts(void)
 {
     const uint16_t criterion[] = {2};
@@ -230,32 +302,6 @@ static void projections(void)
     expect("an unknown transition", nesfoal_project(plan, 108, cut, 78, unknown, 2, out, 3, &count), NESFOAL_REFUSED_TRANSITION);
     expect("the empty list", nesfoal_project(plan, 108, cut, 78, NULL, 0, NULL, 0, &count), 0);
     expect("a plan is no slice", nesfoal_project(plan, 108, plan, 108, list, 4, out, 3, &count), NESFOAL_REFUSED_KIND);
-}
-
-/* The kerb with the input of transition 2 as two arcs of weight 1. */
-static void parallel_kerb(uint8_t *to)
-{
-    memcpy(to, plan, 76);
-    to[74] = 1;
-    memcpy(to + 76, to + 68, 8);
-    memcpy(to + 84, plan + 76, 32);
-    to[100] = 100; /* body length */
-    to[108] = 10;  /* arcs */
-}
-
-/* One place with these tokens, and one transition joined with it by as many arcs as there may be, of weight 65,535 in this direction. */
-static uint8_t widest[4 + 8 * NESFOAL_MAX_ARCS + 16];
-
-static void widen(uint32_t tokens, uint8_t direction)
-{
-    const uint8_t trailer[16] = {4, 128, 0, 0, 1, 0, 1, 0, 0, 16, 0, 1, 'B', 'E', 'L', 'L'};
-    for (int i = 0; i < 4; i++)
-        widest[i] = (uint8_t)(tokens >> 8 * i);
-    for (int i = 0; i < NESFOAL_MAX_ARCS; i++) {
-        const uint8_t arc[8] = {0, 0, direction, 0, 0, 0, 255, 255};
-        memcpy(widest + 4 + 8 * i, arc, 8);
-    }
-    memcpy(widest + sizeof widest - 16, trailer, 16);
 }
 
 static void parallels(void)
@@ -398,6 +444,12 @@ static void nulls(void)
     expect("null output, too short", nesfoal_project(plan, 108, cut, 78, twice, 2, NULL, 0, &a), NESFOAL_REFUSED_BUFFER);
     expect("null plan, project", nesfoal_project(NULL, 0, NULL, 0, NULL, 0, NULL, 0, &a), NESFOAL_REFUSED_LENGTH);
     expect("null slice, project", nesfoal_project(plan, 108, NULL, 0, NULL, 0, NULL, 0, &a), NESFOAL_REFUSED_LENGTH);
+    uint64_t times = 9;
+    expect("null marking and rest", nesfoal_together(bare, 16, 0, NULL, 0, NULL, 0, &times), NESFOAL_UNLIMITED);
+    expect("null marking and rest, times", (long long)times, 0);
+    expect("null marking, too short", nesfoal_together(plan, 108, 0, NULL, 0, marking, 5, &times), NESFOAL_REFUSED_MARKING);
+    expect("null rest, too short", nesfoal_together(plan, 108, 0, marking, 5, NULL, 0, &times), NESFOAL_REFUSED_BUFFER);
+    expect("null plan, together", nesfoal_together(NULL, 0, 0, NULL, 0, NULL, 0, &times), NESFOAL_REFUSED_LENGTH);
     expect("null plan, check", nesfoal_check(NULL, 0, NULL, 0, NULL, 0), NESFOAL_REFUSED_LENGTH);
     expect("null criterion, check", nesfoal_check(plan, 108, cut, 78, NULL, 0), NESFOAL_ACCEPTED);
     expect("null criterion, verdict", nesfoal_verdict(plan, 108, cut, 78, NULL, 0, &a), NESFOAL_ACCEPTED);
@@ -427,6 +479,7 @@ int main(void)
     largest();
     arcs();
     replays();
+    takings();
     cuts();
     checks();
     projections();

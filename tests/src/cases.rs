@@ -2,7 +2,8 @@
 
 use crate::cut::{cut, Cut};
 use crate::replay::Replayed;
-use crate::{arcs, check, effect, project, replay};
+use crate::together::Together;
+use crate::{arcs, check, effect, project, replay, together};
 use std::fmt::Write;
 
 /// Entries that are lent to a call, standing inside a larger piece of memory.
@@ -284,6 +285,45 @@ impl Case for ProjectCase {
     fn outcome(&self, answer: &Answer) -> String {
         match (answer.number, answer.outs[0]) {
             (0, 0) => "0-none".into(),
+            (n, _) => n.to_string(),
+        }
+    }
+}
+
+#[derive(Clone, Debug)]
+pub struct TogetherCase {
+    pub plan: Lent<u8>,
+    pub transition: u16,
+    pub marking: Lent<u64>,
+    pub rest: Lent<u64>,
+}
+
+impl Case for TogetherCase {
+    fn second(&self) -> Answer {
+        let mut lent = self.rest.clone();
+        let answer = together::together(self.plan.part(), self.transition, self.marking.part(), lent.part_mut());
+        let (number, times) = match answer {
+            Ok(Together::Times(k)) => (0, k),
+            Ok(Together::Unlimited) => (100, 0),
+            Err(refusal) => (refusal, 0),
+        };
+        Answer::new(number, [times], vec![Cells::Longs(lent.cells)])
+    }
+
+    fn show(&self) -> String {
+        show_bytes("plan", &self.plan)
+            + &format!("  transition {}\n", self.transition)
+            + &format!("  marking ({} entries): {:?}\n", self.marking.len, self.marking.part())
+            + &format!("  rest: {} entries lent\n", self.rest.len)
+    }
+
+    fn outcome(&self, answer: &Answer) -> String {
+        match (answer.number, answer.outs[0]) {
+            (0, 0) => "never".into(),
+            (0, 1) => "once".into(),
+            (0, k) if k < 1 << 32 => "often".into(),
+            (0, _) => "2^32-or-more".into(),
+            (100, _) => "unlimited".into(),
             (n, _) => n.to_string(),
         }
     }

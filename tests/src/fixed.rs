@@ -1,4 +1,4 @@
-//! Paper 01's examples, edges and refusals one by one, and the published nets, as fixed cases with
+//! The papers' examples, edges and refusals one by one, and the published nets, as fixed cases with
 //! the answers due. `cargo test` holds the second implementation to them, `compare` the library too.
 
 use crate::cases::*;
@@ -7,7 +7,7 @@ use crate::gen::{to_bytes, Draft, DraftArc};
 use crate::published;
 use crate::read::read;
 
-/// A case and the answer that paper 01 gives; `cells` only where the example states them.
+/// A case and the answer that the papers give; `cells` only where the example states them.
 pub struct Fixed<C> {
     pub name: String,
     pub case: C,
@@ -644,6 +644,102 @@ pub fn projections() -> Vec<Fixed<ProjectCase>> {
     list
 }
 
+pub fn takings() -> Vec<Fixed<TogetherCase>> {
+    let case = |plan: &[u8], transition, marking: &[u64], len| TogetherCase {
+        plan: lent(plan),
+        transition,
+        marking: lent(marking),
+        rest: buffer(len),
+    };
+    let mut list = Vec::new();
+    const MOST: u64 = u64::MAX;
+    // Written into as many entries as there are places, and into more.
+    let mut answered = |name: &str, plan: &[u8], t: u16, marking: &[u64], times: Option<u64>, rest: &[u64]| {
+        for more in [0, 1, 7] {
+            let len = marking.len() + more;
+            let number = if times.is_some() { 0 } else { 100 };
+            let case = case(plan, t, marking, len);
+            let mut one = fixed(format!("{name}, {more} entries more lent"), case, number, [times.unwrap_or(0)]);
+            one.cells = Some(vec![Cells::Longs(after(len, rest))]);
+            list.push(one);
+        }
+    };
+    let small = small_plan().bytes();
+    answered("kerb, 0 once", &small, 0, &[2, 1, 0, 0, 0], Some(1), &[1, 0, 0, 0, 0]);
+    answered("kerb, 2 twice", &small, 2, &[0, 0, 0, 5, 0], Some(2), &[0, 0, 0, 1, 0]);
+    answered("kerb, 3 twice", &small, 3, &[2, 1, 0, 0, 0], Some(2), &[0, 1, 0, 0, 0]);
+    answered("kerb, 1 never", &small, 1, &[2, 1, 0, 0, 0], Some(0), &[2, 1, 0, 0, 0]);
+    answered("kerb, by the first place", &small, 0, &[3, 9, 4, 4, 4], Some(3), &[0, 6, 4, 4, 4]);
+    answered("kerb, by the second place", &small, 0, &[MOST, 9, 4, 4, MOST], Some(9), &[MOST - 9, 0, 4, 4, MOST]);
+    answered("outputs do not count", &loop_net(1, 3, 0), 0, &[7], Some(7), &[0]);
+    answered("a reader's tokens", &loop_net(2, 2, 9), 0, &[7], Some(3), &[1]);
+    answered("the plan's own marking is another", &loop_net(1, 1, 9), 0, &[0], Some(0), &[0]);
+    let a = DraftArc::new;
+    let source = Draft::plan(vec![0, 0], 2, vec![a(0, 1, 1, 3)]).bytes();
+    answered("no inputs", &source, 0, &[MOST, 0], None, &[MOST, 0]);
+    answered("no arcs", &source, 1, &[0, 5], None, &[0, 5]);
+    answered("no places", &Draft::plan(vec![], 2, vec![]).bytes(), 1, &[], None, &[]);
+    // As many as there can be.
+    let one = |weight| several(&[weight], &[], 0).bytes();
+    answered("2^64 - 1 of 1", &one(1), 0, &[MOST], Some(MOST), &[0]);
+    answered("2^64 - 1 of 2", &one(2), 0, &[MOST], Some(MOST / 2), &[1]);
+    answered("2^64 - 1 of 65,535", &one(65_535), 0, &[MOST], Some(281_479_271_743_489), &[0]);
+    answered("2^64 - 2 of 65,535", &one(65_535), 0, &[MOST - 1], Some(281_479_271_743_488), &[65_534]);
+    answered("2^63 of 1", &one(1), 0, &[1 << 63], Some(1 << 63), &[0]);
+    answered("2^32 of 1", &one(1), 0, &[1 << 32], Some(1 << 32), &[0]);
+    answered("none of 1", &one(1), 0, &[0], Some(0), &[0]);
+    answered("one too few", &one(65_535), 0, &[65_534], Some(0), &[65_534]);
+    // Parallel arcs are taken together: by their sum, not by one of them.
+    answered("parallel kerb, 2 twice", &parallel_plan().bytes(), 2, &[0, 0, 0, 5, 0], Some(2), &[0, 0, 0, 1, 0]);
+    answered("2 and 3", &several(&[2, 3], &[1, 1], 0).bytes(), 0, &[14], Some(2), &[4]);
+    answered("each alone would do", &several(&[2, 3], &[], 0).bytes(), 0, &[4], Some(0), &[4]);
+    let drain = several(&[65_535; 4_096], &[], 0).bytes();
+    answered("4,096 arcs, enough", &drain, 0, &[268_431_360], Some(1), &[0]);
+    answered("4,096 arcs, one too few", &drain, 0, &[268_431_359], Some(0), &[268_431_359]);
+    answered("4,096 arcs, 2^64 - 1", &drain, 0, &[MOST], Some(68_720_525_328), &[65_535]);
+    let twice = Draft::plan(vec![0; 3], 1, vec![a(0, 0, 0, 2), a(0, 0, 1, 1), a(0, 0, 1, 3), a(0, 0, 2, 1)]).bytes();
+    answered("by the place in the middle", &twice, 0, &[9, 11, 9], Some(2), &[5, 3, 7]);
+    answered("by the last place", &twice, 0, &[MOST, MOST, 3], Some(3), &[MOST - 6, MOST - 12, 0]);
+    answered("by the first of three", &twice, 0, &[1, MOST, MOST], Some(0), &[1, MOST, MOST]);
+    // All places are inputs; the one in the middle decides.
+    let ins = (0..1_024).map(|p| a(0, 0, p, 3)).collect();
+    let wide = Draft::plan(vec![0; 1_024], 1, ins).bytes();
+    let tokens = |p: usize| if p == 512 { 3_000_000_001 } else { MOST };
+    let (held, left): (Vec<u64>, Vec<u64>) = (0..1_024).map(|p| (tokens(p), tokens(p) - 3_000_000_000)).unzip();
+    answered("1,024 inputs", &wide, 0, &held, Some(1_000_000_000), &left);
+
+    let mut refused = |name: String, plan: &[u8], t: u16, marking: &[u64], len: usize, number| {
+        let mut one = fixed(name, case(plan, t, marking, len), number, [0]);
+        one.cells = Some(vec![Cells::Longs(after(len, &[]))]);
+        list.push(one);
+    };
+    let five = [2, 1, 0, 0, 0];
+    refused("transition T".into(), &small, 4, &five, 5, 12);
+    refused("transition 65,535".into(), &small, 65_535, &five, 5, 12);
+    refused("no transitions".into(), &one_place_plan(), 0, &[3], 1, 12);
+    refused("4 entries".into(), &small, 0, &five[..4], 5, 15);
+    refused("6 entries".into(), &small, 0, &[2, 1, 0, 0, 0, 0], 6, 15);
+    refused("no entries".into(), &small, 0, &[], 5, 15);
+    refused("65,541 entries".into(), &small, 0, &[9; 65_541], 5, 15);
+    refused("1,029 entries".into(), &small, 0, &[9; 1_029], 5, 15);
+    refused("no places, an entry".into(), &Draft::plan(vec![], 1, vec![]).bytes(), 0, &[0], 1, 15);
+    refused("4 entries lent".into(), &small, 0, &five, 4, 13);
+    refused("none lent".into(), &small, 0, &five, 0, 13);
+    refused("no inputs, 1 entry lent".into(), &source, 0, &[0, 0], 1, 13);
+    refused("transition before marking".into(), &small, 4, &[], 5, 12);
+    refused("marking before buffer".into(), &small, 0, &[], 0, 15);
+    refused("transition before buffer".into(), &small, 4, &five, 0, 12);
+    for (name, bad, number) in bad_plans() {
+        refused(name, &bad, 9, &[], 0, number);
+    }
+    let mut null = case(&small, 0, &[], 0);
+    (null.marking.null, null.rest.null) = (true, true);
+    list.push(fixed("null marking", null.clone(), 15, [0]));
+    null.plan = Lent { null: true, ..lent([]) };
+    list.push(fixed("null plan", null, 1, [0]));
+    list
+}
+
 /// Cases of the checker: a name, the three parts, the answer and its number.
 fn judged() -> Vec<(String, Vec<u8>, Vec<u8>, Vec<u16>, u32, i64)> {
     let mut list: Vec<(String, Vec<u8>, Vec<u8>, Vec<u16>, u32, i64)> = Vec::new();
@@ -900,6 +996,11 @@ mod tests {
     #[test]
     fn projection_examples() {
         hold(projections());
+    }
+
+    #[test]
+    fn taking_examples() {
+        hold(takings());
     }
 
     #[test]

@@ -1,5 +1,5 @@
-//! A second implementation of paper 01 in plain Rust, written from the paper alone, and what is needed
-//! to compare it with the library: a generator of cases, and the paper's examples as fixed cases.
+//! A second implementation of papers 01 and 02 in plain Rust, written from the papers alone, and what is needed
+//! to compare it with the library: a generator of cases, and the papers' examples as fixed cases.
 
 // The implementation, one module an idea.
 pub mod arcs;
@@ -12,6 +12,7 @@ pub mod net;
 pub mod project;
 pub mod read;
 pub mod replay;
+pub mod together;
 pub mod write;
 
 // The cases.

@@ -8,7 +8,7 @@ pub const MAX_ARCS: usize = 4_096;
 pub const MAX_LIST: usize = 65_535;
 pub const TRAILER: usize = 16;
 
-/// A number of paper 01's table of refusals, 1 to 13.
+/// A number of paper 01's table of refusals, or of a request of paper 02.
 pub type Refusal = u32;
 
 #[derive(Clone, Copy, PartialEq, Eq, Debug)]
@@ -66,6 +66,15 @@ impl Net {
         let arcs = self.arcs_of(transition);
         let middle = arcs.iter().take_while(|a| a.direction == Direction::In).count();
         arcs.split_at(middle)
+    }
+
+    /// in(p,t) for each place p.
+    pub fn inputs(&self, transition: usize) -> Vec<u64> {
+        let mut taken = vec![0; self.places()];
+        for arc in self.in_and_out(transition).0 {
+            taken[usize::from(arc.place)] += u64::from(arc.weight);
+        }
+        taken
     }
 
     /// Shows every place that the transition has an arc with, rising, and the effect there: out minus in.

@@ -199,6 +199,43 @@ pub fn project_case(rng: &mut Rng) -> ProjectCase {
     }
 }
 
+pub fn together_case(rng: &mut Rng) -> TogetherCase {
+    let aim = rng.below(100);
+    let draft = if rng.percent(97) { plan_with_arcs(rng) } else { plan(rng) };
+    let net = net_of(&draft);
+    let mut file = draft.bytes();
+    if aim < 28 {
+        file = bad_file(rng, Some(Kind::Plan));
+    }
+    // Mostly a transition with inputs; now and then one without.
+    let takes = |t: &usize| !net.in_and_out(*t).0.is_empty();
+    let (with, without): (Vec<usize>, Vec<usize>) = (0..net.transitions()).partition(takes);
+    let those = if without.is_empty() || !with.is_empty() && rng.percent(85) { with } else { without };
+    let (mut transition, mut marking) = (0, vec![0; net.places()]);
+    if !those.is_empty() {
+        let t = *rng.pick(&those);
+        (transition, marking) = (t as u16, marking_for(rng, &net, t));
+    }
+    // Faults met later stand there too, now and then.
+    if (28..36).contains(&aim) || aim < 28 && rng.percent(10) {
+        transition = unknown_number(rng, net.transitions());
+    }
+    if (36..45).contains(&aim) || aim < 36 && rng.percent(20) {
+        change_length(rng, &mut marking);
+    }
+    let short = (45..54).contains(&aim) || aim < 45 && rng.percent(20);
+    let len = buffer_length(rng, net.places(), short);
+    TogetherCase { plan: lend(rng, &file), transition, marking: lend(rng, &marking), rest: lend_out(rng, len) }
+}
+
+/// Another number of entries: one more or less, none, or far more.
+fn change_length(rng: &mut Rng, marking: &mut Vec<u64>) {
+    let length = marking.len();
+    let far = length + rng.range(2, 2_000);
+    let other = *rng.pick(&[length + 1, length + 1, length.saturating_sub(1), length.saturating_sub(1), 0, far]);
+    marking.resize(if other == length { length + 1 } else { other }, 7);
+}
+
 /// Plan, slice and criterion for the checker.
 fn check_parts(rng: &mut Rng) -> (Vec<u8>, Vec<u8>, Vec<u16>) {
     let aim = rng.below(100);
@@ -306,11 +343,37 @@ mod tests {
         share("safety", |rng| cut_case(rng, Cut::Safety), &[0, 1, 2, 3, 4, 5, 6, 7, 10, 13]);
         share("branching", |rng| cut_case(rng, Cut::Branching), &[0, 1, 2, 3, 4, 5, 6, 7, 10, 13]);
         share("project", project_case, &[0, 1, 2, 3, 4, 5, 6, 7, 8, 11, 12, 13]);
+        share("together", together_case, &[0, 100, 1, 2, 3, 4, 5, 6, 7, 12, 13, 15]);
         let mut checker = vec![0, 1, 2, 3, 4, 5, 6, 7, 8, 10, 101, 102, 103, 104, 105, 106, 107, 108];
         share("verdict", verdict_case, &checker);
         // An odd number of bytes.
         checker.push(9);
         share("check", check_case, &checker);
+    }
+
+    /// The largest numbers come: a marking of 2^64 - 1, so many takings, and the last place that decides.
+    #[test]
+    fn takings_of_every_size_have_their_share() {
+        let (mut markings, mut takings, mut never, mut last, mut parallel) = (0, 0, 0, 0, 0);
+        for number in 0..CASES {
+            let case = together_case(&mut Rng::for_case(8, "together", number));
+            let answer = case.second();
+            if answer.number != 0 {
+                continue;
+            }
+            let net = read(case.plan.part(), Some(Kind::Plan)).unwrap();
+            let (ins, taken) = (net.in_and_out(usize::from(case.transition)).0, net.inputs(case.transition.into()));
+            let [Cells::Longs(cells)] = &answer.cells[..] else { panic!("one buffer") };
+            let decides = |place: u16| cells[case.rest.start + usize::from(place)] < taken[usize::from(place)];
+            let (first, end) = (ins[0].place, ins[ins.len() - 1].place);
+            markings += u64::from(case.marking.part().contains(&u64::MAX));
+            takings += u64::from(answer.outs[0] == i128::from(u64::MAX));
+            never += u64::from(answer.outs[0] == 0);
+            last += u64::from(first != end && decides(end) && !decides(first));
+            parallel += u64::from(ins.windows(2).any(|two| two[0].place == two[1].place) && answer.outs[0] > 0);
+        }
+        let all = [markings, takings, never, last, parallel];
+        assert!(all.iter().all(|&count| 100 * count >= CASES), "{all:?}");
     }
 
     /// A file of either kind that is the empty slice, some with a note.

@@ -134,6 +134,44 @@ pub fn long_list(rng: &mut Rng, net: &Net) -> Vec<u16> {
     vec![number as u16; len]
 }
 
+/// A marking for taking the inputs of a transition: any 64-bit numbers, about a number of takings, or the largest.
+pub fn marking_for(rng: &mut Rng, net: &Net, transition: usize) -> Vec<u64> {
+    let taken = net.inputs(transition);
+    let most = taken.iter().max().map_or(u64::MAX, |&n| u64::MAX / n.max(1));
+    let times = match rng.below(10) {
+        0..=1 => 0,
+        2..=3 => 1,
+        4..=6 => rng.range(2, 9) as u64,
+        7 => rng.next() >> 32,
+        8 => most - rng.below(2) as u64,
+        _ => extreme(rng),
+    };
+    match rng.below(20) {
+        0 => vec![u64::MAX; net.places()],
+        1 => vec![0; net.places()],
+        2..=4 => taken.iter().map(|_| extreme(rng)).collect(),
+        // So many takings at one place, as many or more at the others, and a part of one besides.
+        _ => {
+            let tight = rng.below(net.places().max(1));
+            let above = *rng.pick(&[1, 2, 4, u64::MAX]);
+            let held = |(p, &taken): (usize, &u64)| {
+                if taken == 0 {
+                    return extreme(rng);
+                }
+                let more = if p == tight { 0 } else { rng.next() % above };
+                times.saturating_add(more).saturating_mul(taken).saturating_add(rng.next() % taken)
+            };
+            taken.iter().enumerate().map(held).collect()
+        }
+    }
+}
+
+/// A 64-bit number, often at an edge.
+fn extreme(rng: &mut Rng) -> u64 {
+    let any = rng.next();
+    *rng.pick(&[0, 1, any, any, any >> 32, 1 << 63, u64::MAX - 1, u64::MAX])
+}
+
 /// A number below the count, at it, or far beyond.
 pub fn unknown_number(rng: &mut Rng, count: usize) -> u16 {
     let far = rng.range(count, 65_535);

@@ -110,6 +110,26 @@ pub fn project(case: &ProjectCase) -> Answer {
     Answer { inputs_kept, ..Answer::new(number, [count], vec![Cells::Halves(out.cells)]) }
 }
 
+#[cfg(feature = "together")]
+pub fn together(case: &TogetherCase) -> Answer {
+    let (plan, marking, mut rest) = (case.plan.clone(), case.marking.clone(), case.rest.clone());
+    let mut times = u64::from(UNSET);
+    let number = unsafe {
+        nesfoal_together(
+            plan.pointer(),
+            plan.len,
+            case.transition,
+            marking.pointer(),
+            marking.len,
+            rest.pointer_mut(),
+            rest.len,
+            &mut times,
+        )
+    };
+    let inputs_kept = plan == case.plan && marking == case.marking;
+    Answer { inputs_kept, ..Answer::new(number, [times], vec![Cells::Longs(rest.cells)]) }
+}
+
 #[cfg(feature = "check")]
 pub fn check(case: &CheckCase) -> Answer {
     let (plan, slice, q) = (case.plan.clone(), case.slice.clone(), case.q.clone());

@@ -12,6 +12,7 @@
     feature = "safety",
     feature = "branching",
     feature = "project",
+    feature = "together",
     feature = "check"
 )))]
 compile_error!("no call to compare: turn a feature on");
@@ -35,6 +36,8 @@ mod project;
 mod replay;
 #[cfg(feature = "safety")]
 mod safety;
+#[cfg(feature = "together")]
+mod together;
 #[cfg(feature = "check")]
 mod verdict;
 
@@ -78,6 +81,8 @@ fn comparisons() -> Vec<fn(&Settings) -> bool> {
         |s| frame::compare::<branching::Branching>(s),
         #[cfg(feature = "project")]
         |s| frame::compare::<project::Project>(s),
+        #[cfg(feature = "together")]
+        |s| frame::compare::<together::Together>(s),
         #[cfg(feature = "check")]
         |s| frame::compare::<check::Check>(s),
         #[cfg(feature = "check")]
