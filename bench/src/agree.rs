@@ -23,6 +23,7 @@ pub fn agree(cases: u64) -> bool {
         call("safety", cases, fixed::cuts(Cut::Safety), cut(Cut::Safety), cut_answer),
         call("branching", cases, fixed::cuts(Cut::Branching), cut(Cut::Branching), cut_answer),
         call("project", cases, fixed::projections(), gen::project_case, project),
+        call("together", cases, fixed::takings(), gen::together_case, together),
         call("check", cases, fixed::checks(), gen::check_case, check),
         call("verdict", cases, fixed::verdicts(), gen::verdict_case, verdict),
     ];
@@ -77,6 +78,16 @@ fn project(c: &ProjectCase) -> Answer {
         tuned::project(plan.pointer(), plan.len, slice.pointer(), slice.len, list, entries, to, room, &mut count)
     };
     Answer::new(number, [count], vec![Cells::Halves(lent.cells)])
+}
+
+fn together(c: &TogetherCase) -> Answer {
+    let (plan, marking, mut lent) = (&c.plan, &c.marking, c.rest.clone());
+    let mut times = u64::from(UNSET);
+    let (to, room) = (lent.pointer_mut(), lent.len);
+    let (from, entries) = (marking.pointer(), marking.len);
+    let number =
+        unsafe { tuned::together(plan.pointer(), plan.len, c.transition, from, entries, to, room, &mut times) };
+    Answer::new(number, [times], vec![Cells::Longs(lent.cells)])
 }
 
 fn check(c: &CheckCase) -> Answer {

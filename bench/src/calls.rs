@@ -11,6 +11,7 @@ type Cut =
     unsafe extern "C" fn(*const u8, usize, *const u16, usize, *mut u8, usize, *mut u32, *mut u32, *mut u32) -> u32;
 type Project =
     unsafe extern "C" fn(*const u8, usize, *const u8, usize, *const u16, usize, *mut u16, usize, *mut u32) -> u32;
+type Together = unsafe extern "C" fn(*const u8, usize, u16, *const u64, usize, *mut u64, usize, *mut u64) -> u32;
 type Check = unsafe extern "C" fn(*const u8, usize, *const u8, usize, *const u8, usize) -> u32;
 type Verdict = unsafe extern "C" fn(*const u8, usize, *const u8, usize, *const u16, usize, *mut u32) -> u32;
 
@@ -24,6 +25,7 @@ pub struct Program {
     check: Option<Check>,
     verdict: Option<Verdict>,
     project: Option<Project>,
+    together: Option<Together>,
 }
 
 /// The library's function if the feature of this name is on.
@@ -46,6 +48,7 @@ pub const LIBRARY: Program = Program {
     check: of_library!(nesfoal_check, "check"),
     verdict: of_library!(nesfoal_verdict, "verdict"),
     project: of_library!(nesfoal_project, "project"),
+    together: of_library!(nesfoal_together, "together"),
 };
 
 pub const TUNED: Program = Program {
@@ -57,6 +60,7 @@ pub const TUNED: Program = Program {
     check: Some(tuned::check),
     verdict: Some(tuned::verdict),
     project: Some(tuned::project),
+    together: Some(tuned::together),
 };
 
 #[derive(Clone, Copy, PartialEq, Eq, Debug)]
@@ -72,9 +76,10 @@ pub enum Call {
     Check,
     Verdict,
     Project,
+    Together,
 }
 
-pub const CALLS: [Call; 10] = [
+pub const CALLS: [Call; 11] = [
     Call::ReadPlan,
     Call::ReadSlice,
     Call::Effect,
@@ -85,6 +90,7 @@ pub const CALLS: [Call; 10] = [
     Call::Check,
     Call::Verdict,
     Call::Project,
+    Call::Together,
 ];
 
 impl Call {
@@ -100,6 +106,7 @@ impl Call {
             Call::Check => "check",
             Call::Verdict => "verdict",
             Call::Project => "project",
+            Call::Together => "together",
         }
     }
 
@@ -131,6 +138,7 @@ pub struct Outcome {
 #[derive(PartialEq, Eq, Default)]
 struct Values {
     effect: i32,
+    times: u64,
     numbers: [u32; 3],
 }
 
@@ -162,6 +170,7 @@ impl<'a> Job<'a> {
             Call::Check => program.check.is_some(),
             Call::Verdict => program.verdict.is_some(),
             Call::Project => program.project.is_some(),
+            Call::Together => program.together.is_some(),
         };
         let buffers = Buffers { marking: vec![0; 1_024], slice: vec![0; 65_536], out: vec![0; 65_535] };
         there.then_some(Job { program, call, input, values: Values::default(), buffers })
@@ -223,6 +232,14 @@ impl<'a> Job<'a> {
                 self.results(&mut arguments, 1);
                 program.project.unwrap() as *const ()
             }
+            Call::Together => {
+                read_part(&mut arguments, &input.plan);
+                arguments.push(u64::from(input.taking));
+                read_part(&mut arguments, &input.tokens);
+                written_part(&mut arguments, &mut self.buffers.marking);
+                arguments.push(&raw mut self.values.times as u64);
+                program.together.unwrap() as *const ()
+            }
         };
         Words { function, arguments }
     }
@@ -237,7 +254,8 @@ impl<'a> Job<'a> {
         let (plan, slice, list, q) = (part(&input.plan), part(&input.slice), part(&input.list), part(&input.q));
         let (q_bytes, place, transition) = (part(&input.q_bytes), input.place, input.transition);
         let [first, second, third] = &mut self.values.numbers;
-        let effect = &mut self.values.effect;
+        let (effect, times) = (&mut self.values.effect, &mut self.values.times);
+        let (tokens, taking) = (part(&input.tokens), input.taking);
         let Buffers { marking, slice: to, out } = &mut self.buffers;
         match self.call {
             Call::ReadPlan => {
@@ -279,6 +297,11 @@ impl<'a> Job<'a> {
                 let call = program.project.unwrap();
                 let (to, room) = (out.as_mut_ptr(), out.len());
                 Box::new(move || unsafe { call(plan.0, plan.1, slice.0, slice.1, list.0, list.1, to, room, first) })
+            }
+            Call::Together => {
+                let call = program.together.unwrap();
+                let (to, room) = (marking.as_mut_ptr(), marking.len());
+                Box::new(move || unsafe { call(plan.0, plan.1, taking, tokens.0, tokens.1, to, room, times) })
             }
         }
     }

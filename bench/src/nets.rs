@@ -2,7 +2,7 @@
 
 use nesfoal_tests::cut::{kept, Cut, Kept};
 use nesfoal_tests::gen::{to_bytes, Draft, DraftArc};
-use nesfoal_tests::net::{Kind, Net, MAX_LIST};
+use nesfoal_tests::net::{Direction, Kind, Net, MAX_LIST};
 use nesfoal_tests::read::read;
 use nesfoal_tests::replay::{fire, initial};
 use nesfoal_tests::rng::Rng;
@@ -23,6 +23,9 @@ pub struct Input {
     /// An arc's place and transition.
     pub place: u16,
     pub transition: u16,
+    /// A transition with inputs, and a marking from which they are taken: any 64-bit numbers.
+    pub taking: u16,
+    pub tokens: Vec<u64>,
     /// Places, transitions and arcs of the plan and of the slice.
     pub counts: [[usize; 3]; 2],
 }
@@ -41,7 +44,10 @@ impl Input {
     fn with(name: &str, net: Net, plan: Vec<u8>, q: Vec<u16>, slice: Vec<u8>, firings: usize) -> Input {
         let slice_net = read(&slice, Some(Kind::Slice)).expect("a good slice");
         let counts = [&net, &slice_net].map(|n| [n.places(), n.transitions(), n.arcs.len()]);
-        let middle = net.arcs[net.arcs.len() / 2];
+        let half = net.arcs.len() / 2;
+        let (middle, input) =
+            (net.arcs[half], net.arcs[half..].iter().chain(&net.arcs).find(|a| a.direction == Direction::In));
+        let mut rng = Rng::new(6);
         let list = firing_list(&net, firings);
         Input {
             name: name.into(),
@@ -53,6 +59,8 @@ impl Input {
             list,
             place: middle.place,
             transition: middle.transition,
+            taking: input.expect("a transition with inputs").transition,
+            tokens: (0..net.places()).map(|_| rng.next()).collect(),
             counts,
         }
     }

@@ -98,6 +98,20 @@ pub unsafe extern "C" fn project(
     super::project::project(plan, slice, list, lent_out(out, out_len), &mut *count)
 }
 
+pub unsafe extern "C" fn together(
+    plan: *const u8,
+    plan_len: usize,
+    transition: u16,
+    marking: *const u64,
+    marking_len: usize,
+    rest: *mut u64,
+    rest_len: usize,
+    times: *mut u64,
+) -> u32 {
+    let (plan, marking, rest) = (lent(plan, plan_len), lent(marking, marking_len), lent_out(rest, rest_len));
+    super::together::together(plan, transition, marking, rest, &mut *times)
+}
+
 pub unsafe extern "C" fn check(
     plan: *const u8,
     plan_len: usize,

@@ -16,7 +16,8 @@ mod project;
 mod read;
 mod replay;
 mod starts;
+mod together;
 #[cfg(feature = "vectors")]
 mod vectors;
 
-pub use c::{arcs, branching, check, effect, project, replay, safety, verdict};
+pub use c::{arcs, branching, check, effect, project, replay, safety, together, verdict};
