@@ -1,4 +1,4 @@
--- Decimal numbers in text: at least one digit, nothing but digits, and a value of at most 65,535.
+-- Decimal numbers in text: at least one digit, nothing but digits, and a value of at most a largest one.
 use Prim.Native.Nat.{ℕ, _+_, _*_, _-_}
 use mathlib.Core.Bool.{Bool, true, false, not, _&&_}
 use mathlib.Core.List.{List, [], _∷_}
@@ -14,6 +14,10 @@ unfoldable pub allDigits : List ℕ → Bool
 allDigits [] = true
 allDigits (b ∷ rest) = isDigit b && allDigits rest
 
+-- a number so far goes on with a digit, and is then at most `most`
+unfoldable pub goesOn : ℕ → ℕ → ℕ → Bool
+goesOn most n b = isDigit b && leb (10 * n + (b - 48)) most
+
 -- the value of digits that follow a number
 unfoldable pub decimal : ℕ → List ℕ → ℕ
 decimal n [] = n
@@ -24,6 +28,6 @@ abbrev pub told : Bool → ℕ → Value
 told true n = record { good = true; value = n }
 told false n = record { good = false; value = 0 }
 
--- the number that a text is
-unfoldable pub numeral : List ℕ → Value
-numeral s = told (not (eqb (length s) 0) && (allDigits s && leb (decimal 0 s) 65535)) (decimal 0 s)
+-- the number from 0 to `most` that a text is
+unfoldable pub numeral : ℕ → List ℕ → Value
+numeral most s = told (not (eqb (length s) 0) && (allDigits s && leb (decimal 0 s) most)) (decimal 0 s)

@@ -1,65 +1,56 @@
 // Numbers in text: decimal digits.
 ghost use mathlib.Core.Path.{_≡_};
 ghost use Prim.Native.Nat.{_≤_};
-ghost use Rattle.numerals.specs.Counting.{more, valueFrom};
-ghost use Rattle.numerals.specs.Decimal.{numeral};
+ghost use Rattle.numerals.specs.Decimal.{goesOn, numeral};
 
-// A number from 0 to 65,535, or none.
+// A number, or none.
 pub struct Value {
     pub good: bool,
-    pub value: u16,
+    pub value: u64,
 }
 
-// The number so far with one more digit; 65,536 where that is no number from 0 to 65,535.
-fn more(n: usize, b: u8) -> usize
-    requires { ⌜ n ≤ 65536 ⌝ }
-    ensures { λ r. ⌜ (r ≡ more n b) × (r ≤ 65536) ⌝ }
+// Is a byte a digit, and the number so far with it still at most `most`?
+fn goes_on(n: u64, b: u8, most: u64) -> bool
+    ensures { λ r. ⌜ r ≡ goesOn most n b ⌝ }
 {
-    let next = 10 * n + b as usize;
     if b < 48 {
-        return 65536;
+        return false;
     }
     if 57 < b {
-        return 65536;
+        return false;
     }
-    if 65583 < next {
-        return 65536;
+    let d = (b - 48) as u64;
+    if n < most / 10 {
+        return true;
     }
-    next - 48
+    if most / 10 < n {
+        return false;
+    }
+    if most % 10 < d {
+        return false;
+    }
+    true
 }
 
-// The value of decimal digits; 65,536 where they are none or the value does not fit.
-fn value_of(digits: &[u8]) -> usize
-    ensures { λ r. ⌜ (r ≡ valueFrom 0 (now (digits .entry))) × (r ≤ 65536) ⌝ }
+// The number that the text is: whole and at most `most`, or none.
+pub fn parsed(digits: &[u8], most: u64) -> Value
+    ensures { λ r. ⌜ (r ≡ numeral most (now (digits .entry))) × (r .value ≤ most) ⌝ }
 {
-    let mut sum: usize = 0;
+    let mut sum: u64 = 0;
     let mut i = 0;
     while i < digits.len() {
-        sum = more(sum, digits[i]);
+        let b = digits[i];
+        if !goes_on(sum, b, most) {
+            return Value {
+                good: false,
+                value: 0,
+            };
+        }
+        sum = 10 * sum + (b - 48) as u64;
         i += 1;
     }
-    sum
-}
-
-// The number that the text is.
-pub fn parsed(digits: &[u8]) -> Value
-    ensures { λ r. ⌜ r ≡ numeral (now (digits .entry)) ⌝ }
-{
-    let sum = value_of(digits);
-    if digits.len() == 0 {
-        return Value {
-            good: false,
-            value: 0,
-        };
-    }
-    if sum <= 65535 {
-        return Value {
-            good: true,
-            value: sum as u16,
-        };
-    }
     Value {
-        good: false,
-        value: 0,
+        good: 0 < i,
+        value: sum,
     }
 }
