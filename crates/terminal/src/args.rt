@@ -1,15 +1,18 @@
 // Words and numbers of the command line.
+ghost use Prim.Native.Nat.{_≤_};
 use crate::phrases;
 use crate::say;
 use numerals::Value;
 
-// Argument i as a number; where it is none, a line says so.
-pub fn number(i: usize) -> Value {
+// Argument i as a number from 0 to `most`; where it is none, a line says so.
+pub fn number(i: usize, most: u64) -> Value
+    ensures { λ r. ⌜ r .value ≤ most ⌝ }
+{
     let mut buf = io::buffer();
     let n = os::arg(i, &mut buf);
-    let r = numerals::parsed(&buf[..n]);
+    let r = numerals::parsed(&buf[..n], most);
     if !r.good {
-        say::one(phrases::NO_NUMBER, i);
+        say::two(phrases::NO_NUMBER, i, most as usize);
     }
     r
 }
@@ -34,7 +37,18 @@ pub fn write(i: usize) {
     say::text(&buf[..n]);
 }
 
-// Are there arguments after argument i?
-pub fn more_than(i: usize) -> bool {
-    std::num::wrapping_add_usize(i, 1) < os::arg_count()
+// Is argument i @ and a name?
+pub fn is_file(i: usize) -> bool {
+    let mut path = io::buffer();
+    let n = os::arg(i, &mut path);
+    (1 < n) & (path[0] == b'@')
+}
+
+// Is argument i the last before `end`? Where it is not, a line says that a list is one.
+pub fn is_last(i: usize, end: usize) -> bool {
+    let last = end <= std::num::wrapping_add_usize(i, 1);
+    if !last {
+        say::plain(phrases::NO_LIST);
+    }
+    last
 }

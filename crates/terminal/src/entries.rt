@@ -7,11 +7,10 @@ use crate::files::Loaded;
 use crate::phrases;
 use crate::say;
 
-// The arguments from `from` on, as many as `to` takes.
-fn numbers(from: usize, to: &mut [u16]) -> Loaded
+// The arguments from `from` to before `end`, as many as `to` takes.
+fn numbers(from: usize, end: usize, to: &mut [u16]) -> Loaded
     ensures { λ r. ⌜ Counts (r .length) (now (to .exit)) ⌝ }
 {
-    let end = os::arg_count();
     let mut i = from;
     let mut k = 0;
     while k < to.len() {
@@ -21,14 +20,14 @@ fn numbers(from: usize, to: &mut [u16]) -> Loaded
                 length: k,
             };
         }
-        let n = args::number(i);
+        let n = args::number(i, 65535);
         if !n.good {
             return Loaded {
                 good: false,
                 length: k,
             };
         }
-        to[k] = n.value;
+        to[k] = n.value as u16;
         i += 1;
         k += 1;
     }
@@ -76,23 +75,15 @@ fn from_file(i: usize, to: &mut [u16]) -> Loaded
     through(i, &mut bytes, to)
 }
 
-// Is argument i @ and a name?
-fn is_file(i: usize) -> bool {
-    let mut path = io::buffer();
-    let n = os::arg(i, &mut path);
-    (1 < n) & (path[0] == b'@')
-}
-
-// The list that the arguments from i on are: numbers, or one @FILE. `to` takes no more than fits: a list
+// The list that the arguments from i to before `end` are: numbers, or one @FILE. `to` takes no more than fits: a list
 // that fills it is above the limit of every call.
-pub fn load(i: usize, to: &mut [u16]) -> Loaded
+pub fn load(i: usize, end: usize, to: &mut [u16]) -> Loaded
     ensures { λ r. ⌜ Counts (r .length) (now (to .exit)) ⌝ }
 {
-    if !is_file(i) {
-        return numbers(i, to);
+    if !args::is_file(i) {
+        return numbers(i, end, to);
     }
-    if args::more_than(i) {
-        say::plain(phrases::NO_LIST);
+    if !args::is_last(i, end) {
         return Loaded {
             good: false,
             length: 0,

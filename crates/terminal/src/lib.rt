@@ -2,6 +2,7 @@
 pub mod args;
 pub mod entries;
 pub mod files;
+pub mod markings;
 pub mod phrases;
 pub mod say;
 pub mod whole;

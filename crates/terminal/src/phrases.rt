@@ -10,138 +10,149 @@ pub const NO_LIST: usize = 2;
 
 pub const ODD_LIST: usize = 3;
 
-pub const USAGE: usize = 4;
+pub const PART_OF_ENTRY: usize = 4;
 
-pub const USAGE_OF: usize = 5;
+pub const USAGE: usize = 5;
 
-pub const REFUSED: usize = 6;
+pub const USAGE_OF: usize = 6;
 
-pub const CONDITION: usize = 7;
+pub const REFUSED: usize = 7;
 
-pub const ARC: usize = 26;
+pub const CONDITION: usize = 8;
 
-pub const PLACE_ORIGIN: usize = 27;
+pub const ARC: usize = 27;
 
-pub const TRANSITION_ORIGIN: usize = 28;
+pub const PLACE_ORIGIN: usize = 28;
 
-pub const ODD_CRITERION: usize = 29;
+pub const TRANSITION_ORIGIN: usize = 29;
 
-pub const CRITERION_PLACE: usize = 30;
+pub const ODD_CRITERION: usize = 30;
 
-pub const CRITERION_ORDER: usize = 31;
+pub const CRITERION_PLACE: usize = 31;
 
-pub const LONG_LIST: usize = 32;
+pub const CRITERION_ORDER: usize = 32;
 
-pub const LIST_TRANSITION: usize = 33;
+pub const LONG_LIST: usize = 33;
 
-pub const NO_ROOM: usize = 34;
+pub const LIST_TRANSITION: usize = 34;
 
-pub const UNKNOWN_PLACE: usize = 35;
+pub const NO_ROOM: usize = 35;
 
-pub const UNKNOWN_TRANSITION: usize = 36;
+pub const MARKING_LENGTH: usize = 36;
 
-pub const ACCEPTED: usize = 37;
+pub const LONG_MARKING: usize = 37;
 
-pub const RULE: usize = 38;
+pub const UNKNOWN_PLACE: usize = 38;
 
-pub const WRITTEN: usize = 46;
+pub const UNKNOWN_TRANSITION: usize = 39;
 
-pub const FIRED: usize = 47;
+pub const ACCEPTED: usize = 40;
 
-pub const STUCK: usize = 48;
+pub const RULE: usize = 41;
 
-pub const PROJECTED: usize = 49;
+pub const WRITTEN: usize = 49;
 
-pub const ENTRY: usize = 50;
+pub const FIRED: usize = 50;
 
-pub const EFFECT: usize = 51;
+pub const STUCK: usize = 51;
 
-pub const EFFECT_OF: usize = 52;
+pub const TAKEN: usize = 52;
 
-pub const ARCS_IN_PLAN: usize = 53;
+pub const UNLIMITED: usize = 53;
 
-pub const ARCS_IN_SLICE: usize = 54;
+pub const PROJECTED: usize = 54;
 
-pub const NONE_IN_PLAN: usize = 55;
+pub const ENTRY: usize = 55;
 
-pub const NONE_IN_SLICE: usize = 56;
+pub const EFFECT: usize = 56;
 
-pub const NO_PLACE: usize = 57;
+pub const EFFECT_OF: usize = 57;
 
-pub const PLAN_OF: usize = 58;
+pub const ARCS_IN_PLAN: usize = 58;
 
-pub const SLICE_OF: usize = 59;
+pub const ARCS_IN_SLICE: usize = 59;
 
-pub const NOTE: usize = 60;
+pub const NONE_IN_PLAN: usize = 60;
 
-pub const NOTE_TEXT: usize = 61;
+pub const NONE_IN_SLICE: usize = 61;
 
-pub const PLACE: usize = 62;
+pub const NO_PLACE: usize = 62;
 
-pub const TRANSITION: usize = 63;
+pub const PLAN_OF: usize = 63;
 
-pub const ORIGIN: usize = 64;
+pub const SLICE_OF: usize = 64;
 
-pub const TOKENS: usize = 65;
+pub const NOTE: usize = 65;
 
-pub const FIRST: usize = 66;
+pub const NOTE_TEXT: usize = 66;
 
-pub const NEXT: usize = 67;
+pub const PLACE: usize = 67;
 
-pub const TAKES: usize = 68;
+pub const TRANSITION: usize = 68;
 
-pub const ADDS: usize = 69;
+pub const ORIGIN: usize = 69;
 
-pub const END: usize = 70;
+pub const TOKENS: usize = 70;
 
-pub const GRAPH: usize = 71;
+pub const FIRST: usize = 71;
 
-pub const CIRCLE: usize = 72;
+pub const NEXT: usize = 72;
 
-pub const BOX: usize = 73;
+pub const TAKES: usize = 73;
 
-pub const INSIDE: usize = 74;
+pub const ADDS: usize = 74;
 
-pub const LEFT_OUT: usize = 75;
+pub const END: usize = 75;
 
-pub const DRAWN: usize = 76;
+pub const GRAPH: usize = 76;
 
-pub const MARKED: usize = 77;
+pub const CIRCLE: usize = 77;
 
-pub const FROM_PLACE: usize = 78;
+pub const BOX: usize = 78;
 
-pub const FROM_TRANSITION: usize = 79;
+pub const INSIDE: usize = 79;
 
-pub const GREY: usize = 80;
+pub const LEFT_OUT: usize = 80;
 
-pub const BLACK: usize = 81;
+pub const DRAWN: usize = 81;
 
-pub const LABEL: usize = 82;
+pub const MARKED: usize = 82;
 
-pub const NO_LABEL: usize = 83;
+pub const FROM_PLACE: usize = 83;
 
-pub const GRAPH_END: usize = 84;
+pub const FROM_TRANSITION: usize = 84;
 
-pub const DEMO: usize = 85;
+pub const GREY: usize = 85;
 
-pub const DEMO_EFFECT: usize = 86;
+pub const BLACK: usize = 86;
 
-pub const DEMO_SAFETY: usize = 87;
+pub const LABEL: usize = 87;
 
-pub const DEMO_CHECK: usize = 88;
+pub const NO_LABEL: usize = 88;
 
-pub const DEMO_REPLAY: usize = 89;
+pub const GRAPH_END: usize = 89;
 
-pub const DEMO_PROJECT: usize = 90;
+pub const DEMO: usize = 90;
 
-pub const DEMO_SLICE: usize = 91;
+pub const DEMO_EFFECT: usize = 91;
+
+pub const DEMO_SAFETY: usize = 92;
+
+pub const DEMO_CHECK: usize = 93;
+
+pub const DEMO_REPLAY: usize = 94;
+
+pub const DEMO_PROJECT: usize = 95;
+
+pub const DEMO_SLICE: usize = 96;
 
 // Writes form k of the page.
 pub fn fill(k: usize, numbers: &[usize]) {
     say::line(
-        b"error: ~: |error: '~' is not a number from 0 to 65535
+        b"error: ~: |error: '~' is not a number from 0 to %
 |error: a list is numbers, or one @FILE
 |error: ~: a list has two bytes an entry, and this file has an odd number of bytes
+|error: ~: a marking has eight bytes an entry, and this file has % byte&
 |usage
 |usage ~
 |refused %: ~: |# byte&; at least 16
@@ -171,6 +182,8 @@ pub fn fill(k: usize, numbers: &[usize]) {
 |refused 11: list: above 65,535 entries
 |refused 12: list: entry % is %: no such transition; T is %
 |refused 13: buffer: shorter than what is written
+|refused 15: marking: % number&; P is %
+|refused 15: marking: more than 1,024 numbers; P is %
 |refused 10: unknown place %; P is %
 |refused 12: unknown transition %; T is %
 |accepted
@@ -184,7 +197,7 @@ pub fn fill(k: usize, numbers: &[usize]) {
 |rule 8 broken by transition %: it is left out and raises a kept place
 |written ~: % byte&, % place&, % transition&
 |fired % transition&, ending|stuck at index %: transition %, place % is short of %
-|projected| %|effect | of transition % on place %
+|taken % time&, leaving|unlimited, leaving|projected| %|effect | of transition % on place %
 |arcs % of transition % in the plan|arcs % of transition % in the slice|error: the plan has no transition %: it has % transition&, numbered from 0
 |error: the slice has no transition %: it has % transition&, numbered from 0
 |error: the plan has no place %: it has % place&, numbered from 0

@@ -8,13 +8,10 @@ use Rattle.terminal.proofs.entries.numbers.Statement.{statement}
 use Rattle.terminal.proofs.entries.numbers.Tie as tie
 
 abbrev Inv-loop : tie.InvT-loop
-Inv-loop from to₀ end i₀ k₀ to i k = (k ≤ length to) × (length to ≡ length to₀)
+Inv-loop from end to₀ i₀ k₀ to i k = (k ≤ length to) × (length to ≡ length to₀)
 
 abbrev μ-loop : tie.MeasureT-loop
-μ-loop from to₀ end i₀ k₀ to i k = length to - k
-
-arg-count-requires : tie.Need-arg-count-requires Inv-loop μ-loop
-arg-count-requires c κs = search needs
+μ-loop from end to₀ i₀ k₀ to i k = length to - k
 
 loop-holds : tie.Need-loop-holds Inv-loop μ-loop
 loop-holds c = search needs
@@ -33,6 +30,9 @@ same-length-2 c = search needs
 
 returns-2 : tie.Need-returns-2 Inv-loop μ-loop
 returns-2 c = counts _ _ (omega arith)
+
+cast-to : tie.Need-cast-to Inv-loop μ-loop
+cast-to c = search needs
 
 mul-to : tie.Need-mul-to Inv-loop μ-loop
 mul-to c = search needs
@@ -64,13 +64,13 @@ numbers-spec =
     (tie.spec
     Inv-loop
     μ-loop
-    arg-count-requires
     loop-holds
     same-length
     returns
     number-requires
     same-length-2
     returns-2
+    cast-to
     mul-to
     slice-write-to
     add-i
