@@ -5,7 +5,7 @@ use mathlib.Core.List.{List, [], _∷_}
 use lib.Dec.{eqb, leb}
 use Rattle.answers.specs.declared.verbs.Verb.{Verb}
 use Rattle.answers.specs.declared.verbs.Words.{Words}
-use Rattle.answers.specs.declared.verbs.Verb.the-variants.{Unknown, Show, Dot, Effect, Replay, Safety, Branching, DotSlice, Arcs, Check, Project}
+use Rattle.answers.specs.declared.verbs.Verb.the-variants.{Unknown, Show, Dot, Effect, Replay, Together, Safety, Branching, DotSlice, Arcs, Check, Project}
 
 -- do two byte strings hold the same bytes?
 unfoldable pub same : List ℕ → List ℕ → Bool
@@ -23,6 +23,9 @@ effect = 101 ∷ 102 ∷ 102 ∷ 101 ∷ 99 ∷ 116 ∷ []
 
 abbrev pub replay : List ℕ
 replay = 114 ∷ 101 ∷ 112 ∷ 108 ∷ 97 ∷ 121 ∷ []
+
+abbrev pub together : List ℕ
+together = 116 ∷ 111 ∷ 103 ∷ 101 ∷ 116 ∷ 104 ∷ 101 ∷ 114 ∷ []
 
 abbrev pub safety : List ℕ
 safety = 115 ∷ 97 ∷ 102 ∷ 101 ∷ 116 ∷ 121 ∷ []
@@ -53,26 +56,30 @@ ofTwo w count =
     pick (same w dot) (pick (leb count 3) Dot DotSlice)
     (pick (same w arcs) Arcs (pick (same w check) Check (pick (same w project) Project Unknown)))
 
+-- the cuts, and the verbs on two files
+unfoldable pub ofCuts : List ℕ → ℕ → Verb
+ofCuts w count = pick (same w safety) Safety (pick (same w branching) Branching (ofTwo w count))
+
 -- the verb of a command of so many words, the program's name among them
 unfoldable pub verbOf : List ℕ → ℕ → Verb
 verbOf w count =
     pick (same w show) Show
-    (pick (same w effect) Effect
-    (pick (same w replay) Replay (pick (same w safety) Safety (pick (same w branching) Branching (ofTwo w count)))))
+    (pick (same w effect) Effect (pick (same w replay) Replay (pick (same w together) Together (ofCuts w count))))
 
-abbrev pub row : ℕ → ℕ → ℕ → Words
-row fewest most list = record { fewest = fewest; most = most; list = list }
+abbrev pub row : ℕ → ℕ → ℕ → ℕ → Words
+row fewest most list end = record { fewest = fewest; most = most; list = list; end = end }
 
--- the fewest words that a verb takes, the most, and the first of its numbers; no verb takes none
+-- the fewest words that a verb takes, the most, the first of its numbers of 16 bits and the first word after them; no verb takes none
 abbrev pub takenBy : Verb → ℕ → Words
-takenBy Unknown count = row 4 0 4
-takenBy Show count = row 3 3 3
-takenBy Dot count = row 3 3 3
-takenBy Effect count = row 5 5 3
-takenBy Replay count = row 3 count 3
-takenBy Safety count = row 4 count 4
-takenBy Branching count = row 4 count 4
-takenBy DotSlice count = row 4 count 4
-takenBy Arcs count = row 6 6 5
-takenBy Check count = row 4 count 4
-takenBy Project count = row 4 count 4
+takenBy Unknown count = row 4 0 4 4
+takenBy Show count = row 3 3 3 3
+takenBy Dot count = row 3 3 3 3
+takenBy Effect count = row 5 5 3 5
+takenBy Replay count = row 3 count 3 count
+takenBy Together count = row 4 count 3 4
+takenBy Safety count = row 4 count 4 count
+takenBy Branching count = row 4 count 4 count
+takenBy DotSlice count = row 4 count 4 count
+takenBy Arcs count = row 6 6 5 6
+takenBy Check count = row 4 count 4 count
+takenBy Project count = row 4 count 4 count

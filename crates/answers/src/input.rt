@@ -14,3 +14,10 @@ pub fn list_room() -> [u16; 65536]
 {
     [0; 65536]
 }
+
+// Room for a marking: one entry more than any file has places.
+pub fn marking_room() -> [u64; 1025]
+    ensures { λ r. ⌜ 1025 ≡ length r ⌝ }
+{
+    [0; 1025]
+}

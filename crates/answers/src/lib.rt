@@ -5,4 +5,5 @@ pub mod effect;
 pub mod input;
 pub mod projects;
 pub mod replays;
+pub mod takings;
 pub mod verbs;

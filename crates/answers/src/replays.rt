@@ -14,15 +14,19 @@ fn entry(marking: &[u64], p: usize) -> u64
     0
 }
 
-// The tokens of each of so many places.
-pub fn fired(count: usize, marking: &[u64], places: usize) {
-    say::one(phrases::FIRED, count);
+// The tokens of each of so many places, and the end of the line.
+pub fn tokens(marking: &[u64], places: usize) {
     let mut p = 0;
     while p < places {
         say::one(phrases::ENTRY, entry(marking, p) as usize);
         p += 1;
     }
     say::plain(phrases::END);
+}
+
+pub fn fired(count: usize, marking: &[u64], places: usize) {
+    say::one(phrases::FIRED, count);
+    tokens(marking, places);
 }
 
 pub fn stuck(list: &[u16], index: u32, place: u32, amount: u32) {

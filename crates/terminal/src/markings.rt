@@ -107,3 +107,13 @@ pub fn load(i: usize, end: usize, to: &mut [u64]) -> Loaded
     }
     from_file(i, to)
 }
+
+// As many of a list's entries as there are, n at most.
+pub fn within(n: usize, list: &[u64]) -> usize
+    ensures { λ r. ⌜ Counts r (now (list .entry)) ⌝ }
+{
+    if list.len() < n {
+        return list.len();
+    }
+    n
+}

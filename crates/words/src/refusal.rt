@@ -105,3 +105,13 @@ pub fn unknown_transition(file: &[u8], t: u16) {
         blame::numbers::transitions(file),
     );
 }
+
+// A marking of so many numbers that has not one for each place; more than 1,024 are not counted.
+pub fn marking(plan: &[u8], given: usize) {
+    let places = blame::numbers::places(plan);
+    if 1024 < given {
+        say::one(phrases::LONG_MARKING, places);
+        return;
+    }
+    say::two(phrases::MARKING_LENGTH, given, places);
+}

@@ -1,4 +1,4 @@
-use Rattle.answers.specs.Verbs.{verbOf, show, effect, replay, safety, branching}
+use Rattle.answers.specs.Verbs.{verbOf, show, effect, replay, together}
 use Rattle.answers.proofs.Words.{same-yes, same-no}
 use borrow.Author.Needs.{needs}
 use Rattle.answers.proofs.verbs.named.Statement.{statement}
@@ -52,35 +52,19 @@ returns-4 c =
     let replay-not = c .before .before .before in
     let effect-not = replay-not .before .before .before in
     let show-not = effect-not .before .before .before in
-    rw (same-no _ show _ (show-not .before .same .ensures) (show-not .if1 .left), same-no _ effect _ (effect-not .before .same2 .ensures) (effect-not .if2 .left), same-no _ replay _ (replay-not .before .same3 .ensures) (replay-not .if3 .left), same-yes _ safety _ (c .before .same4 .ensures) (c .if4 .taken))
+    rw (same-no _ show _ (show-not .before .same .ensures) (show-not .if1 .left), same-no _ effect _ (effect-not .before .same2 .ensures) (effect-not .if2 .left), same-no _ replay _ (replay-not .before .same3 .ensures) (replay-not .if3 .left), same-yes _ together _ (c .before .same4 .ensures) (c .if4 .taken))
 
-slice-aggregate-same-5 : tie.Need-slice-aggregate-same-5
-slice-aggregate-same-5 c = search needs
-
-same-requires-5 : tie.Need-same-requires-5
-same-requires-5 c κs = search needs
+cutting-requires : tie.Need-cutting-requires
+cutting-requires c κs = search needs
 
 returns-5 : tie.Need-returns-5
 unfolding verbOf
 returns-5 c =
-    let safety-not = c .before .before .before in
-    let replay-not = safety-not .before .before .before in
+    let together-not = c .before in
+    let replay-not = together-not .before .before .before in
     let effect-not = replay-not .before .before .before in
     let show-not = effect-not .before .before .before in
-    rw (same-no _ show _ (show-not .before .same .ensures) (show-not .if1 .left), same-no _ effect _ (effect-not .before .same2 .ensures) (effect-not .if2 .left), same-no _ replay _ (replay-not .before .same3 .ensures) (replay-not .if3 .left), same-no _ safety _ (safety-not .before .same4 .ensures) (safety-not .if4 .left), same-yes _ branching _ (c .before .same5 .ensures) (c .if5 .taken))
-
-second-requires : tie.Need-second-requires
-second-requires c κs = search needs
-
-returns-6 : tie.Need-returns-6
-unfolding verbOf
-returns-6 c =
-    let last = c .before in
-    let safety-not = last .before .before .before in
-    let replay-not = safety-not .before .before .before in
-    let effect-not = replay-not .before .before .before in
-    let show-not = effect-not .before .before .before in
-    rw (same-no _ show _ (show-not .before .same .ensures) (show-not .if1 .left), same-no _ effect _ (effect-not .before .same2 .ensures) (effect-not .if2 .left), same-no _ replay _ (replay-not .before .same3 .ensures) (replay-not .if3 .left), same-no _ safety _ (safety-not .before .same4 .ensures) (safety-not .if4 .left), same-no _ branching _ (last .before .same5 .ensures) (last .if5 .left)) (c .second .ensures)
+    rw (same-no _ show _ (show-not .before .same .ensures) (show-not .if1 .left), same-no _ effect _ (effect-not .before .same2 .ensures) (effect-not .if2 .left), same-no _ replay _ (replay-not .before .same3 .ensures) (replay-not .if3 .left), same-no _ together _ (together-not .before .same4 .ensures) (together-not .if4 .left)) (c .cutting .ensures)
 
 pub named-spec : {M : Type 1} → statement M
 named-spec =
@@ -98,8 +82,5 @@ named-spec =
     slice-aggregate-same-4
     same-requires-4
     returns-4
-    slice-aggregate-same-5
-    same-requires-5
-    returns-5
-    second-requires
-    returns-6)
+    cutting-requires
+    returns-5)

@@ -68,6 +68,12 @@ enum-told-11 c = search needs
 row-requires-11 : tie.Need-row-requires-11
 row-requires-11 c κs = search needs
 
+enum-told-12 : tie.Need-enum-told-12
+enum-told-12 c = search needs
+
+row-requires-12 : tie.Need-row-requires-12
+row-requires-12 c κs = search needs
+
 returns : tie.Need-returns
 returns c = rw (c .before .enum-told .given .1) (c .row .ensures)
 
@@ -101,6 +107,9 @@ returns-10 c = rw (c .before .enum-told10 .given .1) (c .row10 .ensures)
 returns-11 : tie.Need-returns-11
 returns-11 c = rw (c .before .enum-told11 .given .1) (c .row11 .ensures)
 
+returns-12 : tie.Need-returns-12
+returns-12 c = rw (c .before .enum-told12 .given .1) (c .row12 .ensures)
+
 pub taken-spec : {M : Type 1} → statement M
 taken-spec =
     tie.close
@@ -127,6 +136,8 @@ taken-spec =
     row-requires-10
     enum-told-11
     row-requires-11
+    enum-told-12
+    row-requires-12
     returns
     returns-2
     returns-3
@@ -137,4 +148,5 @@ taken-spec =
     returns-8
     returns-9
     returns-10
-    returns-11)
+    returns-11
+    returns-12)

@@ -1,16 +1,13 @@
 use Prim.Native.Nat.{_-_}
 use borrow.Author.Needs.{needs}
-use Rattle.answers.proofs.replays.fired.Statement.{statement}
-use Rattle.answers.proofs.replays.fired.Tie as tie
+use Rattle.answers.proofs.replays.tokens.Statement.{statement}
+use Rattle.answers.proofs.replays.tokens.Tie as tie
 
 abbrev Inv-loop : tie.InvT-loop
-Inv-loop count marking places p₀ p = Unit {0}
+Inv-loop marking places p₀ p = Unit {0}
 
 abbrev μ-loop : tie.MeasureT-loop
-μ-loop count marking places p₀ p = places - p
-
-one-requires : tie.Need-one-requires Inv-loop μ-loop
-one-requires c κs = search needs
+μ-loop marking places p₀ p = places - p
 
 loop-holds : tie.Need-loop-holds Inv-loop μ-loop
 loop-holds c = search needs
@@ -18,8 +15,8 @@ loop-holds c = search needs
 entry-requires : tie.Need-entry-requires Inv-loop μ-loop
 entry-requires c κs = search needs
 
-one-requires-2 : tie.Need-one-requires-2 Inv-loop μ-loop
-one-requires-2 c κs = search needs
+one-requires : tie.Need-one-requires Inv-loop μ-loop
+one-requires c κs = search needs
 
 add-p : tie.Need-add-p Inv-loop μ-loop
 add-p c = search needs
@@ -36,16 +33,15 @@ plain-requires c κs = search needs
 returns : tie.Need-returns Inv-loop μ-loop
 returns c = search needs
 
-pub fired-spec : {M : Type 1} → statement M
-fired-spec =
+pub tokens-spec : {M : Type 1} → statement M
+tokens-spec =
     tie.close
     (tie.spec
     Inv-loop
     μ-loop
-    one-requires
     loop-holds
     entry-requires
-    one-requires-2
+    one-requires
     add-p
     loop-less
     loop-again
