@@ -5,6 +5,7 @@ mod demo;
 mod effect;
 mod projects;
 mod replays;
+mod takings;
 mod verdict;
 
 use answers::input;
@@ -44,6 +45,7 @@ fn one(verb: Verb, file: &[u8], list: &[u16]) {
         Verb::Dot => dot::one(file),
         Verb::Effect => effect::answer(file, list),
         Verb::Replay => replays::answer(file, list),
+        Verb::Together => takings::answer(file, list),
         Verb::Safety => cuts::safety(file, list),
         Verb::Branching => cuts::branching(file, list),
         _ => with_plan(verb, file, list),
@@ -60,10 +62,10 @@ fn with_list(verb: Verb, list: &[u16]) {
     one(verb, &file[..n], list);
 }
 
-// Reads what the verb asks about, its list from argument `at` on, and answers.
-fn asked(verb: Verb, at: usize) {
+// Reads what the verb asks about, its list from argument `at` to before `end`, and answers.
+fn asked(verb: Verb, at: usize, end: usize) {
     let mut list = input::list_room();
-    let l = entries::load(at, &mut list);
+    let l = entries::load(at, end, &mut list);
     if !l.good {
         return;
     }
@@ -80,7 +82,7 @@ fn answer(word: &[u8], count: usize) {
     let verb = verbs::named(word, count);
     let words = verbs::taken(verb, count);
     if verbs::fits(words, count) {
-        asked(verb, words.list);
+        asked(verb, words.list, words.end);
         return;
     }
     match verb {
