@@ -1,10 +1,11 @@
 # shellcheck shell=bash disable=SC2034,SC2154
-# Standard input and lists. The program reads files, and lists of two bytes an entry; here - becomes a file, and a list in text
-# becomes such a list. A file with nothing but text in it is no list of two bytes an entry: its numbers would all be above
-# 2,312, and no net has so many places or transitions.
+# Standard input and lists. The program reads files, and lists of two bytes an entry, eight in a marking; here - becomes a file, and a
+# list in text becomes such a list. A file with nothing but text in it is no list of two bytes an entry: its numbers would all be above
+# 2,312, and no net has so many places or transitions. In a marking all would be above 651,061,555,542,690,056.
 more room
 taken=''
 longest=1048576 # bytes of a list in text
+width=2         # bytes of an entry
 
 # inputs: the files and the list of the command's words.
 inputs() {
@@ -13,6 +14,7 @@ inputs() {
     case $verb in
         dot | arcs | check | project) files=(1 2) && from=3 ;;
         replay) from=2 ;;
+        together) from=3 width=8 ;;
         safety | branching) from=3 ;;
         *) from=${#words[@]} ;;
     esac
@@ -69,24 +71,51 @@ is_text() {
     [ -z "$(head -c $((longest + 1)) -- "$1" | tr -d '\11-\15\40-\176' | head -c 1 | od -An -tx1)" ]
 }
 
-# entries NAME FILE: the numbers of a text, two bytes each, into the room's file `list`. The first word may be 'projected', as in the
-# answer of project. As many as a list may have, and one more.
+# entries NAME FILE: the numbers of a text, as many bytes each as the width says, into the room's file `list`; of an answer of project, or,
+# for a marking, of replay or together, the numbers that end it. As many as a list may have, and one more.
 entries() {
-    local codes
-    codes=$(head -c $((longest + 1)) -- "$2" | tr -s '\11-\15\40' '\n' | awk -v most=65536 '
+    local codes most=65536 largest=65535 first='^projected$' last='^projected$'
+    if [ "$width" -eq 8 ]; then most=1025 largest=18446744073709551615 first='^(fired|taken|unlimited,)$' last='^(ending|leaving)$'; fi
+    codes=$(head -c $((longest + 1)) -- "$2" | tr -s '\11-\15\40' '\n' | awk -v width="$width" -v most="$most" -v largest="$largest" \
+        -v first="$first" -v last="$last" '
+        # the number in bytes, low byte first; one of more digits than awk counts with is divided by 256 digit by digit
+        function bytes(n,    i, k, rest, quotient) {
+            for (k = 0; k < width; k++) {
+                if (length(n) < 16) {
+                    rest = n % 256
+                    n = int(n / 256)
+                } else {
+                    rest = 0
+                    quotient = ""
+                    for (i = 1; i <= length(n); i++) {
+                        rest = 10 * rest + substr(n, i, 1)
+                        quotient = quotient int(rest / 256)
+                        rest %= 256
+                    }
+                    n = quotient
+                    sub(/^0+/, "", n)
+                }
+                printf "\\0%03o", rest
+            }
+        }
         $0 == "" { next }
-        !begun++ && $0 == "projected" { next }
+        !begun++ && $0 ~ first { skipped = $0 }
+        skipped != "" {
+            if ($0 ~ last) skipped = ""
+            next
+        }
         {
             word = $0
             bad = $0 ~ /[^0-9]/
             sub(/^0+/, "")
-            if (bad || length($0) > 5 || $0 + 0 > 65535) {
+            if (bad || length($0) > length(largest) || (length($0) == length(largest) && $0 "" > largest "")) {
                 print "not " (length(word) > 40 ? substr(word, 1, 40) ".." : word)
                 exit
             }
-            if (++count <= most) printf "\\0%03o\\0%03o", $0 % 256, int($0 / 256)
-        }')
-    case $codes in *'not '*) fail "$1: '${codes##*not }' is not a number from 0 to 65535" ;; esac
+            if (++count <= most) bytes($0)
+        }
+        END { if (skipped != "") print "not " skipped }')
+    case $codes in *'not '*) fail "$1: '${codes##*not }' is not a number from 0 to $largest" ;; esac
     [ "$(head -c $((longest + 1)) -- "$2" | wc -c)" -le "$longest" ] || fail "$1: a list in text has at most $longest bytes"
     printf %b "$codes" > "$room/list" || fail "$1: the list could not be copied to $room"
 }

@@ -148,6 +148,8 @@ function told(s,    w) {
     else if (w[1] == "fired") object("fired", field("fired", w[2]) ",\"marking\":" numbers(after(s, ", ending")))
     else if (w[1] == "stuck")
         object("stuck", field("index", w[4] + 0) field("transition", w[6] + 0) field("place", w[8]) field("short", w[12]))
+    else if (w[1] == "taken") object("taken", field("times", w[2]) ",\"leaving\":" numbers(after(s, ", leaving")))
+    else if (w[1] == "unlimited,") object("unlimited", ",\"leaving\":" numbers(after(s, ", leaving")))
     else if (w[1] == "written") object("written", written(s))
     else if (s == "accepted") object("accepted", "")
     else if (w[1] == "rule") object("broken", broken(s))
