@@ -8,11 +8,13 @@ use nesfoal_tests::net::{Kind, Refusal, MAX_FILE, MAX_LIST, MAX_PLACES};
 use nesfoal_tests::read::read;
 use nesfoal_tests::replay::{replay, Replayed};
 use nesfoal_tests::rng::Rng;
+use nesfoal_tests::together::{together, Together};
 use nesfoal_tests::{arcs, effect, gen, project};
 
 /// The file that a cut writes.
 pub const OUT: &str = "out";
 const LIST: &str = "list";
+const MARKING: &str = "marking";
 
 pub struct Due {
     /// The case of the answer: a word, the number of a refusal, 100 plus a rule's.
@@ -53,6 +55,20 @@ impl Asked {
             self.words.push(format!("@{LIST}"));
         } else {
             self.words.extend(list.iter().map(|n| n.to_string()));
+        }
+        self
+    }
+
+    /// A marking at the end: as words, or as a file where it has no entry or some lengths; none now and then where it is the plan's own.
+    fn marking(mut self, marking: &[u64], own: bool) -> Asked {
+        if own && marking.len() % 2 == 1 {
+            return self;
+        }
+        if marking.is_empty() || marking.len() % 8 == 5 {
+            self.files.push((MARKING, marking.iter().flat_map(|n| n.to_le_bytes()).collect()));
+            self.words.push(format!("@{MARKING}"));
+        } else {
+            self.words.extend(marking.iter().map(|n| n.to_string()));
         }
         self
     }
@@ -102,6 +118,14 @@ pub fn all() -> Vec<Verb> {
                     due.says = due.says.replacen("short of ", "short of 0", 1);
                 }
             },
+        },
+        Verb {
+            name: "together",
+            outcomes: "taken unlimited 1 2 3 4 5 6 7 12 15",
+            fixed: || each(fixed::takings(), of_together),
+            random: |rng| of_together(&gen::together_case(rng)),
+            // Another number of times.
+            spoil: |due| due.says = due.says.replacen("taken ", "taken 1", 1),
         },
         Verb {
             name: "safety",
@@ -237,6 +261,34 @@ fn of_replay(case: &ReplayCase) -> Asked {
         Err(n) => refused(n, "file"),
     };
     Asked::new(&["replay", "file"], &[("file", &case.file)], due).list(list)
+}
+
+fn of_together(case: &TogetherCase) -> Asked {
+    let (plan, t, marking) = (case.plan.part(), case.transition, case.marking.part());
+    let net = read(plan, Some(Kind::Plan));
+    let own = net.as_ref().is_ok_and(|net| net.marking.iter().map(|&m| u64::from(m)).eq(marking.iter().copied()));
+    let mut rest = vec![0; MAX_PLACES];
+    let answer = together(plan, t, marking, &mut rest);
+    let places = net.as_ref().map_or(0, |net| net.places());
+    let left: String = rest[..places].iter().map(|m| format!(" {m}")).collect();
+    let due = match answer {
+        Ok(Together::Times(1)) => Due::new("taken", format!("taken 1 time, leaving{left}\n")),
+        Ok(Together::Times(k)) => Due::new("taken", format!("taken {k} times, leaving{left}\n")),
+        Ok(Together::Unlimited) => Due::new("unlimited", format!("unlimited, leaving{left}\n")),
+        Err(12) => {
+            let count = net.map_or(0, |net| net.transitions());
+            Due::new(12, format!("refused 12: unknown transition {t}; T is {count}\n"))
+        }
+        Err(15) if marking.len() > MAX_PLACES => {
+            Due::new(15, format!("refused 15: marking: more than 1,024 numbers; P is {places}\n"))
+        }
+        Err(15) => {
+            let given = counted(marking.len(), "number");
+            Due::new(15, format!("refused 15: marking: {given}; P is {places}\n"))
+        }
+        Err(n) => refused(n, "plan"),
+    };
+    Asked::new(&["together", "plan", &t.to_string()], &[("plan", &case.plan)], due).marking(marking, own)
 }
 
 fn of_cut(case: &CutCase) -> Asked {
