@@ -75,7 +75,7 @@ fn copy(marking: &[u64], rest: &mut [u64])
     }
 }
 
-// How often the inputs of a transition can be taken together from the marking; what is left goes to `rest`. Each has an entry for each place.
+// How often the inputs of a transition can be taken together from the marking; what is left goes to `rest`. Both have an entry for each place.
 fn largest(file: &[u8], h: Header, transition: usize, marking: &[u64], rest: &mut [u64]) -> Together
     requires { ⌜ Passed (now file) h transition (now marking) (now rest) ⌝ }
     ensures { λ r. ⌜ togetherNumbers r ≡ togetherTold (together (netFrom (now (file .entry)) h) transition (standing (now (marking .entry)))) ⌝ }
@@ -109,7 +109,7 @@ fn held_back(h: Header, transition: usize, entries: usize, room: usize) -> u32
     0
 }
 
-// The same with the refusals. The first entries of `rest` get what is left of the marking, and the others are kept.
+// How often, where nothing is refused. The first entries of `rest` get what is left of the marking, and the others are kept.
 pub fn takings(
     file: &[u8],
     h: Header,

@@ -21,7 +21,7 @@ returns : tie.Need-returns
 returns c =
     let e = c .before .before .before .before .together .ensures in (
       c .code .ensures ∙ ap togetherCode (e .0),
-      (e .1, c .before .times-of .ensures ∙ ap (λ (a : TogetherAnswer). a .times) (e .0)),
+      (e .1 .0, c .before .times-of .ensures ∙ ap (λ (a : TogetherAnswer). a .times) (e .0)),
     )
 
 pub nesfoal-together-spec : {M : Type 1} → statement M
