@@ -14,8 +14,8 @@ pub struct Room<'a> {
 /// The files of a folder, by name.
 type Files = BTreeMap<String, Vec<u8>>;
 
-/// What a file of the name OUT holds before the program runs, if there is one.
-const OLD: &[u8] = b"what stood there before";
+/// What a file of the name OUT holds before the program runs, if there is one: it ends as a slice does, and is replaced.
+const OLD: &[u8] = b"what stood there before\x01\x01BELL";
 
 impl Room<'_> {
     pub fn new(slicer: &Path, folder: PathBuf) -> Room<'_> {
