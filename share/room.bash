@@ -14,7 +14,7 @@ leave() {
     if [ -n "$running" ]; then
         kill -TERM "$!"
         wait "$!"
-        if [ -n "$folder" ]; then rm -f -- "$folder.nesfoal-$!-"????????; fi
+        if [ -n "$folder" ]; then rm -f -- "$folder.nesfoal-$!-"?; fi
     fi 2> /dev/null
     if [ -n "$beside" ]; then rm -f -- "$beside"; fi
     if [ -n "$room" ]; then rm -rf -- "$room"; fi

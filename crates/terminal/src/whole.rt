@@ -1,10 +1,14 @@
 // Files that appear whole or not at all: written beside their place, under a name of their own, they get the place's name once they are whole.
+ghost use mathlib.Core.Path.{_≡_};
 ghost use Rattle.io.specs.Counts.{Counts};
+ghost use Rattle.terminal.specs.Names.{sliceEnd};
 use crate::files;
 use crate::say;
 
 // Are these the last bytes of a slice file: the kind 1, an edition and the letters?
-fn ends(b: &[u8; 6]) -> bool {
+fn ends(b: &[u8; 6]) -> bool
+    ensures { λ r. ⌜ r ≡ sliceEnd (now (b .entry)) ⌝ }
+{
     (b[0] == 1) & (b[2] == b'B') & (b[3] == b'E') & (b[4] == b'L') & (b[5] == b'L')
 }
 
@@ -49,30 +53,47 @@ fn folder(path: &[u8]) -> usize
     k
 }
 
-// Small letters in place of any bytes.
-fn letters(b: &mut [u8]) {
-    let mut i = 0;
-    while i < b.len() {
-        b[i] = b'a' + b[i] % 26;
-        i += 1;
-    }
-}
-
-// A name in the path's folder that no other process takes: `.nesfoal-`, the process's number, a dash and eight random letters.
-fn beside(path: &[u8], name: &mut [u8]) -> usize
+// A name in the path's folder: `.nesfoal-`, the process's number, a dash and k.
+fn beside(path: &[u8], k: u64, name: &mut [u8]) -> usize
     ensures { λ r. ⌜ Counts r (now (name .exit)) ⌝ }
 {
-    let mut number = [0u8; 20];
-    let k = io::decimal(say::size(libc::getpid()), &mut number);
-    let mut chance = [0u8; 8];
-    libc::getentropy(&mut chance);
-    letters(&mut chance);
+    let mut own = [0u8; 20];
+    let o = io::decimal(say::size(libc::getpid()), &mut own);
+    let mut digits = [0u8; 20];
+    let d = io::decimal(k, &mut digits);
     let end = folder(path);
     let n = add(name, 0, &path[..end]);
     let n = add(name, n, b".nesfoal-");
-    let n = add(name, n, &number[..k]);
+    let n = add(name, n, &own[..o]);
     let n = add(name, n, b"-");
-    add(name, n, &chance)
+    add(name, n, &digits[..d])
+}
+
+// A new file, -1 where there is none, and how long its name is.
+struct New {
+    fd: i32,
+    length: usize,
+}
+
+// Makes a file beside the path, under the first of ten names that is free.
+fn made(path: &[u8], name: &mut [u8]) -> New
+    ensures { λ r. ⌜ Counts (r .length) (now (name .exit)) ⌝ }
+{
+    let mut k = 0;
+    while k < 9 {
+        let length = beside(path, k, name);
+        let fd = os::create(&name[..length]);
+        if os::errno() != libc::EEXIST {
+            return New { fd, length };
+        }
+        if 0 <= fd {
+            return New { fd, length };
+        }
+        k += 1;
+    }
+    let length = beside(path, k, name);
+    let fd = os::create(&name[..length]);
+    New { fd, length }
 }
 
 // Writes all of an open file, has it kept by the disk, and gives it another name.
@@ -89,18 +110,18 @@ fn named(fd: i32, bytes: &[u8], name: &[u8], path: &[u8]) -> bool {
 // Writes the file that argument i names, by its path. Where that fails, a line says why.
 fn put(i: usize, path: &[u8], bytes: &[u8]) -> bool {
     let mut name = io::buffer();
-    let n = beside(path, &mut name);
-    let fd = os::create(&name[..n]);
-    if fd < 0 {
+    let new = made(path, &mut name);
+    let n = new.length;
+    if new.fd < 0 {
         files::failed(i);
         return false;
     }
-    let good = named(fd, bytes, &name[..n], path);
+    let good = named(new.fd, bytes, &name[..n], path);
     if !good {
         files::failed(i);
         os::unlink(&name[..n]);
     }
-    libc::close(fd);
+    libc::close(new.fd);
     good
 }
 
