@@ -1,5 +1,7 @@
 // Words and numbers of the command line.
-ghost use Prim.Native.Nat.{_≤_};
+ghost use Prim.Native.Nat.{_+_, _%_, _^_, _≤_};
+ghost use mathlib.Core.Path.{_≡_};
+ghost use lib.Dec.{leb};
 use crate::phrases;
 use crate::say;
 use numerals::Value;
@@ -45,7 +47,9 @@ pub fn is_file(i: usize) -> bool {
 }
 
 // Is argument i the last before `end`? Where it is not, a line says that a list is one.
-pub fn is_last(i: usize, end: usize) -> bool {
+pub fn is_last(i: usize, end: usize) -> bool
+    ensures { λ r. ⌜ r ≡ leb end ((i + 1) % 2 ^ 64) ⌝ }
+{
     let last = end <= std::num::wrapping_add_usize(i, 1);
     if !last {
         say::plain(phrases::NO_LIST);
