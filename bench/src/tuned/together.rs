@@ -21,36 +21,53 @@ pub fn together(plan: &[u8], transition: u16, marking: &[u64], rest: &mut [u64],
         return 13;
     }
     let t = u64::from(transition);
-    // SAFETY: the file was read; places are below the entries of both.
+    // SAFETY: the file was read; places are below the entries of both; behind the arcs the trailer stands, so that one more
+    // word can be read.
     unsafe {
         let (tokens, left) = (marking.as_ptr(), rest.as_mut_ptr());
         left.copy_from_nonoverlapping(tokens, h.places);
         let from = first(&h, t, 0, 0);
-        // The arc, or one of no transition behind the last.
-        let arc_at = |j: usize| if j < h.arcs { h.arc(j) } else { u64::MAX };
-        let (mut k, mut j) = (u64::MAX, from);
-        let mut arc = arc_at(from);
-        if arc & 0x1_FFFF != t {
+        let to = inputs_end(&h, t, from);
+        if from == to {
             return 100;
         }
-        while arc & 0x1_FFFF == t {
-            let (p, joining) = (place(arc), arc & 0xFFFF_FFFF_FFFF);
-            let mut taken = 0;
-            while arc & 0xFFFF_FFFF_FFFF == joining {
+        let (mut k, mut j) = (u64::MAX, from);
+        let mut arc = h.arc(from);
+        while j < to {
+            let p = place(arc);
+            let mut taken = u64::from(weight(arc));
+            j += 1;
+            arc = h.arc(j);
+            while place(arc) == p && j < to {
                 taken += u64::from(weight(arc));
                 j += 1;
-                arc = arc_at(j);
+                arc = h.arc(j);
             }
             // A product in place of a quotient, but where this place allows the fewest so far.
             let held = *tokens.add(p);
-            if u128::from(k) * u128::from(taken) > u128::from(held) {
+            if k.checked_mul(taken).is_none_or(|all| all > held) {
                 k = held / taken;
             }
         }
-        for arc in (from..j).map(|j| h.arc(j)) {
+        for arc in (from..to).map(|j| h.arc(j)) {
             *left.add(place(arc)) -= k * u64::from(weight(arc));
         }
         *times = k;
     }
     0
+}
+
+/// One past the transition's last input arc, of which `from` is the first: by search where there are many.
+#[inline(always)]
+unsafe fn inputs_end(h: &Header, transition: u64, from: usize) -> usize {
+    const FEW: usize = 8;
+    let takes = |j: usize| h.arc(j) & 0x1_FFFF == transition;
+    if from + FEW < h.arcs && takes(from + FEW) {
+        return first(h, transition, 1, 0);
+    }
+    let mut to = from;
+    while to < h.arcs && takes(to) {
+        to += 1;
+    }
+    to
 }
