@@ -1,6 +1,6 @@
 pub mod Changes
 pub mod ArcRuns
 pub mod Replayed
-pub mod Projecting
+pub mod Followed
 pub mod Taken
 pub mod Apart

@@ -2,10 +2,10 @@
 use Rattle.nesfoal.specs.Answers.{Pinned}
 use Rattle.checker.proofs.Apart.{told-apart as verdicts}
 use Rattle.replay.proofs.Apart.{told-apart as outcomes}
-use Rattle.projection.proofs.Apart.{told-apart as projections}
+use Rattle.shadow.proofs.Apart.{told-apart as shadows}
 use Rattle.together.proofs.Apart.{told-apart as takings}
 use Rattle.slice.proofs.Apart.{told-apart as cuts}
 use Rattle.call_firing.proofs.Apart.{told-apart as changes}
 
 pub pinned : Pinned
-pinned = record { check = verdicts; replay = outcomes; project = projections; safety-and-branching = cuts; effect = changes; together = takings }
+pinned = record { check = verdicts; replay = outcomes; shadow = shadows; safety-and-branching = cuts; effect = changes; together = takings }

@@ -1,2 +1,3 @@
 pub mod AsRead
+pub mod AsFollowed
 pub mod Apart

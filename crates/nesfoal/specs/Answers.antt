@@ -1,7 +1,7 @@
 -- The answers of the public calls: an equation of numbers in a contract is one of answers.
 use Rattle.checker.specs.Answer.{ToldApart as Verdicts}
 use Rattle.replay.specs.Told.{ToldApart as Outcomes}
-use Rattle.projection.specs.Told.{ToldApart as Projections}
+use Rattle.shadow.specs.Told.{ToldApart as Shadows}
 use Rattle.together.specs.Told.{ToldApart as Takings}
 use Rattle.slice.specs.Kept.{ToldApart as Cuts}
 use Rattle.call_firing.specs.Effect.{ToldApart as Changes}
@@ -10,7 +10,7 @@ use Rattle.call_firing.specs.Effect.{ToldApart as Changes}
 pub record Pinned : Type 0 where
   pub check : Verdicts
   pub replay : Outcomes
-  pub project : Projections
+  pub shadow : Shadows
   pub safety-and-branching : Cuts
   pub effect : Changes
   pub together : Takings

@@ -2,8 +2,8 @@
 // archive, so all of them stand here.
 pub mod cuts;
 pub mod effects;
-pub mod projections;
 pub mod replays;
 pub mod runs;
+pub mod shadows;
 pub mod takings;
 pub mod verdicts;

@@ -1,3 +1,2 @@
 pub mod Choices
-pub mod Outcomes
-pub mod Apart
+pub mod Tables

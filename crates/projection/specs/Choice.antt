@@ -3,8 +3,7 @@ use Prim.Native.Nat.{ℕ, zero, suc, _-_, _<_, _≤_}
 use mathlib.Core.List.{List, [], _∷_, _++_}
 use mathlib.Core.Path.{_≡_}
 use lib.ListN.{length, getD, take}
-use Rattle.file.specs.Facts.{Sound}
-use Rattle.file.specs.declared.Header.{Header}
+use Rattle.net.specs.Slice.{Slice, project}
 
 -- the number that an entry stands for, where it stands for one
 abbrev pub chosen : ℕ → List ℕ
@@ -27,9 +26,7 @@ pub record Last (table list : List ℕ) (end : ℕ) : Type 0 where
   pub whole : chosenBy table (take end list) ≡ chosenBy table list
   pub chosen : 0 < end → getD table (getD list (end - 1) 0) 0 ≡ 0 → ⊥
 
--- the slice was read, and the list is not refused: each number is below `long`
-pub record Given (s : List ℕ) (h : Header) (list : List ℕ) (long : ℕ) : Type 0 where
-  pub sound : Sound s h
-  pub slice : h .kind ≡ 1
-  pub short : length list ≤ 65535
-  pub known : (i : ℕ) → i < length list → getD list i 0 < long
+-- a table of `long` entries by which a list of numbers below that is projected to S
+pub record Projects (S : Slice) (long : ℕ) (table : List ℕ) : Type 0 where
+  pub length : length table ≡ long
+  pub list : (list : List ℕ) → Reached table list → chosenBy table list ≡ project S list

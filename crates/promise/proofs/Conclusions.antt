@@ -7,6 +7,7 @@ use mathlib.Core.Logic.{_↔_}
 use native.Mathlib.Omega.{arith}
 use lib.ListN.{length, drop}
 use lib.Dec.{T}
+use borrow.Author.Tests.{le-ltb}
 use Rattle.net.specs.Net.{Answer, fired, short, full, replay, Uncapped}
 use Rattle.net.specs.Slice.{Slice, HasPlace, HasTransition, WellFormed, Accepted}
 use Rattle.net.specs.Checker.{Verdict, accepted, broken, rules, verdict}
@@ -18,7 +19,8 @@ use Rattle.file.specs.Layout.{netOf, sliceOf}
 use Rattle.file.specs.Refusal.{fileRefusal}
 use Rattle.file.specs.declared.Due.the-variants as due
 use Rattle.promise.specs.Calls.{safetyAnswer, safetyBuffer, branchingAnswer, checkRefusal, told, Checked, checked, checkedBytes, Accepts}
-use Rattle.promise.specs.Firing.{replayRefusal, ReplayAnswer, replayTold, replayAnswer, projectRefusal, projectAnswer}
+use Rattle.promise.specs.Firing.{replayRefusal, ReplayAnswer, replayTold, replayAnswer}
+use Rattle.promise.specs.Shadow.{firedPart, shadowOf, lentRefusal, shadowRefusal, shadowAnswer}
 use Rattle.promise.specs.Conclusions.{Tells, AsListed, CutForNothing}
 use Rattle.promise.specs.Promise.{ourCut, ourBranching, Wrote, Keeps, emptySlice, EmptyCriterion}
 use Rattle.promise.proofs.Empty.{empty-criterion}
@@ -136,11 +138,15 @@ module _ (plan buffer : List ℕ) (b : Bytes plan) (read : fileRefusal due.Plan 
   slice-read : fileRefusal due.Slice emptySlice ≡ 0
   slice-read = check-passes plan emptySlice [] (exactly plan emptySlice [] .0 (E .accepted) .0) .0
 
+  no-shadow : (list : List ℕ) → shadowOf (netOf plan) (sliceOf emptySlice) list ≡ []
+  unfolding shadowOf
+  no-shadow list = E .shadow (firedPart (replay (netOf plan) list .answer) list)
+
   pub cut-for-nothing : CutForNothing plan buffer
-  unfolding projectAnswer projectRefusal
+  unfolding shadowAnswer shadowRefusal lentRefusal
   cut-for-nothing = record {
     same-answer = E .branching-answer (length buffer) (omega (arith, sixteen)) ∙ sym (E .safety-answer (length buffer) (omega (arith, sixteen)));
     same-bytes = E .branching-buffer buffer (omega (arith, sixteen)) ∙ sym (E .safety-buffer buffer (omega (arith, sixteen)));
     accepted = ap (λ (file : List ℕ). checkedBytes plan file []) wrote ∙ E .accepted-bytes;
-    projected = λ list ok. ap (λ (file : List ℕ). projectAnswer plan file list 0) wrote ∙ rw (read, slice-read, ok, E .shadow list);
+    shadow = λ list room ok enough. ap (λ (file : List ℕ). shadowAnswer plan file list room 0) wrote ∙ rw (read, slice-read, ok, le-ltb room (netOf plan .places) enough, no-shadow list);
   }

@@ -13,13 +13,14 @@ use Rattle.file.specs.Refusal.{trailerRefusal, arcsRefusal, tableRefusal, origi
 use Rattle.file.specs.Criterion.{placesRefusal, criterionRefusal, criterionOf, criterionBytesRefusal}
 use Rattle.file.specs.Writing.{markingsBytes, arcBytes, arcsBytes, originsBytes, sliceBody, trailerBytes, sliceBytes}
 use Rattle.promise.specs.Calls.{cutOf, safetyFile, branchingFile, cutRefusal, writeRefusal, safetyAnswer, checkRefusal, checked, checkedBytes}
-use Rattle.promise.specs.Firing.{effectRefusal, effectAnswer, listRefusal, replayRefusal, replayAnswer, replayMarking, projectRefusal, projectAnswer, projectOutput, before, runIn, arcRun}
+use Rattle.promise.specs.Firing.{effectRefusal, effectAnswer, listRefusal, replayRefusal, replayAnswer, replayMarking, before, runIn, arcRun}
+use Rattle.promise.specs.Shadow.{shadowOf, lentRefusal, shadowRefusal, shadowAnswer, shadowMarking, shadowOutput}
 use Rattle.promise.specs.Together.{togetherRefusal, togetherAnswer, togetherRest}
 use Rattle.promise.specs.Promise.{emptySlice}
-use Rattle.promise.specs.Example.{smallPlan, onePlace, onePlaceCut, parallelPlan, Starred, Noted, ForNoPlace, Parallels, TakenTogether, withCaps, oneCap, twoCaps, loopNet, overNet, Capped}
+use Rattle.promise.specs.Example.{smallPlan, onePlace, onePlaceCut, parallelPlan, Starred, Noted, Followed, ForNoPlace, Parallels, TakenTogether, withCaps, oneCap, twoCaps, loopNet, overNet, Capped}
 
 pub starred : Starred
-unfolding among position any selected first below weightOn input output effect changes raises takesFrom addsTo capped fire shortPlace fullPlace testInputs testCaps testFiring replayFrom replay tokens growth safety branching drawnBy grown rounds keptPlaces keptTransitions strike own project renumber restrict arcsOf sliceRun planRun placeOf transitionOf keeping cut breaks breaker sameArc sameArcs lacksInput lacksOutput rule1 rule2 rule3 rule4 rule5 rule6 rule7 rule8 rule9 rule10 rules verdictFrom verdict le16 le32 bytes16 bytes32 trailerOf headerOf arcsFrom wordsFrom trailerRefusal arcsRefusal tableRefusal originsRefusal bodyRefusal fileRefusal placesRefusal criterionRefusal markingsBytes arcBytes arcsBytes originsBytes sliceBody trailerBytes sliceBytes cutOf safetyFile branchingFile checkRefusal checked smallPlan effectRefusal effectAnswer listRefusal replayRefusal replayAnswer replayMarking projectRefusal projectAnswer projectOutput
+unfolding among position any selected first below weightOn input output effect changes raises takesFrom addsTo capped fire shortPlace fullPlace testInputs testCaps testFiring replayFrom replay tokens growth safety branching drawnBy grown rounds keptPlaces keptTransitions strike own project renumber restrict arcsOf sliceRun planRun placeOf transitionOf keeping cut breaks breaker sameArc sameArcs lacksInput lacksOutput rule1 rule2 rule3 rule4 rule5 rule6 rule7 rule8 rule9 rule10 rules verdictFrom verdict le16 le32 bytes16 bytes32 trailerOf headerOf arcsFrom wordsFrom trailerRefusal arcsRefusal tableRefusal originsRefusal bodyRefusal fileRefusal placesRefusal criterionRefusal markingsBytes arcBytes arcsBytes originsBytes sliceBody trailerBytes sliceBytes cutOf safetyFile branchingFile checkRefusal checked smallPlan effectRefusal effectAnswer listRefusal replayRefusal replayAnswer replayMarking shadowOf lentRefusal shadowRefusal shadowAnswer shadowMarking shadowOutput
 starred = record {
   file = (refl, refl);
   fires = record { answer = refl; marking = refl };
@@ -32,11 +33,10 @@ starred = record {
   branching-for-2 = record { read = refl; places = refl; transitions = refl; arc-count = refl; byte-count = refl };
   safety-for-3 = record { read = refl; places = refl; transitions = refl; arc-count = refl; byte-count = refl };
   projection = refl;
-  projected = refl;
 }
 
 pub noted : Noted
-unfolding among position any selected first below weightOn input output effect changes raises takesFrom addsTo capped fire shortPlace fullPlace testInputs testCaps testFiring replayFrom replay tokens growth safety branching drawnBy grown rounds keptPlaces keptTransitions strike own project renumber restrict arcsOf sliceRun planRun placeOf transitionOf keeping cut breaks breaker sameArc sameArcs lacksInput lacksOutput rule1 rule2 rule3 rule4 rule5 rule6 rule7 rule8 rule9 rule10 rules verdictFrom verdict le16 le32 bytes16 bytes32 trailerOf headerOf arcsFrom wordsFrom trailerRefusal arcsRefusal tableRefusal originsRefusal bodyRefusal fileRefusal placesRefusal criterionRefusal markingsBytes arcBytes arcsBytes originsBytes sliceBody trailerBytes sliceBytes cutOf safetyFile branchingFile checkRefusal checked smallPlan onePlace onePlaceCut effectRefusal effectAnswer listRefusal replayRefusal replayAnswer replayMarking projectRefusal projectAnswer projectOutput after planTokens sliceTokens cutRefusal writeRefusal safetyAnswer criterionOf criterionBytesRefusal checkedBytes before runIn arcRun
+unfolding among position any selected first below weightOn input output effect changes raises takesFrom addsTo capped fire shortPlace fullPlace testInputs testCaps testFiring replayFrom replay tokens growth safety branching drawnBy grown rounds keptPlaces keptTransitions strike own project renumber restrict arcsOf sliceRun planRun placeOf transitionOf keeping cut breaks breaker sameArc sameArcs lacksInput lacksOutput rule1 rule2 rule3 rule4 rule5 rule6 rule7 rule8 rule9 rule10 rules verdictFrom verdict le16 le32 bytes16 bytes32 trailerOf headerOf arcsFrom wordsFrom trailerRefusal arcsRefusal tableRefusal originsRefusal bodyRefusal fileRefusal placesRefusal criterionRefusal markingsBytes arcBytes arcsBytes originsBytes sliceBody trailerBytes sliceBytes cutOf safetyFile branchingFile checkRefusal checked smallPlan onePlace onePlaceCut effectRefusal effectAnswer listRefusal replayRefusal replayAnswer replayMarking shadowOf lentRefusal shadowRefusal shadowAnswer shadowMarking shadowOutput after planTokens sliceTokens cutRefusal writeRefusal safetyAnswer criterionOf criterionBytesRefusal checkedBytes before runIn arcRun
 noted = record {
   one-place = refl;
   too-short = refl;
@@ -65,8 +65,25 @@ noted = record {
   tokens-in-branching = refl;
 }
 
+pub followed : Followed
+unfolding among position any selected first below weightOn input output effect changes raises takesFrom addsTo capped fire shortPlace fullPlace testInputs testCaps testFiring replayFrom replay tokens growth safety branching drawnBy grown rounds keptPlaces keptTransitions strike own project renumber restrict arcsOf sliceRun planRun placeOf transitionOf keeping cut breaks breaker sameArc sameArcs lacksInput lacksOutput rule1 rule2 rule3 rule4 rule5 rule6 rule7 rule8 rule9 rule10 rules verdictFrom verdict le16 le32 bytes16 bytes32 trailerOf headerOf arcsFrom wordsFrom trailerRefusal arcsRefusal tableRefusal originsRefusal bodyRefusal fileRefusal placesRefusal criterionRefusal markingsBytes arcBytes arcsBytes originsBytes sliceBody trailerBytes sliceBytes cutOf safetyFile branchingFile checkRefusal checked smallPlan onePlace onePlaceCut effectRefusal effectAnswer listRefusal replayRefusal replayAnswer replayMarking shadowOf lentRefusal shadowRefusal shadowAnswer shadowMarking shadowOutput after planTokens sliceTokens cutRefusal writeRefusal safetyAnswer criterionOf criterionBytesRefusal checkedBytes before runIn arcRun
+followed = record {
+  fires = record { answer = refl; marking = refl; output = refl };
+  sticks = record { answer = refl; marking = refl; output = refl };
+  sticks-early = record { answer = refl; marking = refl; output = refl };
+  empty = record { answer = refl; marking = refl; output = refl };
+  exact-room = refl;
+  no-room = refl;
+  marking-kept = refl;
+  output-kept = refl;
+  no-plan = refl;
+  no-slice = refl;
+  unknown = refl;
+  no-marking = refl;
+}
+
 pub for-no-place : ForNoPlace
-unfolding among position any selected first below weightOn input output effect changes raises takesFrom addsTo capped fire shortPlace fullPlace testInputs testCaps testFiring replayFrom replay tokens growth safety branching drawnBy grown rounds keptPlaces keptTransitions strike own project renumber restrict arcsOf sliceRun planRun placeOf transitionOf keeping cut breaks breaker sameArc sameArcs lacksInput lacksOutput rule1 rule2 rule3 rule4 rule5 rule6 rule7 rule8 rule9 rule10 rules verdictFrom verdict le16 le32 bytes16 bytes32 trailerOf headerOf arcsFrom wordsFrom trailerRefusal arcsRefusal tableRefusal originsRefusal bodyRefusal fileRefusal placesRefusal criterionRefusal markingsBytes arcBytes arcsBytes originsBytes sliceBody trailerBytes sliceBytes cutOf safetyFile branchingFile checkRefusal checked smallPlan onePlace onePlaceCut effectRefusal effectAnswer listRefusal replayRefusal replayAnswer replayMarking projectRefusal projectAnswer projectOutput after planTokens sliceTokens cutRefusal writeRefusal safetyAnswer criterionOf criterionBytesRefusal checkedBytes before runIn arcRun emptySlice
+unfolding among position any selected first below weightOn input output effect changes raises takesFrom addsTo capped fire shortPlace fullPlace testInputs testCaps testFiring replayFrom replay tokens growth safety branching drawnBy grown rounds keptPlaces keptTransitions strike own project renumber restrict arcsOf sliceRun planRun placeOf transitionOf keeping cut breaks breaker sameArc sameArcs lacksInput lacksOutput rule1 rule2 rule3 rule4 rule5 rule6 rule7 rule8 rule9 rule10 rules verdictFrom verdict le16 le32 bytes16 bytes32 trailerOf headerOf arcsFrom wordsFrom trailerRefusal arcsRefusal tableRefusal originsRefusal bodyRefusal fileRefusal placesRefusal criterionRefusal markingsBytes arcBytes arcsBytes originsBytes sliceBody trailerBytes sliceBytes cutOf safetyFile branchingFile checkRefusal checked smallPlan onePlace onePlaceCut effectRefusal effectAnswer listRefusal replayRefusal replayAnswer replayMarking shadowOf lentRefusal shadowRefusal shadowAnswer shadowMarking shadowOutput after planTokens sliceTokens cutRefusal writeRefusal safetyAnswer criterionOf criterionBytesRefusal checkedBytes before runIn arcRun emptySlice
 for-no-place = record {
   safety-cut = refl;
   branching-cut = refl;
@@ -83,7 +100,7 @@ for-no-place = record {
   no-number = refl;
   no-effect = refl;
   no-run = refl;
-  projected = refl;
+  no-shadow = refl;
   larger = refl;
   other-marking = refl;
   no-input = refl;
@@ -93,7 +110,7 @@ for-no-place = record {
 }
 
 pub parallels : Parallels
-unfolding among position any selected first below weightOn input output effect changes raises takesFrom addsTo capped fire shortPlace fullPlace testInputs testCaps testFiring replayFrom replay tokens growth safety branching drawnBy grown rounds keptPlaces keptTransitions strike own project renumber restrict arcsOf sliceRun planRun placeOf transitionOf keeping cut breaks breaker sameArc sameArcs lacksInput lacksOutput rule1 rule2 rule3 rule4 rule5 rule6 rule7 rule8 rule9 rule10 rules verdictFrom verdict le16 le32 bytes16 bytes32 trailerOf headerOf arcsFrom wordsFrom trailerRefusal arcsRefusal tableRefusal originsRefusal bodyRefusal fileRefusal placesRefusal criterionRefusal markingsBytes arcBytes arcsBytes originsBytes sliceBody trailerBytes sliceBytes cutOf safetyFile branchingFile checkRefusal checked smallPlan onePlace onePlaceCut effectRefusal effectAnswer listRefusal replayRefusal replayAnswer replayMarking projectRefusal projectAnswer projectOutput after planTokens sliceTokens cutRefusal writeRefusal safetyAnswer criterionOf criterionBytesRefusal checkedBytes before runIn arcRun parallelPlan
+unfolding among position any selected first below weightOn input output effect changes raises takesFrom addsTo capped fire shortPlace fullPlace testInputs testCaps testFiring replayFrom replay tokens growth safety branching drawnBy grown rounds keptPlaces keptTransitions strike own project renumber restrict arcsOf sliceRun planRun placeOf transitionOf keeping cut breaks breaker sameArc sameArcs lacksInput lacksOutput rule1 rule2 rule3 rule4 rule5 rule6 rule7 rule8 rule9 rule10 rules verdictFrom verdict le16 le32 bytes16 bytes32 trailerOf headerOf arcsFrom wordsFrom trailerRefusal arcsRefusal tableRefusal originsRefusal bodyRefusal fileRefusal placesRefusal criterionRefusal markingsBytes arcBytes arcsBytes originsBytes sliceBody trailerBytes sliceBytes cutOf safetyFile branchingFile checkRefusal checked smallPlan onePlace onePlaceCut effectRefusal effectAnswer listRefusal replayRefusal replayAnswer replayMarking shadowOf lentRefusal shadowRefusal shadowAnswer shadowMarking shadowOutput after planTokens sliceTokens cutRefusal writeRefusal safetyAnswer criterionOf criterionBytesRefusal checkedBytes before runIn arcRun parallelPlan
 parallels = record {
   file = (refl, refl);
   takes-two = refl;
@@ -125,7 +142,7 @@ taken-together = record {
 }
 
 pub with-caps : Capped
-unfolding among position any selected first below weightOn input output effect changes raises takesFrom addsTo capped fire shortPlace fullPlace testInputs testCaps testFiring replayFrom replay tokens growth safety branching drawnBy grown rounds keptPlaces keptTransitions strike own project renumber restrict arcsOf sliceRun planRun placeOf transitionOf keeping cut breaks breaker sameArc sameArcs lacksInput lacksOutput rule1 rule2 rule3 rule4 rule5 rule6 rule7 rule8 rule9 rule10 rules verdictFrom verdict le16 le32 bytes16 bytes32 trailerOf headerOf arcsFrom wordsFrom trailerRefusal arcsRefusal tableRefusal originsRefusal bodyRefusal fileRefusal placesRefusal criterionRefusal markingsBytes arcBytes arcsBytes originsBytes sliceBody trailerBytes sliceBytes cutOf safetyFile branchingFile checkRefusal checked smallPlan effectRefusal effectAnswer listRefusal replayRefusal replayAnswer replayMarking projectRefusal projectAnswer projectOutput withCaps oneCap twoCaps loopNet overNet allowed fewest together
+unfolding among position any selected first below weightOn input output effect changes raises takesFrom addsTo capped fire shortPlace fullPlace testInputs testCaps testFiring replayFrom replay tokens growth safety branching drawnBy grown rounds keptPlaces keptTransitions strike own project renumber restrict arcsOf sliceRun planRun placeOf transitionOf keeping cut breaks breaker sameArc sameArcs lacksInput lacksOutput rule1 rule2 rule3 rule4 rule5 rule6 rule7 rule8 rule9 rule10 rules verdictFrom verdict le16 le32 bytes16 bytes32 trailerOf headerOf arcsFrom wordsFrom trailerRefusal arcsRefusal tableRefusal originsRefusal bodyRefusal fileRefusal placesRefusal criterionRefusal markingsBytes arcBytes arcsBytes originsBytes sliceBody trailerBytes sliceBytes cutOf safetyFile branchingFile checkRefusal checked smallPlan effectRefusal effectAnswer listRefusal replayRefusal replayAnswer replayMarking shadowOf lentRefusal shadowRefusal shadowAnswer shadowMarking shadowOutput withCaps oneCap twoCaps loopNet overNet allowed fewest together
 with-caps = record {
   fourth-full = refl;
   before = refl;

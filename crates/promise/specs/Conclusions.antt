@@ -1,18 +1,19 @@
 -- What people conclude from the check's answer and from the published slices, and from a cut for no place.
-use Prim.Native.Nat.{ℕ, _+_}
-use mathlib.Core.Bool.{false}
+use Prim.Native.Nat.{ℕ, _+_, _≤_}
 use mathlib.Core.List.{List, []}
 use mathlib.Core.Path.{_≡_}
 use mathlib.Core.Logic.{_↔_}
 use lib.ListN.{length}
 use lib.Dec.{T}
+use Rattle.net.specs.Net.{replay}
 use Rattle.net.specs.Slice.{Slice, HasPlace, HasTransition}
 use Rattle.net.specs.Checker.{rules}
 use Rattle.net.specs.Conclusions.{Unbroken, BrokenFirst}
 use Rattle.net.specs.Rakow.{Set}
 use Rattle.file.specs.Layout.{netOf, sliceOf}
 use Rattle.promise.specs.Calls.{safetyAnswer, safetyBuffer, branchingAnswer, branchingBuffer, checked, checkedBytes, Accepts}
-use Rattle.promise.specs.Firing.{listRefusal, projectAnswer}
+use Rattle.promise.specs.Firing.{listRefusal, replayTold}
+use Rattle.promise.specs.Shadow.{shadowAnswer}
 
 -- the answer of a check that is not turned back
 pub record Tells (plan slice Q : List ℕ) : Type 0 where
@@ -36,6 +37,6 @@ pub record CutForNothing (plan buffer : List ℕ) : Type 0 where
   pub same-bytes : branchingBuffer plan [] buffer ≡ safetyBuffer plan [] buffer
   -- the C check accepts it, its criterion having no bytes
   pub accepted : checkedBytes plan (safetyBuffer plan [] buffer) [] ≡ 0
-  -- the projection of a list that is not refused is empty, and no entry need be lent
-  pub projected : (list : List ℕ) → listRefusal (netOf plan .transitions) list ≡ 0
-      → projectAnswer plan (safetyBuffer plan [] buffer) list 0 ≡ record { refused = false; refusal = 0; count = 0 }
+  -- the shadow of a list that is not refused is empty, and no entry need be lent for it
+  pub shadow : (list : List ℕ) (room : ℕ) → listRefusal (netOf plan .transitions) list ≡ 0 → netOf plan .places ≤ room
+      → shadowAnswer plan (safetyBuffer plan [] buffer) list room 0 ≡ record { run = replayTold (replay (netOf plan) list .answer); count = 0 }

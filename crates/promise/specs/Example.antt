@@ -1,4 +1,4 @@
--- The starred examples of document 01 ("A small kerb"), over bytes, as one table: the plan's file, its cuts' files, replay, effect, projection, check; and the same kerb with parallel arcs.
+-- The starred examples of document 01 ("A small kerb"), over bytes, as one table: the plan's file, its cuts' files, replay, effect, shadow, check; and the same kerb with parallel arcs.
 -- Places 0 to 4 are that section's waiting, bay free, in bay, left and bell.
 use Prim.Native.Nat.{ℕ, suc}
 use mathlib.Core.List.{List, [], _∷_, _++_}
@@ -10,7 +10,7 @@ use lib.Dec.{eqb}
 use Rattle.net.specs.declared.Arc.{Arc}
 use Rattle.net.specs.Net.{Net, counted, short, full, fired, testFiring, replay, tokens}
 use Rattle.net.specs.Cut.{safety, branching, keptPlaces, keptTransitions}
-use Rattle.net.specs.Slice.{keeping, cut}
+use Rattle.net.specs.Slice.{project, keeping, cut}
 use Rattle.net.specs.Checker.{rule9, accepted, broken, breaker, verdict}
 use Rattle.net.specs.Guarantee.{planTokens, sliceTokens}
 use Rattle.net.specs.Together.{times, together}
@@ -19,7 +19,8 @@ use Rattle.file.specs.Refusal.{fileRefusal}
 use Rattle.file.specs.Writing.{sliceBytes}
 use Rattle.file.specs.declared.Due.the-variants as due
 use Rattle.promise.specs.Calls.{cutOf, safetyFile, branchingFile, safetyAnswer, checked, checkedBytes}
-use Rattle.promise.specs.Firing.{effectAnswer, replayAnswer, replayMarking, projectAnswer, projectOutput, arcRun}
+use Rattle.promise.specs.Firing.{effectAnswer, replayTold, replayAnswer, replayMarking, arcRun}
+use Rattle.promise.specs.Shadow.{ShadowAnswer, shadowAnswer, shadowMarking, shadowOutput}
 use Rattle.promise.specs.Together.{togetherAnswer, togetherRest}
 use Rattle.promise.specs.Promise.{emptySlice}
 
@@ -70,8 +71,7 @@ pub record Starred : Type 0 where
   pub safety-for-2 : Holds (safetyFile smallPlan (2 ∷ [])) (0 ∷ 1 ∷ 2 ∷ []) (0 ∷ 1 ∷ []) 5 78
   pub branching-for-2 : Holds (branchingFile smallPlan (2 ∷ [])) (0 ∷ 1 ∷ 2 ∷ []) (0 ∷ 1 ∷ 3 ∷ []) 6 88
   pub safety-for-3 : Holds (safetyFile smallPlan (3 ∷ [])) (0 ∷ 1 ∷ 2 ∷ 3 ∷ []) (0 ∷ 1 ∷ 2 ∷ []) 7 102
-  pub projection : projectOutput smallPlan (safetyFile smallPlan (2 ∷ [])) (3 ∷ 0 ∷ 1 ∷ 2 ∷ []) (9 ∷ 9 ∷ 7 ∷ []) ≡ 0 ∷ 1 ∷ 7 ∷ []
-  pub projected : projectAnswer smallPlan (safetyFile smallPlan (2 ∷ [])) (3 ∷ 0 ∷ 1 ∷ 2 ∷ []) 3 ≡ record { refused = false; refusal = 0; count = 2 }
+  pub projection : project (sliceOf (safetyFile smallPlan (2 ∷ []))) (3 ∷ 0 ∷ 1 ∷ 2 ∷ []) ≡ 0 ∷ 1 ∷ []
 
 -- what document 01 says without a star: the file in hexadecimal, the edges, "Errors to expect", and the calls' other answers
 pub record Noted : Type 0 where
@@ -104,6 +104,41 @@ pub record Noted : Type 0 where
   -- the branching cut keeps transition 3, and there place 0 has the plan's tokens (document 02, A8)
   pub tokens-in-branching : sliceTokens (sliceOf (branchingFile smallPlan (2 ∷ []))) (3 ∷ 0 ∷ 1 ∷ []) 0 ≡ 0
 
+-- the answer, six entries of a marking and three of an output list after a run on the small plan and its shadow in the cut for place 2; before it the entries lent are 9, the last ones 7
+pub record Writes (list : List ℕ) (a : ShadowAnswer) (m out : List ℕ) : Type 0 where
+  pub answer : shadowAnswer smallPlan (safetyFile smallPlan (2 ∷ [])) list 6 3 ≡ a
+  pub marking : shadowMarking smallPlan (safetyFile smallPlan (2 ∷ [])) list (9 ∷ 9 ∷ 9 ∷ 9 ∷ 9 ∷ 7 ∷ []) (9 ∷ 9 ∷ 7 ∷ []) ≡ m
+  pub output : shadowOutput smallPlan (safetyFile smallPlan (2 ∷ [])) list (9 ∷ 9 ∷ 9 ∷ 9 ∷ 9 ∷ 7 ∷ []) (9 ∷ 9 ∷ 7 ∷ []) ≡ out
+
+-- the numbers of a list that fires, of one that is stuck, and of a refusal
+abbrev pub firing : ℕ → ShadowAnswer
+firing n = record { run = replayTold fired; count = n }
+
+abbrev pub stuck : ℕ → ℕ → ℕ → ℕ → ShadowAnswer
+stuck i p m n = record { run = replayTold (short i p m); count = n }
+
+abbrev pub turnedBack : ℕ → ShadowAnswer
+turnedBack n = record { run = record { refused = true; refusal = n; stuck = false; full = false; index = 0; place = 0; amount = 0 }; count = 0 }
+
+-- a run and its shadow (document 02, A5)
+pub record Followed : Type 0 where
+  pub fires : Writes (3 ∷ 0 ∷ 1 ∷ []) (firing 2) (0 ∷ 1 ∷ 0 ∷ 1 ∷ 0 ∷ 7 ∷ []) (0 ∷ 1 ∷ 7 ∷ [])
+  -- "When stuck, the output holds the projection of the firings before that index": transition 2 wants 2 tokens of place 3, which has 1
+  pub sticks : Writes (3 ∷ 0 ∷ 1 ∷ 2 ∷ []) (stuck 3 3 1 2) (0 ∷ 1 ∷ 0 ∷ 1 ∷ 0 ∷ 7 ∷ []) (0 ∷ 1 ∷ 7 ∷ [])
+  -- the stuck firing is not in it, though the slice has that transition, nor is what comes after; "which need only hold the fired part's projection": the list has four of the slice's
+  pub sticks-early : Writes (0 ∷ 0 ∷ 1 ∷ 1 ∷ []) (stuck 1 1 1 1) (1 ∷ 0 ∷ 1 ∷ 0 ∷ 0 ∷ 7 ∷ []) (0 ∷ 9 ∷ 7 ∷ [])
+  pub empty : Writes [] (firing 0) (2 ∷ 1 ∷ 0 ∷ 0 ∷ 0 ∷ 7 ∷ []) (9 ∷ 9 ∷ 7 ∷ [])
+  pub exact-room : shadowAnswer smallPlan (safetyFile smallPlan (2 ∷ [])) (3 ∷ 0 ∷ 1 ∷ []) 5 2 ≡ firing 2
+  -- "13 is met first for the marking, then for the output list": either way both keep every entry
+  pub no-room : shadowAnswer smallPlan (safetyFile smallPlan (2 ∷ [])) (3 ∷ 0 ∷ 1 ∷ []) 5 1 ≡ turnedBack 13
+  pub marking-kept : shadowMarking smallPlan (safetyFile smallPlan (2 ∷ [])) (3 ∷ 0 ∷ 1 ∷ []) (9 ∷ 9 ∷ 9 ∷ 9 ∷ 9 ∷ []) (7 ∷ []) ≡ 9 ∷ 9 ∷ 9 ∷ 9 ∷ 9 ∷ []
+  pub output-kept : shadowOutput smallPlan (safetyFile smallPlan (2 ∷ [])) (3 ∷ 0 ∷ 1 ∷ []) (9 ∷ 9 ∷ 9 ∷ 9 ∷ []) (7 ∷ 7 ∷ []) ≡ 7 ∷ 7 ∷ []
+  -- plan, slice, list, marking
+  pub no-plan : shadowAnswer onePlaceCut smallPlan (4 ∷ []) 0 0 ≡ turnedBack 3
+  pub no-slice : shadowAnswer smallPlan smallPlan (4 ∷ []) 0 0 ≡ turnedBack 3
+  pub unknown : shadowAnswer smallPlan (safetyFile smallPlan (2 ∷ [])) (4 ∷ []) 0 0 ≡ turnedBack 12
+  pub no-marking : shadowAnswer smallPlan (safetyFile smallPlan (2 ∷ [])) (3 ∷ []) 4 0 ≡ turnedBack 13
+
 -- an empty criterion (document 02, A7)
 pub record ForNoPlace : Type 0 where
   -- "the slice with no places and no transitions, from both cuts, 16 bytes long"; with 15 bytes lent, 13
@@ -120,12 +155,12 @@ pub record ForNoPlace : Type 0 where
   pub passes : (fileRefusal due.Slice emptySlice ≡ 0) × (fileRefusal due.Either emptySlice ≡ 0)
   pub empty-plan : (fileRefusal due.Plan (set emptySlice 10 0) ≡ 4) × (fileRefusal due.Either (set emptySlice 10 0) ≡ 4)
   pub no-plan : fileRefusal due.Plan emptySlice ≡ 3
-  -- replayed, asked for an effect and for arcs, projected on
+  -- replayed, asked for an effect and for arcs, followed in
   pub fires : replayAnswer emptySlice [] 0 ≡ record { refused = false; refusal = 0; stuck = false; full = false; index = 0; place = 0; amount = 0 }
   pub no-number : replayAnswer emptySlice (0 ∷ []) 0 .refusal ≡ 12
   pub no-effect : effectAnswer emptySlice 0 0 ≡ record { refused = true; refusal = 10; effect = pos 0 }
   pub no-run : arcRun smallPlan emptySlice true 0 ≡ []
-  pub projected : projectAnswer smallPlan emptySlice (0 ∷ 3 ∷ []) 0 ≡ record { refused = false; refusal = 0; count = 0 }
+  pub no-shadow : shadowAnswer smallPlan emptySlice (0 ∷ 3 ∷ []) 5 0 ≡ firing 0
   -- a larger slice may be accepted for no place, but rules 1 to 4, 7 and 8 bind: place 0 has 2 tokens and not 3; transition 0 takes from place 0; it raises place 2
   pub larger : checked smallPlan (safetyFile smallPlan (2 ∷ [])) [] .code ≡ 0
   pub other-marking : checked smallPlan onePlaceCut [] ≡ record { refused = false; code = 103; number = 0 }

@@ -1,5 +1,6 @@
 pub mod Calls
 pub mod Firing
+pub mod Shadow
 pub mod Conclusions
 pub mod Exactness
 pub mod Together

@@ -1,0 +1,24 @@
+-- No two answers have the same numbers.
+use mathlib.Core.Path.{_≡_, refl, sym, ap, _∙_}
+use mathlib.Core.Bool.{Bool, true, false}
+use Rattle.promise.specs.Shadow.{ShadowAnswer}
+use Rattle.shadow.specs.Told.{shadowNumbers, ToldApart}
+use Rattle.shadow.specs.declared.Shadow.{Shadow}
+use Rattle.shadow.specs.declared.Shadow.the-variants.{Fired, Stuck, Refused}
+
+abbrev by : Bool → Bool → ShadowAnswer → Shadow
+by true stuck a = Refused (a .run .refusal)
+by false true a = Stuck (a .run .index) (a .run .place) (a .run .amount) (a .count)
+by false false a = Fired (a .count)
+
+-- the answer that has these numbers
+abbrev shadowBy : ShadowAnswer → Shadow
+shadowBy a = by (a .run .refused) (a .run .stuck) a
+
+recovered : (s : Shadow) → shadowBy (shadowNumbers s) ≡ s
+recovered (Fired n) = refl
+recovered (Stuck i p m n) = refl
+recovered (Refused n) = refl
+
+pub told-apart : ToldApart
+told-apart a b e = sym (recovered a) ∙ ap shadowBy e ∙ recovered b

@@ -1,0 +1,4 @@
+pub mod Copies
+pub mod Casting
+pub mod Runs
+pub mod Apart
