@@ -15,8 +15,8 @@
  * - What a call writes overlaps nothing else that it is given: a lent buffer and a result overlap no input, no other buffer
  *   and no other result. Inputs may overlap each other, or be the same string.
  * - While a call runs nobody else writes what it reads, and nobody else reads or writes what it writes.
- * - There is stack, measured on x86-64: below 1 KB for effect, arcs and together, 3 KB for project, 27 KB for the cuts, 32 KB
- *   for the check, 38 KB for replay.
+ * - There is stack, measured on x86-64: below 1 KB for effect, arcs and together, 27 KB for the cuts, 32 KB for the
+ *   check, 38 KB for replay, TODO-MEASURE for shadow.
  *
  * What is proved of every such call, on every input: whatever the counts are, whatever the strings, lists and buffers hold, and
  * whatever numbers are passed
@@ -38,7 +38,7 @@
 #include <stdint.h>
 
 /* One more with each change of a call, of a number or of the files, so that a program can refuse to be built with another. */
-#define NESFOAL_VERSION 5
+#define NESFOAL_VERSION 6
 
 /* The limits of a file, and of a list that a call takes. */
 #define NESFOAL_MAX_FILE_BYTES 65536
@@ -49,12 +49,12 @@
 
 /* Room that always suffices, whatever the plan and the list, so that 13 is not met: bytes for the slice that a cut writes,
  * 40,976 (4 for a marking, 8 for an arc, 2 for an origin, 16 for the trailer); entries for a marking, of a replay or of what
- * nesfoal_together leaves; entries for a projection.
+ * nesfoal_together leaves; entries for a shadow.
  */
 #define NESFOAL_SLICE_ROOM \
     (4 * NESFOAL_MAX_PLACES + 8 * NESFOAL_MAX_ARCS + 2 * NESFOAL_MAX_PLACES + 2 * NESFOAL_MAX_TRANSITIONS + 16)
 #define NESFOAL_MARKING_ROOM NESFOAL_MAX_PLACES
-#define NESFOAL_PROJECTION_ROOM NESFOAL_MAX_LIST_ENTRIES
+#define NESFOAL_SHADOW_ROOM NESFOAL_MAX_LIST_ENTRIES
 
 /* What the calls return, but for nesfoal_arcs. In the order of checking: files come first (plan before slice), then
  * criterion, list or transition, marking, and last the buffer; each file is gone through from 1 to 8, its arcs one by one,
@@ -82,7 +82,7 @@ enum {
     NESFOAL_REFUSED_MARKING = 15,    /* marking: not as many entries as the plan has places */
     NESFOAL_LAST_REFUSAL = 15,       /* answers from 1 to this one are refusals */
 
-    NESFOAL_STUCK = 100,     /* of a replay: a transition is not enabled */
+    NESFOAL_STUCK = 100,     /* of a replay or a run with its shadow: a transition is not enabled */
     NESFOAL_UNLIMITED = 100, /* of nesfoal_together: the transition takes nothing */
     NESFOAL_RULE = 100       /* of a check: plus the number of the broken rule, 1 to 8 */
 };
@@ -140,6 +140,24 @@ uint32_t nesfoal_replay(const uint8_t *file, size_t file_length,
                         uint64_t *marking, size_t marking_count,
                         uint32_t *index, uint32_t *place, uint32_t *amount);
 
+/* A run and its shadow: fires a list of a plan's transitions as nesfoal_replay does, and carries what fired over to a slice.
+ * The shadow is the slice's own number for each transition fired that the slice has, in order; the others are dropped. Where
+ * the list sticks, that is the firings before the index.
+ * In a slice that nesfoal_check accepts for the plan and a criterion the shadow always fires, whether the list sticks or not,
+ * and ends there with the tokens of the marking written, on each place of the criterion.
+ *
+ * Returns 0 or NESFOAL_STUCK, with marking, *index, *place and *amount as of nesfoal_replay, and puts how many numbers were
+ * written to out into *count; or a refusal: 1 to 7 of the plan, 1 to 8 of the slice, 11, 12 (by the plan's transitions), 13
+ * where marking has fewer entries than the plan has places, and then 13 where out has fewer than the shadow.
+ * Later entries of marking and of out keep their values.
+ */
+uint32_t nesfoal_shadow(const uint8_t *plan, size_t plan_length,
+                        const uint8_t *slice, size_t slice_length,
+                        const uint16_t *list, size_t list_count,
+                        uint64_t *marking, size_t marking_count,
+                        uint16_t *out, size_t out_count,
+                        uint32_t *index, uint32_t *place, uint32_t *amount, uint32_t *count);
+
 /* How many times can the inputs of a transition of a plan be taken together from a marking, and what is then left? The
  * answer is the largest k for which every place holds k times what the transition takes from it: for k + 1 some place is
  * short. What the transition adds does not count, nor does the plan's own marking.
@@ -176,18 +194,6 @@ uint32_t nesfoal_branching(const uint8_t *plan, size_t plan_length,
                            const uint16_t *criterion, size_t criterion_count,
                            uint8_t *slice, size_t slice_length,
                            uint32_t *length, uint32_t *places, uint32_t *transitions);
-
-/* Carries a list of the plan's transitions over to a slice: the slice's own number for each listed transition that the
- * slice has, in order; the others are dropped.
- *
- * Returns 0 and puts how many numbers were written to out into *count; or a refusal: 1 to 8 of either file, 11, 12 (by
- * the plan's transitions), and 13 where out has fewer entries than that. Later entries of out keep their values.
- */
-uint32_t nesfoal_project(const uint8_t *plan, size_t plan_length,
-                         const uint8_t *slice, size_t slice_length,
-                         const uint16_t *list, size_t list_count,
-                         uint16_t *out, size_t out_count,
-                         uint32_t *count);
 
 /* Where the arcs of a transition stand: in the slice where of_slice is true, else in the plan. Both files are read.
  *

@@ -3,7 +3,7 @@
 
 #![allow(dead_code)]
 
-pub const NESFOAL_VERSION: u32 = 5;
+pub const NESFOAL_VERSION: u32 = 6;
 
 pub const NESFOAL_MAX_FILE_BYTES: usize = 65536;
 pub const NESFOAL_MAX_PLACES: usize = 1024;
@@ -14,7 +14,7 @@ pub const NESFOAL_MAX_LIST_ENTRIES: usize = 65535;
 pub const NESFOAL_SLICE_ROOM: usize =
     4 * NESFOAL_MAX_PLACES + 8 * NESFOAL_MAX_ARCS + 2 * NESFOAL_MAX_PLACES + 2 * NESFOAL_MAX_TRANSITIONS + 16;
 pub const NESFOAL_MARKING_ROOM: usize = NESFOAL_MAX_PLACES;
-pub const NESFOAL_PROJECTION_ROOM: usize = NESFOAL_MAX_LIST_ENTRIES;
+pub const NESFOAL_SHADOW_ROOM: usize = NESFOAL_MAX_LIST_ENTRIES;
 
 pub const NESFOAL_DONE: u32 = 0;
 pub const NESFOAL_ACCEPTED: u32 = 0;
@@ -82,15 +82,20 @@ extern "C" {
         places: *mut u32,
         transitions: *mut u32,
     ) -> u32;
-    pub fn nesfoal_project(
+    pub fn nesfoal_shadow(
         plan: *const u8,
         plan_len: usize,
         slice: *const u8,
         slice_len: usize,
         list: *const u16,
         list_len: usize,
+        marking: *mut u64,
+        marking_len: usize,
         out: *mut u16,
         out_len: usize,
+        index: *mut u32,
+        place: *mut u32,
+        amount: *mut u32,
         count: *mut u32,
     ) -> u32;
     pub fn nesfoal_together(

@@ -288,20 +288,52 @@ static void checks(void)
     expect("rule 3, place", number, 0);
 }
 
-static void projections(void)
+/* Each case with exactly the room that it takes, and the numbers and entries beyond stay. */
+static void shadows(void)
 {
-    const uint16_t list[] = {3, 0, 1, 2}, unknown[] = {0, 4};
-    uint16_t out[3] = {7, 7, 7};
-    uint32_t count = 9;
-    expect("3,0,1,2", nesfoal_project(plan, 108, cut, 78, list, 4, out, 3, &count), 0);
-    expect("3,0,1,2, count", count, 2);
-    expect("3,0,1,2, numbers", out[0] == 0 && out[1] == 1 && out[2] == 7, 1);
-    out[0] = 7;
-    expect("one entry short", nesfoal_project(plan, 108, cut, 78, list, 4, out, 1, &count), NESFOAL_REFUSED_BUFFER);
-    expect("one entry short, untouched", out[0], 7);
-    expect("an unknown transition", nesfoal_project(plan, 108, cut, 78, unknown, 2, out, 3, &count), NESFOAL_REFUSED_TRANSITION);
-    expect("the empty list", nesfoal_project(plan, 108, cut, 78, NULL, 0, NULL, 0, &count), 0);
-    expect("a plan is no slice", nesfoal_project(plan, 108, plan, 108, list, 4, out, 3, &count), NESFOAL_REFUSED_KIND);
+    const struct {
+        const char *what;
+        uint16_t list[5];
+        size_t n, entries, room;
+        uint32_t answer, index, place, amount, count;
+        uint64_t marking[6];
+        uint16_t out[5];
+    } cases[] = {
+        {"shadow of 3,0,1", {3, 0, 1}, 3, 5, 2, 0, 0, 0, 0, 2, {0, 1, 0, 1, 0, 7}, {0, 1, 7, 7, 7}},
+        {"shadow of 3,0,1,2", {3, 0, 1, 2}, 4, 5, 2, NESFOAL_STUCK, 3, 3, 1, 2, {0, 1, 0, 1, 0, 7}, {0, 1, 7, 7, 7}},
+        {"shadow of 0,0,1,1", {0, 0, 1, 1}, 4, 6, 1, NESFOAL_STUCK, 1, 1, 1, 1, {1, 0, 1, 0, 0, 7}, {0, 7, 7, 7, 7}},
+        {"shadow of 0,1,0,1,2", {0, 1, 0, 1, 2}, 5, 5, 5, 0, 0, 0, 0, 4, {0, 1, 0, 0, 1, 7}, {0, 1, 0, 1, 7}},
+        {"shadow of 3,3", {3, 3}, 2, 5, 0, 0, 0, 0, 0, 0, {0, 1, 0, 0, 0, 7}, {7, 7, 7, 7, 7}},
+        {"shadow, one number short", {3, 0, 1, 2}, 4, 5, 1, NESFOAL_REFUSED_BUFFER, 0, 0, 0, 0, {7, 7, 7, 7, 7, 7}, {7, 7, 7, 7, 7}},
+        {"shadow, one entry short", {3, 0, 1, 2}, 4, 4, 5, NESFOAL_REFUSED_BUFFER, 0, 0, 0, 0, {7, 7, 7, 7, 7, 7}, {7, 7, 7, 7, 7}},
+        {"shadow, an unknown transition", {1, 4}, 2, 0, 0, NESFOAL_REFUSED_TRANSITION, 0, 0, 0, 0, {7, 7, 7, 7, 7, 7}, {7, 7, 7, 7, 7}},
+    };
+    uint32_t index, place, amount, count;
+    for (size_t i = 0; i < sizeof cases / sizeof cases[0]; i++) {
+        uint64_t marking[6] = {7, 7, 7, 7, 7, 7};
+        uint16_t out[5] = {7, 7, 7, 7, 7};
+        index = place = amount = count = 99;
+        expect(cases[i].what, nesfoal_shadow(plan, 108, cut, 78, cases[i].list, cases[i].n, marking, cases[i].entries, out, cases[i].room, &index, &place, &amount, &count), cases[i].answer);
+        expect(cases[i].what, index, cases[i].index);
+        expect(cases[i].what, place, cases[i].place);
+        expect(cases[i].what, amount, cases[i].amount);
+        expect(cases[i].what, count, cases[i].count);
+        expect(cases[i].what, memcmp(marking, cases[i].marking, sizeof marking), 0);
+        expect(cases[i].what, memcmp(out, cases[i].out, sizeof out), 0);
+    }
+    /* The shadow of a list that sticks fires in the slice, and both leave as many tokens on place 2. */
+    uint64_t in_plan[5], in_slice[3];
+    uint16_t out[4];
+    expect("a run", nesfoal_shadow(plan, 108, cut, 78, cases[1].list, 4, in_plan, 5, out, 4, &index, &place, &amount, &count), NESFOAL_STUCK);
+    expect("its shadow", nesfoal_replay(cut, 78, out, count, in_slice, 3, &index, &place, &amount), 0);
+    expect("its shadow, place 2", in_slice[2] == in_plan[2], 1);
+    /* A list as long as can be. */
+    static uint16_t longest[NESFOAL_MAX_LIST_ENTRIES + 1];
+    expect("shadow, 65,535 entries", nesfoal_shadow(plan, 108, cut, 78, longest, NESFOAL_MAX_LIST_ENTRIES, in_plan, 5, out, 1, &index, &place, &amount, &count), NESFOAL_STUCK);
+    expect("shadow, 65,535 entries, one fired", index == 1 && count == 1 && out[0] == 0, 1);
+    expect("shadow, 65,536 entries", nesfoal_shadow(plan, 108, cut, 78, longest, NESFOAL_MAX_LIST_ENTRIES + 1, in_plan, 5, out, 1, &index, &place, &amount, &count), NESFOAL_REFUSED_LIST);
+    expect("shadow, a plan is no slice", nesfoal_shadow(plan, 108, plan, 108, longest, 1, in_plan, 5, out, 4, &index, &place, &amount, &count), NESFOAL_REFUSED_KIND);
+    expect("shadow, a slice is no plan", nesfoal_shadow(cut, 78, NULL, 0, longest, 1, in_plan, 5, out, 4, &index, &place, &amount, &count), NESFOAL_REFUSED_KIND);
 }
 
 static void parallels(void)
@@ -415,8 +447,10 @@ static void no_place(void)
     effect_is("the empty slice, effect", empty, 16, 0, 0, NESFOAL_REFUSED_PLACE, 0);
     expect("the empty slice, arcs", nesfoal_arcs(plan, 108, empty, 16, true, 0, &start), 0);
     expect("the empty slice, start", start, 0);
-    expect("the empty shadow", nesfoal_project(plan, 108, empty, 16, list, 4, out, 0, &count), 0);
+    uint64_t tokens[5];
+    expect("the empty shadow", nesfoal_shadow(plan, 108, empty, 16, list, 3, tokens, 5, out, 0, &number, &places, &transitions, &count), 0);
     expect("the empty shadow, count", count == 0 && out[0] == 7, 1);
+    expect("the empty shadow, marking", tokens[0] == 0 && tokens[3] == 1, 1);
 }
 
 /* A pointer whose count is 0 is not used; it may be null. */
@@ -440,10 +474,15 @@ static void nulls(void)
     expect("null criterion, branching", nesfoal_branching(plan, 108, NULL, 0, room, 100, &a, &b, &c), 0);
     expect("null criterion, branching, bytes", a, 16);
     expect("null criterion and buffer", nesfoal_safety(plan, 108, NULL, 0, NULL, 0, &a, &b, &c), NESFOAL_REFUSED_BUFFER);
-    expect("null output", nesfoal_project(plan, 108, cut, 78, one, 1, NULL, 0, &a), 0);
-    expect("null output, too short", nesfoal_project(plan, 108, cut, 78, twice, 2, NULL, 0, &a), NESFOAL_REFUSED_BUFFER);
-    expect("null plan, project", nesfoal_project(NULL, 0, NULL, 0, NULL, 0, NULL, 0, &a), NESFOAL_REFUSED_LENGTH);
-    expect("null slice, project", nesfoal_project(plan, 108, NULL, 0, NULL, 0, NULL, 0, &a), NESFOAL_REFUSED_LENGTH);
+    uint32_t d = 9;
+    expect("null output", nesfoal_shadow(plan, 108, cut, 78, one, 1, marking, 5, NULL, 0, &a, &b, &c, &d), NESFOAL_STUCK);
+    expect("null output, count", d, 0);
+    expect("null output, too short", nesfoal_shadow(plan, 108, cut, 78, twice, 1, marking, 5, NULL, 0, &a, &b, &c, &d), NESFOAL_REFUSED_BUFFER);
+    expect("null marking, shadow", nesfoal_shadow(bare, 16, cut, 78, twice, 2, NULL, 0, (uint16_t[2]){0}, 2, &a, &b, &c, &d), 0);
+    expect("null marking, shadow, count", d, 2);
+    expect("null list and both, shadow", nesfoal_shadow(bare, 16, cut, 78, NULL, 0, NULL, 0, NULL, 0, &a, &b, &c, &d), 0);
+    expect("null plan, shadow", nesfoal_shadow(NULL, 0, NULL, 0, NULL, 0, NULL, 0, NULL, 0, &a, &b, &c, &d), NESFOAL_REFUSED_LENGTH);
+    expect("null slice, shadow", nesfoal_shadow(plan, 108, NULL, 0, NULL, 0, NULL, 0, NULL, 0, &a, &b, &c, &d), NESFOAL_REFUSED_LENGTH);
     uint64_t times = 9;
     expect("null marking and rest", nesfoal_together(bare, 16, 0, NULL, 0, NULL, 0, &times), NESFOAL_UNLIMITED);
     expect("null marking and rest, times", (long long)times, 0);
@@ -482,7 +521,7 @@ int main(void)
     takings();
     cuts();
     checks();
-    projections();
+    shadows();
     no_place();
     nulls();
     shared();

@@ -3,7 +3,7 @@
 use crate::cut::{cut, Cut};
 use crate::replay::Replayed;
 use crate::together::Together;
-use crate::{arcs, check, effect, project, replay, together};
+use crate::{arcs, check, effect, replay, shadow, together};
 use std::fmt::Write;
 
 /// Entries that are lent to a call, standing inside a larger piece of memory.
@@ -257,35 +257,45 @@ impl Case for CutCase {
 }
 
 #[derive(Clone, Debug)]
-pub struct ProjectCase {
+pub struct ShadowCase {
     pub plan: Lent<u8>,
     pub slice: Lent<u8>,
     pub list: Lent<u16>,
+    pub marking: Lent<u64>,
     pub out: Lent<u16>,
 }
 
-impl Case for ProjectCase {
+impl Case for ShadowCase {
     fn second(&self) -> Answer {
-        let mut lent = self.out.clone();
-        let (number, count) =
-            match project::project(self.plan.part(), self.slice.part(), self.list.part(), lent.part_mut()) {
-                Ok(count) => (0, count as i64),
-                Err(refusal) => (refusal, 0),
-            };
-        Answer::new(number, [count], vec![Cells::Halves(lent.cells)])
+        let (mut marking, mut out) = (self.marking.clone(), self.out.clone());
+        let (plan, slice, list) = (self.plan.part(), self.slice.part(), self.list.part());
+        let (number, outs) = match shadow::shadow(plan, slice, list, marking.part_mut(), out.part_mut()) {
+            Ok((Replayed::Fired, count)) => (0, [0, 0, 0, count as i64]),
+            Ok((Replayed::Stuck { index, place, amount }, count)) => {
+                (100, [index as i64, i64::from(place), amount as i64, count as i64])
+            }
+            Err(refusal) => (refusal, [0; 4]),
+        };
+        Answer::new(number, outs, vec![Cells::Longs(marking.cells), Cells::Halves(out.cells)])
     }
 
     fn show(&self) -> String {
         show_bytes("plan", &self.plan)
             + &show_bytes("slice", &self.slice)
             + &show_numbers("list", &self.list)
-            + &format!("  out: {} entries lent\n", self.out.len)
+            + &format!("  marking: {} entries lent, out: {}\n", self.marking.len, self.out.len)
     }
 
     fn outcome(&self, answer: &Answer) -> String {
-        match (answer.number, answer.outs[0]) {
-            (0, 0) => "0-none".into(),
-            (n, _) => n.to_string(),
+        let none = if answer.outs[3] == 0 { "-none" } else { "" };
+        match answer.number {
+            0 => format!("fired{none}"),
+            100 => format!("stuck{none}"),
+            13 => {
+                let places = crate::read::read(self.plan.part(), None).map_or(0, |net| net.places());
+                if self.marking.len < places { "13-marking" } else { "13-out" }.into()
+            }
+            n => n.to_string(),
         }
     }
 }

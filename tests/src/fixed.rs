@@ -601,45 +601,89 @@ pub fn cuts(which: Cut) -> Vec<Fixed<CutCase>> {
     list
 }
 
-pub fn projections() -> Vec<Fixed<ProjectCase>> {
-    let case = |plan: &[u8], slice: &[u8], list: &[u16], len| ProjectCase {
+pub fn shadows() -> Vec<Fixed<ShadowCase>> {
+    let case = |plan: &[u8], slice: &[u8], list: &[u16], entries, len| ShadowCase {
         plan: lent(plan),
         slice: lent(slice),
         list: lent(list),
+        marking: buffer(entries),
         out: buffer(len),
     };
     let (plan, slice, branching) = (small_plan().bytes(), small_safety().bytes(), small_branching().bytes());
     let mut list = Vec::new();
-    let mut add = |name: String, plan: &[u8], slice: &[u8], numbers: &[u16], len: usize, number, due: &[u16]| {
-        let mut one = fixed(name, case(plan, slice, numbers, len), number, [due.len() as i64]);
-        one.cells = Some(vec![Cells::Halves(after(len, due))]);
+    // Into exactly the entries that are written and into more; and with one too few, if any is.
+    type Stuck = Option<(i64, i64, i64)>;
+    let mut run = |name: &str, files: [&[u8]; 2], numbers: &[u16], stuck: Stuck, marking: &[u64], due: &[u16]| {
+        let [plan, slice] = files;
+        for (entries, len) in [(0, 0), (1, 0), (0, 1), (5, 9)].map(|(m, o)| (marking.len() + m, due.len() + o)) {
+            let number = if stuck.is_some() { 100 } else { 0 };
+            let (index, place, amount) = stuck.unwrap_or((0, 0, 0));
+            let name = format!("{name}, {entries} and {len} entries lent");
+            let case = case(plan, slice, numbers, entries, len);
+            let mut one = fixed(name, case, number, [index, place, amount, due.len() as i64]);
+            one.cells = Some(vec![Cells::Longs(after(entries, marking)), Cells::Halves(after(len, due))]);
+            list.push(one);
+        }
+        let (entries, len) = (marking.len(), due.len());
+        let short = [(entries.wrapping_sub(1), len), (0, len), (entries, len.wrapping_sub(1)), (entries, 0)];
+        for (m, o) in short.into_iter().filter(|&(m, o)| m < entries || o < len).filter(|&(m, o)| m.max(o) < 70_000) {
+            let mut one = fixed(format!("{name}, {m} and {o} lent"), case(plan, slice, numbers, m, o), 13, [0; 4]);
+            one.cells = Some(vec![Cells::Longs(after(m, &[])), Cells::Halves(after(o, &[]))]);
+            list.push(one);
+        }
+    };
+    let (kerb, wider) = ([&plan[..], &slice], [&plan[..], &branching]);
+    run("3,0,1,2", kerb, &[3, 0, 1, 2], Some((3, 3, 1)), &[0, 1, 0, 1, 0], &[0, 1]);
+    run("3,0,1", kerb, &[3, 0, 1], None, &[0, 1, 0, 1, 0], &[0, 1]);
+    run("0,1,0,1,2", kerb, &[0, 1, 0, 1, 2], None, &[0, 1, 0, 0, 1], &[0, 1, 0, 1]);
+    run("the empty list", kerb, &[], None, &[2, 1, 0, 0, 0], &[]);
+    run("0,0,1,1 needs room for one", kerb, &[0, 0, 1, 1], Some((1, 1, 1)), &[1, 0, 1, 0, 0], &[0]);
+    run("stuck at once", kerb, &[1, 0, 1], Some((0, 2, 1)), &[2, 1, 0, 0, 0], &[]);
+    run("all dropped", kerb, &[3, 3], None, &[0, 1, 0, 0, 0], &[]);
+    run("all dropped, then stuck at one that stays", kerb, &[3, 3, 0], Some((2, 0, 1)), &[0, 1, 0, 0, 0], &[]);
+    run("stuck at one that is dropped", kerb, &[0, 2, 1], Some((1, 3, 2)), &[1, 0, 1, 0, 0], &[0]);
+    run("the T of the plan", kerb, &[3], None, &[1, 1, 0, 0, 0], &[]);
+    run("renumbered", wider, &[3, 3], None, &[0, 1, 0, 0, 0], &[2, 2]);
+    run("renumbered, stuck", wider, &[3, 0, 1, 3, 2], Some((3, 0, 1)), &[0, 1, 0, 1, 0], &[2, 0, 1]);
+    run("65,535 entries, stuck", kerb, &[0; 65_535], Some((1, 1, 1)), &[1, 0, 1, 0, 0], &[0]);
+    let beyond = counted(&small_safety(), |d| d.transition_origins = vec![2, 9]);
+    run("origins beyond the plan", [&plan, &beyond], &[0, 1, 0, 1, 2], None, &[0, 1, 0, 0, 1], &[0]);
+    // A slice of another plan: only its origins are looked at.
+    run("a slice of no plan", [&plan, &one_place_slice()], &[0, 1], None, &[1, 1, 0, 1, 0], &[]);
+    let nothing = empty_slice();
+    run("onto the empty slice", [&plan, &nothing], &[3, 0, 1], None, &[0, 1, 0, 1, 0], &[]);
+    run("onto the empty slice, stuck", [&plan, &nothing], &[3, 0, 1, 2], Some((3, 3, 1)), &[0, 1, 0, 1, 0], &[]);
+    let parallel = [&parallel_plan().bytes()[..], &parallel_safety_for_3().bytes()];
+    run("parallel arcs", parallel, &[0, 1, 0, 1, 2], None, &[0, 1, 0, 0, 1], &[0, 1, 0, 1, 2]);
+    run("parallel arcs, stuck", parallel, &[0, 1, 2, 0], Some((2, 3, 1)), &[1, 1, 0, 1, 0], &[0, 1]);
+    let still = [&loop_net(1, 1, 1)[..], &several(&[1], &[1], 1).into_slice(vec![0], vec![0]).bytes()];
+    run("65,535 firings", still, &[0; 65_535], None, &[1], &[0; 65_535]);
+    // Long lists are fired by another way.
+    let full = changed(&small_plan(), |d| d.marking[0] = 40);
+    let turns = [0, 1].repeat(40);
+    run("80 firings", [&full, &slice], &turns, None, &[0, 1, 0, 40, 0], &turns);
+    let more = [&turns[..], &[2, 2, 0, 1]].concat();
+    run("80 firings, then 2,2,0,1", [&full, &slice], &more, Some((82, 0, 1)), &[0, 1, 0, 36, 2], &turns);
+    run("no places", [&Draft::plan(vec![], 2, vec![]).bytes(), &slice], &[0, 1, 1], None, &[], &[0, 1, 1]);
+
+    let mut refused = |name: String, plan: &[u8], slice: &[u8], numbers: &[u16], (m, o): (usize, usize), number| {
+        let mut one = fixed(name, case(plan, slice, numbers, m, o), number, [0; 4]);
+        one.cells = Some(vec![Cells::Longs(after(m, &[])), Cells::Halves(after(o, &[]))]);
         list.push(one);
     };
-    for len in [2, 3, 10] {
-        add(format!("3,0,1,2 with {len} lent"), &plan, &slice, &[3, 0, 1, 2], len, 0, &[0, 1]);
-    }
-    add("3,0,1,2 with 1 lent".into(), &plan, &slice, &[3, 0, 1, 2], 1, 13, &[]);
-    add("3,0,1,2 with none lent".into(), &plan, &slice, &[3, 0, 1, 2], 0, 13, &[]);
-    add("renumbered".into(), &plan, &branching, &[3, 3, 2, 0, 1, 3], 5, 0, &[2, 2, 0, 1, 2]);
-    add("the empty list".into(), &plan, &slice, &[], 0, 0, &[]);
-    add("all dropped".into(), &plan, &slice, &[2, 3, 2], 0, 0, &[]);
-    add("unknown number".into(), &plan, &slice, &[0, 4], 5, 12, &[]);
-    add("the T of the plan".into(), &plan, &slice, &[3], 5, 0, &[]);
-    add("list before buffer".into(), &plan, &slice, &[0, 4], 0, 12, &[]);
-    add("65,536 entries".into(), &plan, &slice, &[0; 65_536], 65_536, 11, &[]);
-    add("65,535 entries".into(), &plan, &slice, &[1; 65_535], 65_535, 0, &[1; 65_535]);
-    let nothing = empty_slice();
-    add("onto the empty slice".into(), &plan, &nothing, &[3, 0, 1, 2], 0, 0, &[]);
-    add("onto the empty slice, 2 lent".into(), &plan, &nothing, &[0; 65_535], 2, 0, &[]);
-    add("onto the empty slice, unknown number".into(), &plan, &nothing, &[4], 0, 12, &[]);
-    let beyond = counted(&small_safety(), |d| d.transition_origins = vec![2, 9]);
-    add("origins beyond the plan".into(), &plan, &beyond, &[0, 2, 1, 2], 4, 0, &[0, 0]);
+    refused("unknown number".into(), &plan, &slice, &[0, 4], (5, 5), 12);
+    refused("unknown number after a stuck one".into(), &plan, &slice, &[1, 65_535], (5, 5), 12);
+    refused("a number of the slice alone".into(), &one_place_plan(), &slice, &[0], (5, 5), 12);
+    refused("list before buffers".into(), &plan, &slice, &[0, 4], (0, 0), 12);
+    refused("65,536 entries".into(), &plan, &slice, &[0; 65_536], (5, 65_536), 11);
+    refused("length before numbers".into(), &plan, &slice, &[4; 65_536], (0, 0), 11);
+    refused("onto the empty slice, unknown number".into(), &plan, &nothing, &[4], (0, 0), 12);
     for (name, bad, number) in bad_plans() {
-        add(format!("plan: {name}"), &bad, &slice, &[9], 0, number, &[]);
-        add(format!("plan before slice: {name}"), &bad, &[], &[9], 0, number, &[]);
+        refused(format!("plan: {name}"), &bad, &slice, &[9], (0, 0), number);
+        refused(format!("plan before slice: {name}"), &bad, &[], &[9], (0, 0), number);
     }
     for (name, bad, number) in bad_slices() {
-        add(format!("slice: {name}"), &plan, &bad, &[9], 0, number, &[]);
+        refused(format!("slice: {name}"), &plan, &bad, &[9], (0, 0), number);
     }
     list
 }
@@ -994,8 +1038,8 @@ mod tests {
     }
 
     #[test]
-    fn projection_examples() {
-        hold(projections());
+    fn shadow_examples() {
+        hold(shadows());
     }
 
     #[test]

@@ -9,9 +9,9 @@ pub mod cut;
 pub mod effect;
 pub mod list;
 pub mod net;
-pub mod project;
 pub mod read;
 pub mod replay;
+pub mod shadow;
 pub mod together;
 pub mod write;
 

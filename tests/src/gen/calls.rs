@@ -4,9 +4,10 @@ use super::*;
 use crate::cases::*;
 use crate::cut::{self, Cut};
 use crate::net::{Kind, Net};
-use crate::project::strike_out;
 use crate::read::read;
+use crate::replay::{fire_list, Replayed};
 use crate::rng::Rng;
+use crate::shadow::strike_out;
 use crate::write::slice_bytes;
 
 /// A plan with something in it: a place, a transition and an arc, where that much is wanted.
@@ -168,33 +169,39 @@ pub fn cut_case(rng: &mut Rng, which: Cut) -> CutCase {
     CutCase { which, plan: lend(rng, &file), q: lend(rng, &q), slice: lend_out(rng, len) }
 }
 
-pub fn project_case(rng: &mut Rng) -> ProjectCase {
+pub fn shadow_case(rng: &mut Rng) -> ShadowCase {
     let aim = rng.below(100);
     let draft = plan_with_arcs(rng);
     let net = net_of(&draft);
     let slice_draft = some_slice(rng, &net);
     let (mut plan_file, mut slice_file) = (draft.bytes(), slice_draft.bytes());
-    if aim < 15 || aim == 33 {
+    if aim < 14 || aim == 31 {
         plan_file = bad_file(rng, Some(Kind::Plan));
     }
-    if (15..34).contains(&aim) {
+    if (14..32).contains(&aim) {
         slice_file = bad_file(rng, Some(Kind::Slice));
     }
     let list = match aim {
-        34 | 35 => long_list(rng, &net),
-        36..=43 => unknown_list(rng, &net),
-        _ if net.transitions() > 0 && rng.percent(40) => {
-            (0..rng.range(1, 20)).map(|_| rng.below(net.transitions()) as u16).collect()
-        }
+        32 | 33 => long_list(rng, &net),
+        34..=40 => unknown_list(rng, &net),
         _ => list_for(rng, &net),
     };
-    let needed = strike_out(&slice_draft.transition_origins, &list).len();
-    let short = (44..54).contains(&aim) || aim < 44 && rng.percent(20);
+    // The room due is that of the fired part's projection.
+    let known = list.iter().all(|&t| usize::from(t) < net.transitions());
+    let fired = match fire_list(&net, if known { &list } else { &[] }).0 {
+        Replayed::Fired => &list[..],
+        Replayed::Stuck { index, .. } => &list[..index],
+    };
+    let needed = strike_out(&slice_draft.transition_origins, fired).len();
+    let short = (41..47).contains(&aim) || aim < 41 && rng.percent(20);
+    let entries = buffer_length(rng, net.places(), short);
+    let short = (47..58).contains(&aim) || aim < 47 && rng.percent(20);
     let len = buffer_length(rng, needed, short);
-    ProjectCase {
+    ShadowCase {
         plan: lend(rng, &plan_file),
         slice: lend(rng, &slice_file),
         list: lend(rng, &list),
+        marking: lend_out(rng, entries),
         out: lend_out(rng, len),
     }
 }
@@ -285,12 +292,12 @@ pub fn verdict_case(rng: &mut Rng) -> VerdictCase {
     VerdictCase { plan: lend(rng, &plan), slice: lend(rng, &slice), q: lend(rng, &q) }
 }
 
-/// A plan, an accepted slice of it, the criterion, and a list that fires in each.
+/// A plan, an accepted slice of it, the criterion, and a list for each.
 pub struct GuaranteeCase {
     pub plan: Vec<u8>,
     pub slice: Vec<u8>,
     pub q: Vec<u16>,
-    /// Plan numbers, fires in the plan.
+    /// Plan numbers; fires in the plan, or sticks there after some firings.
     pub plan_list: Vec<u16>,
     /// The slice's numbers, fires in the slice.
     pub slice_list: Vec<u16>,
@@ -309,7 +316,7 @@ pub fn guarantee_case(rng: &mut Rng) -> GuaranteeCase {
     };
     let slice_net = net_of(&draft);
     let most = if rng.below(500) == 0 { 2_000 } else { 30 };
-    let plan_list = firing_list(rng, &net, most);
+    let plan_list = if rng.percent(40) { firing_list(rng, &net, most) } else { list_for(rng, &net) };
     let slice_list = firing_list(rng, &slice_net, most);
     GuaranteeCase { plan, slice: draft.bytes(), q, plan_list, slice_list }
 }
@@ -342,13 +349,50 @@ mod tests {
         share("replay", replay_case, &[0, 100, 1, 2, 3, 4, 5, 6, 7, 8, 11, 12, 13]);
         share("safety", |rng| cut_case(rng, Cut::Safety), &[0, 1, 2, 3, 4, 5, 6, 7, 10, 13]);
         share("branching", |rng| cut_case(rng, Cut::Branching), &[0, 1, 2, 3, 4, 5, 6, 7, 10, 13]);
-        share("project", project_case, &[0, 1, 2, 3, 4, 5, 6, 7, 8, 11, 12, 13]);
+        share("shadow", shadow_case, &[0, 100, 1, 2, 3, 4, 5, 6, 7, 8, 11, 12, 13]);
         share("together", together_case, &[0, 100, 1, 2, 3, 4, 5, 6, 7, 12, 13, 15]);
         let mut checker = vec![0, 1, 2, 3, 4, 5, 6, 7, 8, 10, 101, 102, 103, 104, 105, 106, 107, 108];
         share("verdict", verdict_case, &checker);
         // An odd number of bytes.
         checker.push(9);
         share("check", check_case, &checker);
+    }
+
+    /// Both refusals by 13 come, and lists that stick with less room than the whole list's projection takes.
+    #[test]
+    fn shadows_of_every_sort_have_their_share() {
+        let mut counts = BTreeMap::new();
+        for number in 0..CASES {
+            let case = shadow_case(&mut Rng::for_case(9, "shadow", number));
+            let answer = case.second();
+            let outcome = case.outcome(&answer);
+            if outcome.starts_with("stuck") {
+                let slice = read(case.slice.part(), Some(Kind::Slice)).unwrap();
+                if strike_out(&slice.transition_origins, case.list.part()).len() > case.out.len {
+                    *counts.entry("stuck with less room".to_string()).or_insert(0) += 1;
+                }
+            }
+            *counts.entry(outcome).or_insert(0) += 1;
+        }
+        for outcome in ["fired", "fired-none", "stuck", "stuck-none", "stuck with less room", "13-marking", "13-out"] {
+            let count = counts.get(outcome).copied().unwrap_or(0);
+            assert!(100 * count >= CASES, "{outcome} came {count} times in {CASES}");
+        }
+    }
+
+    /// Of the lists whose shadow has to fire, a good part sticks in the plan, some after firings.
+    #[test]
+    fn lists_that_stick_have_their_share() {
+        let stuck = |case: &GuaranteeCase| {
+            let plan = read(&case.plan, Some(Kind::Plan)).expect("a good plan");
+            match fire_list(&plan, &case.plan_list).0 {
+                Replayed::Fired => None,
+                Replayed::Stuck { index, .. } => Some(index),
+            }
+        };
+        let at_all = percent("guarantee", guarantee_case, |c| stuck(c).is_some());
+        let later = percent("guarantee", guarantee_case, |c| stuck(c) > Some(0));
+        assert!(at_all > 15.0 && later > 5.0, "{at_all} of a hundred stick, {later} after firings");
     }
 
     /// The largest numbers come: a marking of 2^64 - 1, so many takings, and the last place that decides.
@@ -400,7 +444,7 @@ mod tests {
         near_5("check, no bytes", percent("check", check_case, |c| c.q.part().is_empty()));
         near_5("verdict, no place", percent("verdict", verdict_case, |c| c.q.part().is_empty()));
         near_5("check, empty slice", percent("check", check_case, |c| is_empty(&c.slice)));
-        near_5("project, empty slice", percent("project", project_case, |c| is_empty(&c.slice)));
+        near_5("shadow, empty slice", percent("shadow", shadow_case, |c| is_empty(&c.slice)));
         near_5("arcs, empty slice", percent("arcs", arcs_case, |c| is_empty(&c.slice)));
         near_5("effect, empty slice", percent("effect", effect_case, |c| is_empty(&c.file)));
         near_5("replay, empty slice", percent("replay", replay_case, |c| is_empty(&c.file)));

@@ -1,9 +1,9 @@
-//! The checker's guarantee, tried: for slices that the library accepts, lists that fire in the plan and
-//! lists that fire in the slice are replayed in both.
+//! The checker's guarantee, tried: for slices that the library accepts, lists of the plan are run with their
+//! shadow, and lists that fire in the slice are replayed in both.
 //!
-//! A list that fires in the plan fires, struck out, in the slice; tokens on a kept place are then at
-//! least the plan's, and the same on Q. A list that fires in the slice fires in the plan and leaves the
-//! same tokens on every kept place. And every accepted slice has all that our safety cut has.
+//! The shadow of a list, of one that sticks too, fires in the slice; tokens on a kept place are then at
+//! least those that the run in the plan left, and the same on Q. A list that fires in the slice fires in the plan
+//! and leaves the same tokens on every kept place. And every accepted slice has all that our safety cut has.
 //!
 //! Of our branching cut: it is accepted and leaves out nothing that changes a kept place; a list that fires
 //! in the plan leaves the plan's tokens on all its places (`exact`); and every accepted slice that leaves
@@ -15,7 +15,6 @@ use nesfoal_tests::cases::*;
 use nesfoal_tests::cut::{kept, Cut};
 use nesfoal_tests::gen::{guarantee_case, GuaranteeCase};
 use nesfoal_tests::net::{changes, Kind, Net};
-use nesfoal_tests::project::strike_out;
 use nesfoal_tests::read::read;
 use nesfoal_tests::replay::{fire_list, Replayed};
 use nesfoal_tests::rng::Rng;
@@ -149,14 +148,12 @@ impl Accepted<'_> {
         contains(&self.slice, &cut).ok_or("our branching cut has something that the accepted slice has not".into())
     }
 
-    /// The plan's list in the plan and, struck out, in a slice: for each place of the slice its origin, the tokens
-    /// in the plan and those in the slice.
+    /// The plan's list in the plan, as far as it fires, and its shadow in a slice: for each place of the slice its
+    /// origin, the tokens in the plan and those in the slice.
     fn shadow(&self, file: &[u8]) -> Result<Vec<(u16, u64, u64)>, String> {
-        let list = &self.case.plan_list;
         let slice = read_cut(file)?;
-        let in_plan = replay(&self.plan, &self.case.plan, list)?.ok_or("the plan's list does not fire")?;
-        let struck = strike_out(&slice.transition_origins, list);
-        let in_slice = replay(&slice, file, &struck)?.ok_or("the list struck out does not fire in the slice")?;
+        let (in_plan, shadow) = shadow(&self.plan, self.case, file)?;
+        let in_slice = replay(&slice, file, &shadow)?.ok_or("the shadow does not fire in the slice")?;
         let there = slice.place_origins.iter().map(|&origin| (origin, in_plan[usize::from(origin)]));
         Ok(there.zip(in_slice).map(|((origin, there), here)| (origin, there, here)).collect())
     }
@@ -198,6 +195,31 @@ fn replay(net: &Net, file: &[u8], list: &[u16]) -> Result<Option<Vec<u64>>, Stri
     }
     let _ = file;
     Ok(if answer == Replayed::Fired { Some(marking) } else { None })
+}
+
+/// The marking that the plan's list leaves and its shadow, by the second implementation and, where it is on, by the library.
+fn shadow(plan: &Net, case: &GuaranteeCase, file: &[u8]) -> Result<(Vec<u64>, Vec<u16>), String> {
+    let case = ShadowCase {
+        plan: Lent::plain(case.plan.clone()),
+        slice: Lent::plain(file.to_vec()),
+        list: Lent::plain(case.plan_list.clone()),
+        marking: Lent::plain(vec![0; plan.places()]),
+        out: Lent::plain(vec![0; case.plan_list.len()]),
+    };
+    let answer = case.second();
+    #[cfg(feature = "shadow")]
+    let answer = {
+        let library = library::shadow(&case);
+        if library != answer {
+            return Err(format!("shadows differ: library {}", library.show()));
+        }
+        library
+    };
+    let count = answer.outs[3] as usize;
+    match &answer.cells[..] {
+        [Cells::Longs(marking), Cells::Halves(out)] => Ok((marking.clone(), out[..count].to_vec())),
+        _ => Err("a marking and a list are due".into()),
+    }
 }
 
 /// The file of one of our cuts: the library's where it is on.

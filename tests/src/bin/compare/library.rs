@@ -88,26 +88,32 @@ fn cut(case: &CutCase, call: CutCall) -> Answer {
     Answer { inputs_kept, ..Answer::new(number, [length, places, transitions], vec![Cells::Bytes(slice.cells)]) }
 }
 
-#[cfg(feature = "project")]
-pub fn project(case: &ProjectCase) -> Answer {
+#[cfg(feature = "shadow")]
+pub fn shadow(case: &ShadowCase) -> Answer {
     let (plan, slice, list) = (case.plan.clone(), case.slice.clone(), case.list.clone());
-    let mut out = case.out.clone();
-    let mut count = UNSET;
+    let (mut marking, mut out) = (case.marking.clone(), case.out.clone());
+    let (mut index, mut place, mut amount, mut count) = (UNSET, UNSET, UNSET, UNSET);
     let number = unsafe {
-        nesfoal_project(
+        nesfoal_shadow(
             plan.pointer(),
             plan.len,
             slice.pointer(),
             slice.len,
             list.pointer(),
             list.len,
+            marking.pointer_mut(),
+            marking.len,
             out.pointer_mut(),
             out.len,
+            &mut index,
+            &mut place,
+            &mut amount,
             &mut count,
         )
     };
     let inputs_kept = plan == case.plan && slice == case.slice && list == case.list;
-    Answer { inputs_kept, ..Answer::new(number, [count], vec![Cells::Halves(out.cells)]) }
+    let cells = vec![Cells::Longs(marking.cells), Cells::Halves(out.cells)];
+    Answer { inputs_kept, ..Answer::new(number, [index, place, amount, count], cells) }
 }
 
 #[cfg(feature = "together")]

@@ -11,7 +11,7 @@
     feature = "replay",
     feature = "safety",
     feature = "branching",
-    feature = "project",
+    feature = "shadow",
     feature = "together",
     feature = "check"
 )))]
@@ -30,12 +30,12 @@ mod check;
 mod effect;
 #[cfg(feature = "check")]
 mod guarantee;
-#[cfg(feature = "project")]
-mod project;
 #[cfg(feature = "replay")]
 mod replay;
 #[cfg(feature = "safety")]
 mod safety;
+#[cfg(feature = "shadow")]
+mod shadow;
 #[cfg(feature = "together")]
 mod together;
 #[cfg(feature = "check")]
@@ -79,8 +79,8 @@ fn comparisons() -> Vec<fn(&Settings) -> bool> {
         |s| frame::compare::<safety::Safety>(s),
         #[cfg(feature = "branching")]
         |s| frame::compare::<branching::Branching>(s),
-        #[cfg(feature = "project")]
-        |s| frame::compare::<project::Project>(s),
+        #[cfg(feature = "shadow")]
+        |s| frame::compare::<shadow::Shadow>(s),
         #[cfg(feature = "together")]
         |s| frame::compare::<together::Together>(s),
         #[cfg(feature = "check")]
