@@ -73,8 +73,7 @@ fn repeat(words: &[&str]) -> Option<ExitCode> {
         _ => return None,
     };
     let call = calls::CALLS.into_iter().find(|c| c.name() == *call)?;
-    let named = |inputs: Vec<nets::Input>| inputs.into_iter().find(|input| input.name.starts_with(net));
-    let input = named(nets::checks()).or_else(|| named(nets::eight()))?;
+    let input = nets::named(net)?;
     let times: u64 = times.parse().ok()?;
     let mut job = calls::Job::new(program, call, &input)?;
     let mut side = job.side();

@@ -95,16 +95,24 @@ fn firing_list(net: &Net, firings: usize) -> Vec<u16> {
 
 /// The eight nets.
 pub fn eight() -> Vec<Input> {
-    vec![
-        small(2, 5),
-        random(100, 11),
-        random(1_000, 11),
-        chain(1_024),
-        wide(1_024),
-        readers_writers(22),
-        doubles(1_000, 11),
-        parallel(4_096),
-    ]
+    EIGHT.iter().map(|make| make()).collect()
+}
+
+const EIGHT: [fn() -> Input; 8] = [
+    || small(2, 5),
+    || random(100, 11),
+    || random(1_000, 11),
+    || chain(1_024),
+    || wide(1_024),
+    || readers_writers(22),
+    || doubles(1_000, 11),
+    || parallel(4_096),
+];
+
+/// The first of the eight, then of the checks, whose name starts so; those after it are not made.
+pub fn named(start: &str) -> Option<Input> {
+    let starts = |input: &Input| input.name.starts_with(start);
+    EIGHT.iter().map(|make| make()).find(starts).or_else(|| checks().into_iter().find(starts))
 }
 
 /// Random nets of one kind, so many that the branches of none are learnt by heart when they are taken in turn.
