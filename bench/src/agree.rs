@@ -22,7 +22,7 @@ pub fn agree(cases: u64) -> bool {
         call("replay", cases, fixed::replays(), gen::replay_case, replay),
         call("safety", cases, fixed::cuts(Cut::Safety), cut(Cut::Safety), cut_answer),
         call("branching", cases, fixed::cuts(Cut::Branching), cut(Cut::Branching), cut_answer),
-        call("project", cases, fixed::projections(), gen::project_case, project),
+        call("shadow", cases, fixed::shadows(), gen::shadow_case, shadow),
         call("together", cases, fixed::takings(), gen::together_case, together),
         call("check", cases, fixed::checks(), gen::check_case, check),
         call("verdict", cases, fixed::verdicts(), gen::verdict_case, verdict),
@@ -69,15 +69,30 @@ fn cut_answer(c: &CutCase) -> Answer {
     Answer::new(number, [length, places, kept], vec![Cells::Bytes(lent.cells)])
 }
 
-fn project(c: &ProjectCase) -> Answer {
-    let (plan, slice, list, mut lent) = (&c.plan, &c.slice, &c.list, c.out.clone());
-    let mut count = UNSET;
-    let (to, room) = (lent.pointer_mut(), lent.len);
-    let (list, entries) = (list.pointer(), list.len);
+fn shadow(c: &ShadowCase) -> Answer {
+    let (plan, slice, list) = (&c.plan, &c.slice, &c.list);
+    let (mut marking, mut out) = (c.marking.clone(), c.out.clone());
+    let [mut index, mut place, mut amount, mut count] = [UNSET; 4];
     let number = unsafe {
-        tuned::project(plan.pointer(), plan.len, slice.pointer(), slice.len, list, entries, to, room, &mut count)
+        tuned::shadow(
+            plan.pointer(),
+            plan.len,
+            slice.pointer(),
+            slice.len,
+            list.pointer(),
+            list.len,
+            marking.pointer_mut(),
+            marking.len,
+            out.pointer_mut(),
+            out.len,
+            &mut index,
+            &mut place,
+            &mut amount,
+            &mut count,
+        )
     };
-    Answer::new(number, [count], vec![Cells::Halves(lent.cells)])
+    let cells = vec![Cells::Longs(marking.cells), Cells::Halves(out.cells)];
+    Answer::new(number, [index, place, amount, count], cells)
 }
 
 fn together(c: &TogetherCase) -> Answer {

@@ -9,8 +9,22 @@ type Replay =
     unsafe extern "C" fn(*const u8, usize, *const u16, usize, *mut u64, usize, *mut u32, *mut u32, *mut u32) -> u32;
 type Cut =
     unsafe extern "C" fn(*const u8, usize, *const u16, usize, *mut u8, usize, *mut u32, *mut u32, *mut u32) -> u32;
-type Project =
-    unsafe extern "C" fn(*const u8, usize, *const u8, usize, *const u16, usize, *mut u16, usize, *mut u32) -> u32;
+type Shadow = unsafe extern "C" fn(
+    *const u8,
+    usize,
+    *const u8,
+    usize,
+    *const u16,
+    usize,
+    *mut u64,
+    usize,
+    *mut u16,
+    usize,
+    *mut u32,
+    *mut u32,
+    *mut u32,
+    *mut u32,
+) -> u32;
 type Together = unsafe extern "C" fn(*const u8, usize, u16, *const u64, usize, *mut u64, usize, *mut u64) -> u32;
 type Check = unsafe extern "C" fn(*const u8, usize, *const u8, usize, *const u8, usize) -> u32;
 type Verdict = unsafe extern "C" fn(*const u8, usize, *const u8, usize, *const u16, usize, *mut u32) -> u32;
@@ -24,7 +38,7 @@ pub struct Program {
     branching: Option<Cut>,
     check: Option<Check>,
     verdict: Option<Verdict>,
-    project: Option<Project>,
+    shadow: Option<Shadow>,
     together: Option<Together>,
 }
 
@@ -47,7 +61,7 @@ pub const LIBRARY: Program = Program {
     branching: of_library!(nesfoal_branching, "branching"),
     check: of_library!(nesfoal_check, "check"),
     verdict: of_library!(nesfoal_verdict, "verdict"),
-    project: of_library!(nesfoal_project, "project"),
+    shadow: of_library!(nesfoal_shadow, "shadow"),
     together: of_library!(nesfoal_together, "together"),
 };
 
@@ -59,7 +73,7 @@ pub const TUNED: Program = Program {
     branching: Some(tuned::branching),
     check: Some(tuned::check),
     verdict: Some(tuned::verdict),
-    project: Some(tuned::project),
+    shadow: Some(tuned::shadow),
     together: Some(tuned::together),
 };
 
@@ -75,7 +89,7 @@ pub enum Call {
     Branching,
     Check,
     Verdict,
-    Project,
+    Shadow,
     Together,
 }
 
@@ -89,7 +103,7 @@ pub const CALLS: [Call; 11] = [
     Call::Branching,
     Call::Check,
     Call::Verdict,
-    Call::Project,
+    Call::Shadow,
     Call::Together,
 ];
 
@@ -105,7 +119,7 @@ impl Call {
             Call::Branching => "branching",
             Call::Check => "check",
             Call::Verdict => "verdict",
-            Call::Project => "project",
+            Call::Shadow => "shadow",
             Call::Together => "together",
         }
     }
@@ -117,7 +131,7 @@ impl Call {
 
     /// Whether the call reads the slice beside the plan.
     pub fn reads_both(self) -> bool {
-        matches!(self, Call::Arcs | Call::Check | Call::Verdict | Call::Project)
+        matches!(self, Call::Arcs | Call::Check | Call::Verdict | Call::Shadow)
     }
 }
 
@@ -139,7 +153,7 @@ pub struct Outcome {
 struct Values {
     effect: i32,
     times: u64,
-    numbers: [u32; 3],
+    numbers: [u32; 4],
 }
 
 #[derive(PartialEq, Eq)]
@@ -169,7 +183,7 @@ impl<'a> Job<'a> {
             Call::Branching => program.branching.is_some(),
             Call::Check => program.check.is_some(),
             Call::Verdict => program.verdict.is_some(),
-            Call::Project => program.project.is_some(),
+            Call::Shadow => program.shadow.is_some(),
             Call::Together => program.together.is_some(),
         };
         let buffers = Buffers { marking: vec![0; 1_024], slice: vec![0; 65_536], out: vec![0; 65_535] };
@@ -224,13 +238,14 @@ impl<'a> Job<'a> {
                 self.results(&mut arguments, 1);
                 program.verdict.unwrap() as *const ()
             }
-            Call::Project => {
+            Call::Shadow => {
                 read_part(&mut arguments, &input.plan);
                 read_part(&mut arguments, &input.slice);
                 read_part(&mut arguments, &input.list);
+                written_part(&mut arguments, &mut self.buffers.marking);
                 written_part(&mut arguments, &mut self.buffers.out);
-                self.results(&mut arguments, 1);
-                program.project.unwrap() as *const ()
+                self.results(&mut arguments, 4);
+                program.shadow.unwrap() as *const ()
             }
             Call::Together => {
                 read_part(&mut arguments, &input.plan);
@@ -253,7 +268,7 @@ impl<'a> Job<'a> {
         let (program, input) = (self.program, self.input);
         let (plan, slice, list, q) = (part(&input.plan), part(&input.slice), part(&input.list), part(&input.q));
         let (q_bytes, place, transition) = (part(&input.q_bytes), input.place, input.transition);
-        let [first, second, third] = &mut self.values.numbers;
+        let [first, second, third, fourth] = &mut self.values.numbers;
         let (effect, times) = (&mut self.values.effect, &mut self.values.times);
         let (tokens, taking) = (part(&input.tokens), input.taking);
         let Buffers { marking, slice: to, out } = &mut self.buffers;
@@ -293,10 +308,15 @@ impl<'a> Job<'a> {
                 let call = program.verdict.unwrap();
                 Box::new(move || unsafe { call(plan.0, plan.1, slice.0, slice.1, q.0, q.1, first) })
             }
-            Call::Project => {
-                let call = program.project.unwrap();
-                let (to, room) = (out.as_mut_ptr(), out.len());
-                Box::new(move || unsafe { call(plan.0, plan.1, slice.0, slice.1, list.0, list.1, to, room, first) })
+            Call::Shadow => {
+                let call = program.shadow.unwrap();
+                let (to, room, out, entries) = (marking.as_mut_ptr(), marking.len(), out.as_mut_ptr(), out.len());
+                Box::new(move || unsafe {
+                    call(
+                        plan.0, plan.1, slice.0, slice.1, list.0, list.1, to, room, out, entries, first, second, third,
+                        fourth,
+                    )
+                })
             }
             Call::Together => {
                 let call = program.together.unwrap();

@@ -83,19 +83,25 @@ pub unsafe extern "C" fn branching(
     super::cut::cut::<false>(plan, q, slice, [&mut *length, &mut *places, &mut *transitions])
 }
 
-pub unsafe extern "C" fn project(
+pub unsafe extern "C" fn shadow(
     plan: *const u8,
     plan_len: usize,
     slice: *const u8,
     slice_len: usize,
     list: *const u16,
     list_len: usize,
+    marking: *mut u64,
+    marking_len: usize,
     out: *mut u16,
     out_len: usize,
+    index: *mut u32,
+    place: *mut u32,
+    amount: *mut u32,
     count: *mut u32,
 ) -> u32 {
     let (plan, slice, list) = (lent(plan, plan_len), lent(slice, slice_len), lent(list, list_len));
-    super::project::project(plan, slice, list, lent_out(out, out_len), &mut *count)
+    let (marking, out) = (lent_out(marking, marking_len), lent_out(out, out_len));
+    super::shadow::shadow(plan, slice, list, marking, out, [&mut *index, &mut *place, &mut *amount, &mut *count])
 }
 
 pub unsafe extern "C" fn together(

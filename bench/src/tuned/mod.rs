@@ -12,12 +12,12 @@ mod criterion;
 mod cut;
 mod effect;
 mod list;
-mod project;
 mod read;
 mod replay;
+mod shadow;
 mod starts;
 mod together;
 #[cfg(feature = "vectors")]
 mod vectors;
 
-pub use c::{arcs, branching, check, effect, project, replay, safety, together, verdict};
+pub use c::{arcs, branching, check, effect, replay, safety, shadow, together, verdict};

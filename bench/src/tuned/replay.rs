@@ -10,17 +10,11 @@ use super::starts;
 pub fn replay(file: &[u8], numbers: &[u16], marking: &mut [u64], stuck: [&mut u32; 3]) -> u32 {
     let [index, short, amount] = stuck;
     (*index, *short, *amount) = (0, 0, 0);
-    let mut table = raw::<u16, { TRANSITIONS + 1 }>();
-    let mut moves = raw::<i32, ARCS>();
-    let table = table.as_mut_ptr().cast::<u16>();
-    let moves = moves.as_mut_ptr().cast::<i32>();
-    // SAFETY: numbers are below the limits once read; the table is cleared as far as the transitions go.
+    let mut tables = Tables::new();
+    // SAFETY: numbers are below the limits once read.
     unsafe {
-        let read = read_by(file, EITHER, |h| {
-            table.write_bytes(0, h.transitions + 1);
-            moves_of(h.arcs_at, h.arcs, room(h), table, moves)
-        });
-        let h = match read {
+        let moves = Moves::in_room(&mut tables);
+        let h = match moves.read(file, EITHER) {
             Ok(h) => h,
             Err(refusal) => return refusal,
         };
@@ -31,14 +25,78 @@ pub fn replay(file: &[u8], numbers: &[u16], marking: &mut [u64], stuck: [&mut u3
         if marking.len() < h.places {
             return 13;
         }
-        starts::fill(table, h.transitions + 1);
         let tokens = marking.as_mut_ptr().cast::<i64>();
+        moves.begin(&h, tokens);
+        match moves.run(numbers, tokens) {
+            None => 0,
+            Some((i, place, missing)) => {
+                (*index, *short, *amount) = (i as u32, place, missing);
+                100
+            }
+        }
+    }
+}
+
+/// Room for the moves of a net.
+pub struct Tables {
+    starts: Raw<u16, { TRANSITIONS + 1 }>,
+    moves: Raw<i32, ARCS>,
+}
+
+impl Tables {
+    #[inline(always)]
+    pub fn new() -> Tables {
+        Tables { starts: raw(), moves: raw() }
+    }
+}
+
+/// The moves of a net: of each arc its place and above it the tokens that it adds; and each transition's first.
+#[derive(Clone, Copy)]
+pub struct Moves {
+    starts: *mut u16,
+    moves: *mut i32,
+}
+
+impl Moves {
+    #[inline(always)]
+    pub fn in_room(tables: &mut Tables) -> Moves {
+        Moves { starts: tables.starts.as_mut_ptr().cast(), moves: tables.moves.as_mut_ptr().cast() }
+    }
+
+    /// Reads a file of the kind due; the starts are ends as yet.
+    ///
+    /// # Safety
+    /// The tables last.
+    #[inline(always)]
+    pub unsafe fn read(self, file: &[u8], due: u64) -> Result<Header, u32> {
+        read_by(file, due, |h| {
+            self.starts.write_bytes(0, h.transitions + 1);
+            moves_of(h.arcs_at, h.arcs, room(h), self.starts, self.moves)
+        })
+    }
+
+    /// Makes the starts, and loads the initial marking.
+    ///
+    /// # Safety
+    /// The header is of the file that was read; there are as many entries as places.
+    #[inline(always)]
+    pub unsafe fn begin(self, h: &Header, tokens: *mut i64) {
+        starts::fill(self.starts, h.transitions + 1);
         for p in 0..h.places {
             *tokens.add(p) = i64::from(h.marking(p));
         }
+    }
+
+    /// Fires a list; where it sticks, the index, the place that is short and the tokens missing there.
+    ///
+    /// # Safety
+    /// The numbers are transitions of the file; there are as many tokens as places.
+    #[inline(always)]
+    pub unsafe fn run(self, numbers: &[u16], tokens: *mut i64) -> Option<(usize, u32, u32)> {
+        let Moves { starts, moves } = self;
         for (i, &t) in numbers.iter().enumerate() {
-            let from = usize::from(*table.add(usize::from(t)));
-            let to = usize::from(*table.add(usize::from(t) + 1));
+            let from = usize::from(*starts.add(usize::from(t)));
+            let to = usize::from(*starts.add(usize::from(t) + 1));
             // Takes come first; a place that goes below 0 shows in the sign.
             let mut signs = 0;
             for j in from..to {
@@ -53,16 +111,15 @@ pub fn replay(file: &[u8], numbers: &[u16], marking: &mut [u64], stuck: [&mut u3
                     let m = *moves.add(j);
                     *tokens.add((m & 1023) as usize) -= i64::from(m >> 10);
                 }
-                *index = i as u32;
-                (*short, *amount) = lowest_short(moves.add(from), to - from, tokens);
-                return 100;
+                let (place, missing) = lowest_short(moves.add(from), to - from, tokens);
+                return Some((i, place, missing));
             }
         }
-        0
+        None
     }
 }
 
-/// Checks the arcs; makes a move of each, its place and above it the tokens that it adds, and the table of ends.
+/// Checks the arcs; makes a move of each, and the table of ends.
 #[inline(never)]
 unsafe fn moves_of(at: *const u8, count: usize, room: u64, table: *mut u16, moves: *mut i32) -> u32 {
     each_arc(at, count, room, |j, arc| {
