@@ -5,7 +5,7 @@ use mathlib.Core.List.{List, [], _∷_}
 use lib.Dec.{eqb, leb}
 use Rattle.answers.specs.declared.verbs.Verb.{Verb}
 use Rattle.answers.specs.declared.verbs.Words.{Words}
-use Rattle.answers.specs.declared.verbs.Verb.the-variants.{Unknown, Show, Dot, Effect, Replay, Together, Safety, Branching, DotSlice, Arcs, Check, Project}
+use Rattle.answers.specs.declared.verbs.Verb.the-variants.{Unknown, Show, Dot, Effect, Replay, Together, Safety, Branching, DotSlice, Arcs, Check, Shadow}
 
 -- do two byte strings hold the same bytes?
 unfoldable pub same : List ℕ → List ℕ → Bool
@@ -42,8 +42,8 @@ arcs = 97 ∷ 114 ∷ 99 ∷ 115 ∷ []
 abbrev pub check : List ℕ
 check = 99 ∷ 104 ∷ 101 ∷ 99 ∷ 107 ∷ []
 
-abbrev pub project : List ℕ
-project = 112 ∷ 114 ∷ 111 ∷ 106 ∷ 101 ∷ 99 ∷ 116 ∷ []
+abbrev pub shadow : List ℕ
+shadow = 115 ∷ 104 ∷ 97 ∷ 100 ∷ 111 ∷ 119 ∷ []
 
 -- a where the test holds, else b
 abbrev pub pick : Bool → Verb → Verb → Verb
@@ -54,7 +54,7 @@ pick false a b = b
 unfoldable pub ofTwo : List ℕ → ℕ → Verb
 ofTwo w count =
     pick (same w dot) (pick (leb count 3) Dot DotSlice)
-    (pick (same w arcs) Arcs (pick (same w check) Check (pick (same w project) Project Unknown)))
+    (pick (same w arcs) Arcs (pick (same w check) Check (pick (same w shadow) Shadow Unknown)))
 
 -- the cuts, and the verbs on two files
 unfoldable pub ofCuts : List ℕ → ℕ → Verb
@@ -82,4 +82,4 @@ takenBy Branching count = row 4 count 4 count
 takenBy DotSlice count = row 4 count 4 count
 takenBy Arcs count = row 6 6 5 6
 takenBy Check count = row 4 count 4 count
-takenBy Project count = row 4 count 4 count
+takenBy Shadow count = row 4 count 4 count

@@ -17,7 +17,7 @@ pub enum Verb {
     DotSlice,
     Arcs,
     Check,
-    Project,
+    Shadow,
 }
 
 // The verbs on two files, and dot.
@@ -36,8 +36,8 @@ fn second(word: &[u8], count: usize) -> Verb
     if check::same(word, b"check") {
         return Verb::Check;
     }
-    if check::same(word, b"project") {
-        return Verb::Project;
+    if check::same(word, b"shadow") {
+        return Verb::Shadow;
     }
     Verb::Unknown
 }
@@ -109,7 +109,7 @@ pub fn taken(verb: Verb, count: usize) -> Words
         Verb::DotSlice => row(4, count, 4, count),
         Verb::Arcs => row(6, 6, 5, 6),
         Verb::Check => row(4, count, 4, count),
-        Verb::Project => row(4, count, 4, count),
+        Verb::Shadow => row(4, count, 4, count),
     }
 }
 

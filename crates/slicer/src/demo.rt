@@ -2,8 +2,8 @@
 ghost use mathlib.Core.Path.{_≡_};
 ghost use Rattle.promise.specs.Example.{smallPlan};
 use crate::effect;
-use crate::projects;
 use crate::replays;
+use crate::shadows;
 use crate::verdict;
 use pages::show;
 use slice::Cut;
@@ -17,15 +17,13 @@ fn kerb() -> [u8; 108]
     *b"\x02\0\0\0\x01\0\0\0\0\0\0\0\0\0\0\0\0\0\0\0\0\0\0\0\0\0\x01\0\0\0\0\0\x01\0\x01\0\0\0\x01\0\x02\0\x01\0\x01\0\0\0\x02\0\x01\0\x01\0\x01\0\x01\0\x01\0\x01\0\x01\0\x03\0\x01\0\x02\0\0\0\x03\0\x02\0\x02\0\x01\0\x04\0\x01\0\x03\0\0\0\0\0\x01\0\x5c\0\0\0\x05\0\x04\0\x09\0\0\x01BELL"
 }
 
-// The slice: shown, checked, and lists replayed.
+// The slice: shown, checked, and a list with its shadow, which is replayed.
 fn sliced(plan: &[u8], slice: &[u8]) {
     show::answer(slice);
     say::plain(phrases::DEMO_CHECK);
     verdict::answer(plan, slice, &[2]);
-    say::plain(phrases::DEMO_REPLAY);
-    replays::answer(plan, &[3, 0, 1]);
-    say::plain(phrases::DEMO_PROJECT);
-    projects::answer(plan, slice, &[3, 0, 1]);
+    say::plain(phrases::DEMO_SHADOW);
+    shadows::answer(plan, slice, &[3, 0, 1]);
     say::plain(phrases::DEMO_SLICE);
     replays::answer(slice, &[0, 1]);
 }

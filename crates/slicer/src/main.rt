@@ -3,8 +3,8 @@ mod arcs;
 mod cuts;
 mod demo;
 mod effect;
-mod projects;
 mod replays;
+mod shadows;
 mod takings;
 mod verdict;
 
@@ -23,7 +23,7 @@ fn two<'a>(verb: Verb, plan: &'a [u8], slice: &'a [u8], list: &[u16]) {
     match verb {
         Verb::Arcs => arcs::answer(plan, slice, list),
         Verb::Check => verdict::answer(plan, slice, list),
-        Verb::Project => projects::answer(plan, slice, list),
+        Verb::Shadow => shadows::answer(plan, slice, list),
         _ => dot::two(plan, slice, list),
     }
 }

@@ -60,7 +60,7 @@ pub const TAKEN: usize = 52;
 
 pub const UNLIMITED: usize = 53;
 
-pub const PROJECTED: usize = 54;
+pub const SHADOW: usize = 54;
 
 pub const ENTRY: usize = 55;
 
@@ -140,11 +140,9 @@ pub const DEMO_SAFETY: usize = 92;
 
 pub const DEMO_CHECK: usize = 93;
 
-pub const DEMO_REPLAY: usize = 94;
+pub const DEMO_SHADOW: usize = 94;
 
-pub const DEMO_PROJECT: usize = 95;
-
-pub const DEMO_SLICE: usize = 96;
+pub const DEMO_SLICE: usize = 95;
 
 // Writes form k of the page.
 pub fn fill(k: usize, numbers: &[usize]) {
@@ -197,7 +195,7 @@ pub fn fill(k: usize, numbers: &[usize]) {
 |rule 8 broken by transition %: it is left out and raises a kept place
 |written ~: % byte&, % place&, % transition&
 |fired % transition&, ending|stuck at index %: transition %, place % is short of %
-|taken % time&, leaving|unlimited, leaving|projected| %|effect | of transition % on place %
+|taken % time&, leaving|unlimited, leaving|shadow| %|effect | of transition % on place %
 |arcs % of transition % in the plan|arcs % of transition % in the slice|error: the plan has no transition %: it has % transition&, numbered from 0
 |error: the slice has no transition %: it has % transition&, numbered from 0
 |error: the plan has no place %: it has % place&, numbered from 0
@@ -226,9 +224,7 @@ $ nesfoal show kerb.slice
 |
 $ nesfoal check small-kerb.plan kerb.slice 2
 |
-$ nesfoal replay small-kerb.plan 3 0 1
-|
-$ nesfoal project small-kerb.plan kerb.slice 3 0 1
+$ nesfoal shadow small-kerb.plan kerb.slice 3 0 1
 |
 $ nesfoal replay kerb.slice 0 1
 ",

@@ -1,4 +1,4 @@
-use Rattle.answers.specs.Verbs.{ofTwo, dot, arcs, check, project}
+use Rattle.answers.specs.Verbs.{ofTwo, dot, arcs, check, shadow}
 use Rattle.answers.proofs.Words.{same-yes, same-no}
 use borrow.Author.Tests.{le-leb, lt-leb}
 use borrow.Author.Needs.{needs}
@@ -60,7 +60,7 @@ returns-5 c =
     let check-not = c .before .before .before in
     let arcs-not = check-not .before .before .before in
     let dot-not = arcs-not .before .before .before in
-    rw (same-no _ dot _ (dot-not .before .same .ensures) (dot-not .if1 .left), same-no _ arcs _ (arcs-not .before .same2 .ensures) (arcs-not .if3 .left), same-no _ check _ (check-not .before .same3 .ensures) (check-not .if4 .left), same-yes _ project _ (c .before .same4 .ensures) (c .if5 .taken))
+    rw (same-no _ dot _ (dot-not .before .same .ensures) (dot-not .if1 .left), same-no _ arcs _ (arcs-not .before .same2 .ensures) (arcs-not .if3 .left), same-no _ check _ (check-not .before .same3 .ensures) (check-not .if4 .left), same-yes _ shadow _ (c .before .same4 .ensures) (c .if5 .taken))
 
 returns-6 : tie.Need-returns-6
 unfolding ofTwo
@@ -68,7 +68,7 @@ returns-6 c =
     let check-not = c .before .before .before in
     let arcs-not = check-not .before .before .before in
     let dot-not = arcs-not .before .before .before in
-    rw (same-no _ dot _ (dot-not .before .same .ensures) (dot-not .if1 .left), same-no _ arcs _ (arcs-not .before .same2 .ensures) (arcs-not .if3 .left), same-no _ check _ (check-not .before .same3 .ensures) (check-not .if4 .left), same-no _ project _ (c .before .same4 .ensures) (c .if5 .left))
+    rw (same-no _ dot _ (dot-not .before .same .ensures) (dot-not .if1 .left), same-no _ arcs _ (arcs-not .before .same2 .ensures) (arcs-not .if3 .left), same-no _ check _ (check-not .before .same3 .ensures) (check-not .if4 .left), same-no _ shadow _ (c .before .same4 .ensures) (c .if5 .left))
 
 pub second-spec : {M : Type 1} → statement M
 second-spec =

@@ -1,13 +1,13 @@
 use Prim.Native.Nat.{_-_}
 use borrow.Author.Needs.{needs}
-use Rattle.answers.proofs.projects.projected.Statement.{statement}
-use Rattle.answers.proofs.projects.projected.Tie as tie
+use Rattle.answers.proofs.lists.line.Statement.{statement}
+use Rattle.answers.proofs.lists.line.Tie as tie
 
 abbrev Inv-loop : tie.InvT-loop
-Inv-loop out count i₀ i = Unit {0}
+Inv-loop phrase list count i₀ i = Unit {0}
 
 abbrev μ-loop : tie.MeasureT-loop
-μ-loop out count i₀ i = count - i
+μ-loop phrase list count i₀ i = count - i
 
 plain-requires : tie.Need-plain-requires Inv-loop μ-loop
 plain-requires c κs = search needs
@@ -36,8 +36,8 @@ plain-requires-2 c κs = search needs
 returns : tie.Need-returns Inv-loop μ-loop
 returns c = search needs
 
-pub projected-spec : {M : Type 1} → statement M
-projected-spec =
+pub line-spec : {M : Type 1} → statement M
+line-spec =
     tie.close
     (tie.spec
     Inv-loop
