@@ -12,7 +12,7 @@ inputs() {
     local i from to
     local -a files=(1)
     case $verb in
-        dot | arcs | check | project) files=(1 2) && from=3 ;;
+        dot | arcs | check | shadow) files=(1 2) && from=3 ;;
         replay) from=2 ;;
         together) from=3 width=8 ;;
         safety | branching) from=3 ;;
@@ -71,10 +71,10 @@ is_text() {
     [ -z "$(head -c $((longest + 1)) -- "$1" | tr -d '\11-\15\40-\176' | head -c 1 | od -An -tx1)" ]
 }
 
-# entries NAME FILE: the numbers of a text, as many bytes each as the width says, into the room's file `list`; of an answer of project, or,
+# entries NAME FILE: the numbers of a text, as many bytes each as the width says, into the room's file `list`; of an answer of shadow, or,
 # for a marking, of replay or together, the numbers that end it. As many as a list may have, and one more.
 entries() {
-    local codes most=65536 largest=65535 first='^projected$' last='^projected$'
+    local codes most=65536 largest=65535 first='^(fired|stuck|shadow)$' last='^shadow$'
     if [ "$width" -eq 8 ]; then most=1025 largest=18446744073709551615 first='^(fired|taken|unlimited,)$' last='^(ending|leaving)$'; fi
     codes=$(head -c $((longest + 1)) -- "$2" | tr -s '\11-\15\40' '\n' | awk -v width="$width" -v most="$most" -v largest="$largest" \
         -v first="$first" -v last="$last" '

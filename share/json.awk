@@ -131,7 +131,14 @@ function shown(    n, left) {
     each()
 }
 
-function each(    i) { for (i = 1; i <= NR; i++) if (lines[i] != "") told(lines[i]) }
+# Each line is an answer; that of a shadow has two.
+function each(    i, s) {
+    for (i = 1; i <= NR; i++) {
+        s = lines[i]
+        shadow = s ~ /^(fired|stuck) / && i < NR && lines[i + 1] ~ /^shadow( |$)/ ? ",\"shadow\":" numbers(substr(lines[++i], 7)) : ""
+        if (s != "") told(s)
+    }
+}
 
 # One answer, by its first word.
 function told(s,    w) {
@@ -145,15 +152,14 @@ function told(s,    w) {
         sub(/:$/, "", w[8])
         object("arcs", field("transition", w[5]) text("file", w[8]) ",\"arcs\":" arcs(after(s, ": ")))
     }
-    else if (w[1] == "fired") object("fired", field("fired", w[2]) ",\"marking\":" numbers(after(s, ", ending")))
+    else if (w[1] == "fired") object("fired", field("fired", w[2]) ",\"marking\":" numbers(after(s, ", ending")) shadow)
     else if (w[1] == "stuck")
-        object("stuck", field("index", w[4] + 0) field("transition", w[6] + 0) field("place", w[8]) field("short", w[12]))
+        object("stuck", field("index", w[4] + 0) field("transition", w[6] + 0) field("place", w[8]) field("short", w[12]) shadow)
     else if (w[1] == "taken") object("taken", field("times", w[2]) ",\"leaving\":" numbers(after(s, ", leaving")))
     else if (w[1] == "unlimited,") object("unlimited", ",\"leaving\":" numbers(after(s, ", leaving")))
     else if (w[1] == "written") object("written", written(s))
     else if (s == "accepted") object("accepted", "")
     else if (w[1] == "rule") object("broken", broken(s))
-    else if (w[1] == "projected") object("projected", ",\"list\":" numbers(substr(s, 10)))
     else if (w[1] == "refused") object("refused", field("refusal", w[2] + 0) text("reason", after(s, ": ")))
     else if (w[1] == "error:") object("error", text("reason", substr(s, 8)))
     else if (w[1] == "usage:") object("usage", text("usage", substr(s, 8)))
