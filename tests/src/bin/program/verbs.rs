@@ -8,8 +8,9 @@ use nesfoal_tests::net::{Kind, Refusal, MAX_FILE, MAX_LIST, MAX_PLACES};
 use nesfoal_tests::read::read;
 use nesfoal_tests::replay::{replay, Replayed};
 use nesfoal_tests::rng::Rng;
+use nesfoal_tests::shadow::shadow;
 use nesfoal_tests::together::{together, Together};
-use nesfoal_tests::{arcs, effect, gen, project};
+use nesfoal_tests::{arcs, effect, gen};
 
 /// The file that a cut writes.
 pub const OUT: &str = "out";
@@ -19,7 +20,7 @@ const MARKING: &str = "marking";
 pub struct Due {
     /// The case of the answer: a word, the number of a refusal, 100 plus a rule's.
     pub outcome: String,
-    /// What is said: the whole line where it ends in a line feed, else its start.
+    /// What is said: all of it where it ends in a line feed, else the start of its one line.
     pub says: String,
     /// What stands in OUT afterwards; None where it stays as it was.
     pub written: Option<Vec<u8>>,
@@ -31,8 +32,10 @@ impl Due {
     }
 
     pub fn is_said(&self, said: &str) -> bool {
-        let line = said.ends_with('\n') && said.lines().count() == 1;
-        line && if self.says.ends_with('\n') { said == self.says } else { said.starts_with(&self.says) }
+        if self.says.ends_with('\n') {
+            return said == self.says;
+        }
+        said.ends_with('\n') && said.lines().count() == 1 && said.starts_with(&self.says)
     }
 }
 
@@ -142,12 +145,12 @@ pub fn all() -> Vec<Verb> {
             spoil: another_letter,
         },
         Verb {
-            name: "project",
-            outcomes: "count 1 2 3 4 5 6 7 8 11 12",
-            fixed: || each(fixed::projections(), of_project),
-            random: |rng| of_project(&gen::project_case(rng)),
+            name: "shadow",
+            outcomes: "fired stuck 1 2 3 4 5 6 7 8 11 12",
+            fixed: || each(fixed::shadows(), of_shadow),
+            random: |rng| of_shadow(&gen::shadow_case(rng)),
             // The first number is dropped.
-            spoil: |due| due.says = due.says.replacen("projected 0", "projected", 1),
+            spoil: |due| due.says = due.says.replacen("shadow 0", "shadow", 1),
         },
         Verb {
             name: "check",
@@ -247,20 +250,26 @@ fn of_replay(case: &ReplayCase) -> Asked {
     let (file, list) = (case.file.part(), case.list.part());
     let mut marking = vec![0; MAX_PLACES];
     let due = match replay(file, list, &mut marking) {
-        Ok(Replayed::Fired) => {
+        Ok(answer) => replayed(&answer, file, list, &marking),
+        Err(n) => refused(n, "file"),
+    };
+    Asked::new(&["replay", "file"], &[("file", &case.file)], due).list(list)
+}
+
+/// The line of a replay.
+fn replayed(answer: &Replayed, file: &[u8], list: &[u16], marking: &[u64]) -> Due {
+    match *answer {
+        Replayed::Fired => {
             let places = read(file, None).map_or(0, |net| net.places());
             let tokens: Vec<String> = marking[..places].iter().map(|m| format!(" {m}")).collect();
             let count = counted(list.len(), "transition");
             Due::new("fired", format!("fired {count}, ending{}\n", tokens.concat()))
         }
-        Ok(Replayed::Stuck { index, place, amount }) => {
+        Replayed::Stuck { index, place, amount } => {
             let t = list[index];
-            let says = format!("stuck at index {index}: transition {t}, place {place} is short of {amount}\n");
-            Due::new("stuck", says)
+            Due::new("stuck", format!("stuck at index {index}: transition {t}, place {place} is short of {amount}\n"))
         }
-        Err(n) => refused(n, "file"),
-    };
-    Asked::new(&["replay", "file"], &[("file", &case.file)], due).list(list)
+    }
 }
 
 fn of_together(case: &TogetherCase) -> Asked {
@@ -306,17 +315,19 @@ fn of_cut(case: &CutCase) -> Asked {
     Asked::new(&[verb, "plan", OUT], &[("plan", &case.plan)], due).list(case.q.part())
 }
 
-fn of_project(case: &ProjectCase) -> Asked {
+fn of_shadow(case: &ShadowCase) -> Asked {
     let (plan, slice, list) = (case.plan.part(), case.slice.part(), case.list.part());
-    let mut out = vec![0; MAX_LIST];
-    let due = match project::project(plan, slice, list, &mut out) {
-        Ok(count) => {
+    let (mut marking, mut out) = (vec![0; MAX_PLACES], vec![0; MAX_LIST]);
+    let due = match shadow(plan, slice, list, &mut marking, &mut out) {
+        Ok((answer, count)) => {
+            let mut due = replayed(&answer, plan, list, &marking);
             let numbers: Vec<String> = out[..count].iter().map(|n| format!(" {n}")).collect();
-            Due::new("count", format!("projected{}\n", numbers.concat()))
+            due.says += &format!("shadow{}\n", numbers.concat());
+            due
         }
         Err(n) => refused_of_two(n, plan),
     };
-    Asked::new(&["project", "plan", "slice"], &[("plan", &case.plan), ("slice", &case.slice)], due).list(list)
+    Asked::new(&["shadow", "plan", "slice"], &[("plan", &case.plan), ("slice", &case.slice)], due).list(list)
 }
 
 fn of_verdict(case: &VerdictCase) -> Asked {
