@@ -50,7 +50,8 @@ fn write_fired(table: &[u16], list: &[u16], o: Outcome, out: &mut [u16]) -> Shad
 {
     let end = fired(o, list.len());
     let part = &list[..end];
-    if projection::lacks(table, part, out.len()) {
+    let lacking = projection::lacks(table, part, out.len());
+    if lacking {
         return Shadow::Refused(13);
     }
     let n = projection::write(table, part, out);

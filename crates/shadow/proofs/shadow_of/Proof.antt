@@ -1,4 +1,7 @@
-use mathlib.Core.Path.{sym, _∙_}
+use mathlib.Core.Bool.{true, _||_}
+use mathlib.Core.Path.{_≡_, sym, _∙_}
+use lib.ListN.{length}
+use lib.Dec.{ltb, leb}
 use Rattle.shadow.proofs.Runs.{given-by, marking-long, follows-straight}
 use borrow.Author.Needs.{needs}
 use Rattle.shadow.proofs.shadow_of.Statement.{statement}
@@ -8,6 +11,10 @@ use Rattle.shadow.proofs.shadow_of.Tie as tie
 
 abbrev call : tie.After-certain → tie.Start
 call c = c .before .before .before .before .before .before
+
+-- the marking that is lent can be replayed in
+stays : (c : tie.Then1) → let a = call (c .before) .args in (leb (length (a .list .now)) (length (a .out .now)) || ltb (length (a .marking .now)) (a .p .places)) ≡ true
+stays c = sym (c .before .certain .ensures) ∙ c .if1 .taken
 
 certain-requires : tie.Need-certain-requires
 certain-requires c κs = search needs
@@ -33,7 +40,7 @@ returns c =
     let done = cast .before .before .before .before in
     let sure = done .before .before in
     let s = call (sure .before) in
-    follows-straight (s .args .plan .now) (s .args .p) _ (s .args .list .now) (sym (sure .before .certain .ensures) ∙ sure .if1 .taken) (done .replay .ensures .0) (done .replay .ensures .1) (cast .project-fired .ensures)
+    follows-straight (s .args .plan .now) (s .args .p) _ (s .args .list .now) (stays sure) (done .replay .ensures .0) (done .replay .ensures .1) (cast .project-fired .ensures)
 
 shadow-apart-requires : tie.Need-shadow-apart-requires
 shadow-apart-requires c κs =
