@@ -5,7 +5,7 @@ use mathlib.Core.List.{List, [], _∷_, _++_}
 use mathlib.Core.Path.{_≡_, refl, sym, ap, subst, _∙_}
 use native.Mathlib.Omega.{arith}
 use borrow.Author.Tests.{le-ltb, ltb-true, ltb-false, leb-true}
-use lib.ListN.{length, getD, take, drop, length-take, length-map}
+use lib.ListN.{length, getD, take, drop, length-append, length-take, length-drop, length-map}
 use lib.Dec.{ltb, leb}
 use lib.Seq.{take-length, take-at}
 use Rattle.net.specs.Numbers.{among, position}
@@ -185,6 +185,18 @@ pub due-few : (r : Shadow) (places : ℕ) → dueOf r places ≤ places
 due-few (Fired x) places = omega arith
 due-few (Stuck i p m x) places = omega arith
 due-few (Refused x) places = omega arith
+
+-- a list is as long as before where what is written fits
+written-long : (k : ℕ) (l entry : List ℕ) → length l ≤ length entry → length (written k l entry) ≡ length entry
+written-long zero l entry h = omega (arith, length-append l (drop (length l) entry), length-drop (length l) entry, h)
+written-long (suc k) l entry h = refl
+
+pub apart-long : (plan : List ℕ) (p : Header) (list entry : List ℕ) {apart : List ℕ} → p .places ≤ length entry
+    → apart ≡ written (heldBack p list (length entry)) (tokens (netFrom plan p) (replay (netFrom plan p) list .marking)) entry → length apart ≡ length entry
+apart-long plan p list entry h e =
+    let N = netFrom plan p in
+    let M = replay N list .marking in
+    ap length e ∙ written-long (heldBack p list (length entry)) (tokens N M) entry (omega (arith, length-tokens N M, h))
 
 pub at-due : (apart m : List ℕ) {n due : ℕ} {m′ : List ℕ} → n ≡ due → m′ ≡ take n apart ++ drop n m → m′ ≡ take due apart ++ drop due m
 at-due apart m e f = f ∙ ap (λ (x : ℕ). take x apart ++ drop x m) e

@@ -8,10 +8,12 @@ ghost use lib.Dec.{ltb, leb};
 ghost use Rattle.file.specs.Layout.{netFrom, sliceFrom};
 ghost use Rattle.file.specs.Facts.{Sound};
 ghost use Rattle.projection.specs.Choice.{chosenBy};
-ghost use Rattle.shadow.specs.Told.{firedOf, withCount, dueOf, firedProjection, Fireable, Given, Casts, Follows};
+ghost use Rattle.shadow.specs.Told.{firedOf, withCount, dueOf, firedProjection, Fireable, Given, Casts, Roomy, Follows};
 use file::Header;
 use replay::Outcome;
 use tables::LARGE;
+use tables::MIDDLE;
+use tables::SMALL;
 
 // How a run ends, with the count of its firings that the slice has: all fired; stuck, at an index of the list, a place
 // and the tokens missing there, with the count of those before; or refused.
@@ -125,6 +127,28 @@ fn shadow_apart(
     slice: &[u8],
     s: Header,
     list: &[u16],
+    apart: &mut [u64],
+    marking: &mut [u64],
+    out: &mut [u16],
+) -> Shadow
+    requires { ⌜ Roomy (now plan) p (length (now apart)) (length (now marking)) ⌝ }
+    requires { ⌜ Sound (now slice) s × (s .kind ≡ 1) ⌝ }
+    ensures { λ r. ⌜ Follows (netFrom (now (plan .entry)) p) (sliceFrom (now (slice .entry)) s) (now (list .entry)) (now (marking .entry)) (now (marking .exit)) (now (out .entry)) (now (out .exit)) r ⌝ }
+{
+    let o = replay::replay(plan, p, list, apart);
+    let r = project_fired(p.transitions, slice, s, list, o, out);
+    let n = due(r, p.places);
+    copy(apart, n, marking);
+    r
+}
+
+// The same, with entries apart as many as the plan needs.
+fn shadow_sized(
+    plan: &[u8],
+    p: Header,
+    slice: &[u8],
+    s: Header,
+    list: &[u16],
     marking: &mut [u64],
     out: &mut [u16],
 ) -> Shadow
@@ -132,12 +156,16 @@ fn shadow_apart(
     requires { ⌜ Sound (now slice) s × (s .kind ≡ 1) ⌝ }
     ensures { λ r. ⌜ Follows (netFrom (now (plan .entry)) p) (sliceFrom (now (slice .entry)) s) (now (list .entry)) (now (marking .entry)) (now (marking .exit)) (now (out .entry)) (now (out .exit)) r ⌝ }
 {
+    if p.places <= SMALL {
+        let mut apart = [0u64; SMALL];
+        return shadow_apart(plan, p, slice, s, list, &mut apart, marking, out);
+    }
+    if p.places <= MIDDLE {
+        let mut apart = [0u64; MIDDLE];
+        return shadow_apart(plan, p, slice, s, list, &mut apart, marking, out);
+    }
     let mut apart = [0u64; LARGE];
-    let o = replay::replay(plan, p, list, &mut apart);
-    let r = project_fired(p.transitions, slice, s, list, o, out);
-    let n = due(r, p.places);
-    copy(&apart, n, marking);
-    r
+    shadow_apart(plan, p, slice, s, list, &mut apart, marking, out)
 }
 
 // Is it certain that a marking that is written stays: since the output list has room for the whole list, or since the marking is too short for any?
@@ -165,5 +193,5 @@ pub fn shadow_of(
         let o = replay::replay(plan, p, list, marking);
         return project_fired(p.transitions, slice, s, list, o, out);
     }
-    shadow_apart(plan, p, slice, s, list, marking, out)
+    shadow_sized(plan, p, slice, s, list, marking, out)
 }

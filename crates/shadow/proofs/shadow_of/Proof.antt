@@ -42,8 +42,8 @@ returns c =
     let s = call (sure .before) in
     follows-straight (s .args .plan .now) (s .args .p) _ (s .args .list .now) (stays sure) (done .replay .ensures .0) (done .replay .ensures .1) (cast .project-fired .ensures)
 
-shadow-apart-requires : tie.Need-shadow-apart-requires
-shadow-apart-requires c κs =
+shadow-sized-requires : tie.Need-shadow-sized-requires
+shadow-sized-requires c κs =
     let unsure = c .before .before in
     let s = call (unsure .before) in
     let a = s .args in
@@ -68,7 +68,7 @@ shadow-of-spec =
     same-length
     same-length-2
     returns
-    shadow-apart-requires
+    shadow-sized-requires
     same-length-3
     same-length-4
     returns-2)
