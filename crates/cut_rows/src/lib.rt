@@ -1,1 +1,1 @@
-// Rows of arcs by place: definitions (specs/) that the index and the search share, and laws of weights and arcs (proofs/).
+// Rows of arcs by place: definitions (specs/) that the index and the passes over it share, and laws of rows and of the input arcs of a transition (proofs/).

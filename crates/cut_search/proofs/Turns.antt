@@ -1,5 +1,5 @@
 -- Laws of a turn: the two rows of a place are followed, and every transition that it draws in is kept.
-use Prim.Native.Nat.{ℕ, zero, suc, _+_, _*_, _-_, _/_, _%_, _≤_, _<_}
+use Prim.Native.Nat.{ℕ, suc, _+_, _*_, _-_, _/_, _%_, _≤_, _<_}
 use mathlib.Core.Bool.{Bool, true, false, not, _&&_, _||_}
 use mathlib.Core.List.{List}
 use mathlib.Core.Path.{_≡_, refl, sym, ap, _∙_, subst}
@@ -7,22 +7,23 @@ use native.Mathlib.Omega.{arith}
 use native.Mathlib.Decide.{decLt}
 use lib.Dec.{T, eqb, eqb→eq}
 use lib.ListN.{getD}
-use borrow.Author.Tests.{eq-eqb, eqb-true, eqb-false, ltb-true}
-use Rattle.net.specs.Net.{weightOn, input, output, takesFrom}
-use Rattle.net.specs.Cut.{Growth, criterion, needed, KeptTransition, drawn}
-use Rattle.net.proofs.Numbers.{by-cases, by-or, holds, fails, is-true, not-not, and-left, and-right, and-both, or-left, or-right}
+use borrow.Author.Tests.{eq-eqb, eqb-true, eqb-false}
+use Rattle.net.specs.Net.{takesFrom}
+use Rattle.net.specs.Cut.{Growth, needed, KeptTransition, drawn}
+use Rattle.net.proofs.Numbers.{by-cases, by-or, holds, fails, not-not, and-left, and-right, and-both, or-left, or-right}
 use Rattle.net.proofs.Worklist.{Searching}
 use Rattle.file.specs.Layout.{netFrom}
 use Rattle.file.specs.Facts.{Sound}
 use Rattle.file.specs.declared.Header.{Header}
 use Rattle.sets.specs.Member.{member}
-use Rattle.arcs_starts.specs.Table.{slotAt, Split}
-use Rattle.arcs_starts.proofs.Reached.{ordered}
+use Rattle.arcs_starts.specs.Table.{Split}
 use Rattle.file.proofs.Rows.{good-at}
 use Rattle.sets_pending.specs.Growing.{waits}
 use Rattle.arcs_column.specs.Ways.{transitionAt, directionAt, placeAt}
 use Rattle.cut_rows.specs.Rows.{moves, Last, Rows}
-use Rattle.arcs_column.proofs.Arcs.{JoinsBelow, has-arc}
+use Rattle.cut_rows.proofs.Inputs.{takes-inside}
+use Rattle.cut_rows.proofs.Row
+use Rattle.cut_rows.proofs.Row.{first-below, first-same, first-split, row-ended}
 use Rattle.cut_search.specs.Search
 
 -- ---- the search, while the rows of the place f are followed in any order
@@ -90,42 +91,6 @@ grown-join h m m′ m″ P R P′ R′ P″ R″ x y = record {
   marked = λ gone u. y .marked gone (x .marked gone u);
 }
 
--- ---- rows
-
--- an input place is a place of the file
-takes-inside : (s : List ℕ) (h : Header) → Sound s h → (t p : ℕ) → T (takesFrom (netFrom s h) t p) → p < h .places
-unfolding takesFrom input
-takes-inside s h sound t p x =
-    let j = has-arc 0 p t s (h .arcstart) (h .arcs) (ltb-true 0 (weightOn 0 p t (netFrom s h .arcs)) (is-true _ x)) in
-    omega (arith, j .joins-it .place, good-at s h sound (j .at) (j .below) .place)
-
--- a transition that moves p has an arc at p in that direction
-moves-arc : (s : List ℕ) (h : Header) (d p t : ℕ) → d ≤ 1 → T (moves (netFrom s h) d p t) → JoinsBelow d p t s (h .arcstart) (h .arcs)
-unfolding moves input output
-moves-arc s h zero p t l m = has-arc 0 p t s (h .arcstart) (h .arcs) (let g = ltb-true (weightOn 1 p t (netFrom s h .arcs)) (weightOn 0 p t (netFrom s h .arcs)) (is-true _ m) in omega arith)
-moves-arc s h (suc zero) p t l m = has-arc 1 p t s (h .arcstart) (h .arcs) (let g = ltb-true (weightOn 0 p t (netFrom s h .arcs)) (weightOn 1 p t (netFrom s h .arcs)) (is-true _ m) in omega arith)
-moves-arc s h (suc (suc d)) p t l m = absurd (omega arith)
-
--- the first arc of the transition of arc j
-module _ (s : List ℕ) (h : Header) (sound : Sound s h) (j f : ℕ) (l : j < h .arcs) (first : Split s (h .arcstart) (h .arcs) (2 * transitionAt s (h .arcstart) j) f) where
-  first-le : f ≤ j
-  unfolding slotAt
-  first-le = go (decLt j f)
-    where
-      go : Dec (j < f) → f ≤ j
-      go (yes b) = absurd (omega (arith, first .below j b))
-      go (no b) = omega arith
-
-  pub first-below : f < h .arcs
-  first-below = omega (arith, first-le)
-
-  pub first-same : transitionAt s (h .arcstart) f ≡ transitionAt s (h .arcstart) j
-  unfolding slotAt
-  first-same = omega (arith, first .above f (omega arith) first-below, ordered s h sound .order f j first-le l, good-at s h sound j l .direction, good-at s h sound f first-below .direction)
-
-  pub first-split : Split s (h .arcstart) (h .arcs) (2 * transitionAt s (h .arcstart) f) f
-  first-split = subst (λ (t : ℕ). Split s (h .arcstart) (h .arcs) (2 * t) f) (sym first-same) first
-
 -- ---- along a row: the entry e leads to the last of the first `upto` arcs of the row, and those from there on are met
 pub record Following (s : List ℕ) (h : Header) (d p e marks marks′ : ℕ) (places transitions places′ transitions′ : List ℕ) : Type 0 where
   pub upto : ℕ
@@ -164,20 +129,16 @@ module _ (s : List ℕ) (h : Header) (sound : Sound s h) (next : List ℕ) (next
   -- where the row goes on
   module _ (more : e ≡ 0 → ⊥) where
     pub row-arc : e % 65536 ≡ suc (e % 65536 - 1)
-    row-arc = go (decLt 0 (e % 65536))
-      where
-        go : Dec (0 < e % 65536) → e % 65536 ≡ suc (e % 65536 - 1)
-        go (yes l) = omega arith
-        go (no l) = absurd (more (x .last .ends (omega arith)))
+    row-arc = Row.row-arc s h d p e (x .upto) (x .within) (x .last) more
 
     pub row-below : e % 65536 - 1 < h .arcs
-    row-below = omega (arith, x .within, x .last .within, row-arc)
+    row-below = Row.row-below s h d p e (x .upto) (x .within) (x .last) more
 
     pub row-begun : 0 < e / 65536
-    row-begun = x .last .begun (e % 65536 - 1) row-arc
+    row-begun = Row.row-begun s h d p e (x .upto) (x .within) (x .last) more
 
-    pub row-first : Split s (h .arcstart) (h .arcs) (2 * transitionAt s (h .arcstart) (e % 65536 - 1)) (e / 65536 - 1)
-    row-first = x .last .first (e % 65536 - 1) row-arc
+    row-first : Split s (h .arcstart) (h .arcs) (2 * transitionAt s (h .arcstart) (e % 65536 - 1)) (e / 65536 - 1)
+    row-first = Row.row-first s h d p e (x .upto) (x .within) (x .last) more
 
     pub row-from : e / 65536 - 1 < h .arcs
     row-from = first-below s h sound (e % 65536 - 1) (e / 65536 - 1) row-below row-first
@@ -187,20 +148,13 @@ module _ (s : List ℕ) (h : Header) (sound : Sound s h) (next : List ℕ) (next
 
     -- what the row moves
     row-moves : T (moves (netFrom s h) d p (transitionAt s (h .arcstart) (e % 65536 - 1)))
-    row-moves = x .last .passes-it (e % 65536 - 1) row-arc
+    row-moves = Row.row-moves s h d p e (x .upto) (x .within) (x .last) more
 
-    pub row-next : Last s h (e % 65536 - 1) d p (getD next (e % 65536 - 1) 0)
-    row-next =
-        let q = x .last .at (e % 65536 - 1) row-arc in
-        let w = x .last .goes (e % 65536 - 1) row-arc in
-        subst (λ (a : ℕ). Last s h (e % 65536 - 1) a p (getD next (e % 65536 - 1) 0)) w
-        (subst (λ (b : ℕ). Last s h (e % 65536 - 1) (directionAt s (h .arcstart) (e % 65536 - 1)) b (getD next (e % 65536 - 1) 0)) q
-        (nexts .nexts (e % 65536 - 1) row-below (x .last .opens (e % 65536 - 1) row-arc)
-        (subst (λ (a : ℕ). T (moves (netFrom s h) a (placeAt s (h .arcstart) (e % 65536 - 1)) (transitionAt s (h .arcstart) (e % 65536 - 1)))) (sym w)
-        (subst (λ (b : ℕ). T (moves (netFrom s h) d b (transitionAt s (h .arcstart) (e % 65536 - 1)))) (sym q) row-moves))))
+    row-next : Last s h (e % 65536 - 1) d p (getD next (e % 65536 - 1) 0)
+    row-next = Row.row-next s h d p e (x .upto) (x .within) (x .last) more next (nexts .nexts)
 
     pub row-less : getD next (e % 65536 - 1) 0 % 65536 < e % 65536
-    row-less = omega (arith, row-next .within, row-arc)
+    row-less = Row.row-less s h d p e (x .upto) (x .within) (x .last) more next (nexts .nexts)
 
     module _ (m′ : ℕ) (P′ R′ : List ℕ)
         (y : Search.TransitionKept (takesFrom (netFrom s h) (transitionAt s (h .arcstart) (e / 65536 - 1))) (transitionAt s (h .arcstart) (e / 65536 - 1)) m m′ P R P′ R′) where
@@ -237,39 +191,27 @@ module _ (s : List ℕ) (h : Header) (sound : Sound s h) (next : List ℕ) (next
         upto = e % 65536 - 1;
         within = omega (arith, row-below);
         last = row-next;
-        seen = λ k a b u v w. see k b u v w (decLt k (e % 65536)) (decLt k (x .upto)) a;
+        seen = λ k a b u v w. see k a b u v w (decLt k (x .upto));
         grown = grown-join h marks m m′ places transitions P R P′ R′ (x .grown) step;
         search = λ G all both g draws gone part kept at.
             drawn-in G all both g (draws t (subst (λ (u : ℕ). T (moves (netFrom s h) d p u)) (sym t-same) row-moves)) gone (λ k u. x .grown .more-places k (part k u)) (x .grown .more-places p kept)
             (x .search G all both g draws gone part kept at);
       }
         where
-          see : (k : ℕ) → k < h .arcs → placeAt s (h .arcstart) k ≡ p → directionAt s (h .arcstart) k ≡ d → T (moves (netFrom s h) d p (transitionAt s (h .arcstart) k)) → Dec (k < e % 65536) → Dec (k < x .upto)
-              → e % 65536 - 1 ≤ k → T (member R′ (transitionAt s (h .arcstart) k))
-          see k b u v w (yes o) q a =
-              let f : k ≡ e % 65536 - 1 = omega arith in
-              subst T (sym (y .members (transitionAt s (h .arcstart) k))) (or-right (member R (transitionAt s (h .arcstart) k)) _ (holds _ (eq-eqb _ t (ap (transitionAt s (h .arcstart)) f ∙ sym t-same))))
-          see k b u v w (no o) (yes q) a =
-              let f = x .last .rest k (omega arith) q u v w .1 in
+          see : (k : ℕ) → e % 65536 - 1 ≤ k → k < h .arcs → placeAt s (h .arcstart) k ≡ p → directionAt s (h .arcstart) k ≡ d → T (moves (netFrom s h) d p (transitionAt s (h .arcstart) k)) → Dec (k < x .upto)
+              → T (member R′ (transitionAt s (h .arcstart) k))
+          see k a b u v w (yes q) =
+              let f = Row.row-rest s h d p e (x .upto) (x .within) (x .last) more k a q u v w in
               subst T (sym (y .members (transitionAt s (h .arcstart) k))) (or-right (member R (transitionAt s (h .arcstart) k)) _ (holds _ (eq-eqb _ t (f ∙ sym t-same))))
-          see k b u v w (no o) (no q) a = step .more-transitions (transitionAt s (h .arcstart) k) (x .seen k (omega arith) b u v w)
+          see k a b u v w (no q) = step .more-transitions (transitionAt s (h .arcstart) k) (x .seen k (omega arith) b u v w)
 
   -- where it ends
   pub following-end : d ≤ 1 → e ≡ 0 → Search.Followed s h d p marks m places transitions P R
   following-end dl ends = record {
     grown = x .grown;
-    met = λ t u. met t (moves-arc s h d p t dl u) u;
+    met = row-ended s h d p e (x .upto) dl (x .last) ends (λ t. T (member R t)) (x .seen);
     search = x .search;
   }
-    where
-      met : (t : ℕ) → JoinsBelow d p t s (h .arcstart) (h .arcs) → T (moves (netFrom s h) d p t) → T (member R t)
-      met t a u =
-          let u′ : T (moves (netFrom s h) d p (transitionAt s (h .arcstart) (a .at))) = subst (λ (v : ℕ). T (moves (netFrom s h) d p v)) (sym (a .joins-it .transition)) u in
-          subst (λ (v : ℕ). T (member R v)) (a .joins-it .transition) (go u′ (decLt (a .at) (x .upto)))
-        where
-          go : T (moves (netFrom s h) d p (transitionAt s (h .arcstart) (a .at))) → Dec (a .at < x .upto) → T (member R (transitionAt s (h .arcstart) (a .at)))
-          go u′ (yes l) = absurd (omega (arith, ends, x .last .rest (a .at) (omega arith) l (a .joins-it .place) (a .joins-it .direction) u′ .0))
-          go u′ (no l) = x .seen (a .at) (omega arith) (a .below) (a .joins-it .place) (a .joins-it .direction) u′
 
 -- ---- the two rows of a place
 

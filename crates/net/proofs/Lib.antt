@@ -15,3 +15,5 @@ pub mod Uncapped
 pub mod Rakow
 pub mod Replay
 pub mod Together
+pub mod Feeding
+pub mod Run

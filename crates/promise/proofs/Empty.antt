@@ -23,7 +23,7 @@ use Rattle.promise.specs.Promise.{emptySlice, EmptyCriterion}
 use Rattle.promise.proofs.Demands.{safety-cut-accepted, contained, even-bytes}
 
 -- no number passes
-none-selected : (f : ℕ → Bool) (a n : ℕ) → ((x : ℕ) → f x ≡ false) → selected f a n ≡ []
+pub none-selected : (f : ℕ → Bool) (a n : ℕ) → ((x : ℕ) → f x ≡ false) → selected f a n ≡ []
 unfolding selected
 none-selected f a zero h = refl
 none-selected f a (suc n) h = rw (h a, selected) (none-selected f (suc a) n h)
@@ -63,7 +63,7 @@ unfolding restrict among
 no-arc [] = refl
 no-arc (a ∷ l) = no-arc l
 
-nothing-written : (N : Net) → sliceBytes (keeping N [] []) ≡ emptySlice
+pub nothing-written : (N : Net) → sliceBytes (keeping N [] []) ≡ emptySlice
 unfolding keeping sliceBytes markingsBytes arcsBytes originsBytes sliceBody trailerBytes bytes16 bytes32 emptySlice
 nothing-written N = rw (no-arc (N .arcs)) refl
 
@@ -76,7 +76,7 @@ branching-slice : (plan : List ℕ) → cutOf branching plan [] ≡ keeping (net
 unfolding cutOf branching
 branching-slice plan = nothing-kept (netOf plan) (λ p t. changes (netOf plan) t p)
 
-safety-file : (plan : List ℕ) → safetyFile plan [] ≡ emptySlice
+pub safety-file : (plan : List ℕ) → safetyFile plan [] ≡ emptySlice
 unfolding safetyFile
 safety-file plan = ap sliceBytes (safety-slice plan) ∙ nothing-written (netOf plan)
 
@@ -95,11 +95,11 @@ unfolding emptySlice trailerOf headerOf wordsFrom le16 le32
 no-origin = refl
 
 module _ (plan : List ℕ) (bytes : Bytes plan) (read : fileRefusal due.Plan plan ≡ 0) where
-  passes : cutRefusal plan [] ≡ 0
+  pub passes : cutRefusal plan [] ≡ 0
   unfolding cutRefusal criterionRefusal placesRefusal
   passes = rw read
 
-  fits : (room : ℕ) → 16 ≤ room → writeRefusal plan [] room emptySlice ≡ 0
+  pub fits : (room : ℕ) → 16 ≤ room → writeRefusal plan [] room emptySlice ≡ 0
   unfolding writeRefusal emptySlice
   fits room h = rw (passes, le-ltb room 16 h)
 

@@ -1,8 +1,10 @@
 pub mod Calls
 pub mod Firing
 pub mod Shadow
+pub mod RunCut
 pub mod Conclusions
 pub mod Exactness
 pub mod Together
 pub mod Promise
 pub mod Example
+pub mod RunExample

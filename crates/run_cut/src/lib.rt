@@ -1,0 +1,277 @@
+// The cut for one recorded run (document 02, A1): the slice of what fed the places of the criterion, and the positions of the firings that did.
+ghost use mathlib.Core.Path.{_≡_};
+ghost use mathlib.Core.List.{_++_};
+ghost use Prim.Native.Nat.{_≤_, _<_};
+ghost use lib.Dec.{ltb};
+ghost use lib.ListN.{length, drop};
+ghost use Rattle.net.specs.Net.{replay as replayOf};
+ghost use Rattle.file.specs.Facts.{Sound};
+ghost use Rattle.file.specs.Layout.{netFrom};
+ghost use Rattle.file.specs.Criterion.{criterionRefusal};
+ghost use Rattle.arcs_starts.specs.Table.{choose};
+ghost use Rattle.promise.specs.Firing.{listRefusal, replayOr};
+ghost use Rattle.promise.specs.RunCut.{runOutcome};
+ghost use Rattle.replay.specs.Told.{outcomeNumbers};
+ghost use Rattle.run_cut.specs.Told.{answerTo, Answers};
+ghost use Rattle.run_cut.specs.Parts.{Given, Lent, Cleared, chosenBy, Reached, FedBy};
+use file::Header;
+use replay::Outcome;
+use sets::KeptSets;
+use slice::Cut;
+use tables::LARGE;
+use tables::LARGE_ARCS;
+use tables::MIDDLE;
+use tables::MIDDLE_ARCS;
+use tables::SMALL;
+use tables::SMALL_ARCS;
+use tables::entry;
+
+// What it answers: the file's length, the kept places and transitions, and how many positions were chosen; where the list sticks; or a refusal.
+pub enum RunCut {
+    Written(u32, u32, u32, u32),
+    Sticks(u32, u32, u32),
+    Refused(u32),
+}
+
+// What fed the criterion: the places and the transitions of the slice, and how many firings were chosen.
+struct Traced {
+    places: [u64; 16],
+    transitions: [u64; 16],
+    count: usize,
+}
+
+// Firing i counts where it is below the entry of its transition.
+fn share(i: usize, upto: usize) -> usize
+    ensures { λ r. ⌜ r ≡ choose (ltb i upto) 1 0 ⌝ }
+{
+    if i < upto { 1 } else { 0 }
+}
+
+// Writes the chosen positions, of which there are `count`. An entry is written for each firing; one that is not chosen is written over.
+fn write_positions(list: &[u16], last: &[u16], count: usize, positions: &mut [u16])
+    requires { ⌜ Reached (now list) (now last) × (count ≡ length (chosenBy (now list) (now last))) × (count ≤ length (now positions)) ⌝ }
+    ensures { λ _. ⌜ now (positions .exit) ≡ chosenBy (now (list .entry)) (now (last .entry)) ++ drop count (now (positions .entry)) ⌝ }
+{
+    let mut n: usize = 0;
+    let mut i: usize = 0;
+    while n < count {
+        positions[n] = i as u16;
+        let t = list[i] as usize;
+        n += share(i, entry(last, t));
+        i += 1;
+    }
+}
+
+// Writes the slice and the positions, or neither where one has no room.
+fn write(
+    plan: &[u8],
+    h: Header,
+    criterion: &[u16],
+    list: &[u16],
+    last: &[u16],
+    kept: KeptSets,
+    count: usize,
+    buffer: &mut [u8],
+    positions: &mut [u16],
+) -> RunCut
+    requires { ⌜ Given (now plan) h (now criterion) (now list) ⌝ }
+    requires { ⌜ FedBy (now plan) h (now criterion) (now list) (now last) kept count ⌝ }
+    ensures { λ r. ⌜ Answers (now (plan .entry)) h (now (criterion .entry)) (now (list .entry)) (runOutcome (netFrom (now (plan .entry)) h) (now (criterion .entry)) (now (list .entry)) (length (now (buffer .entry))) (length (now (positions .entry)))) (now (buffer .entry)) (now (buffer .exit)) (now (positions .entry)) (now (positions .exit)) r ⌝ }
+{
+    if positions.len() < count {
+        return RunCut::Refused(13);
+    }
+    let slice = slice::write(plan, h, kept, buffer);
+    let Cut::Written(bytes, places, transitions) = slice else {
+        return RunCut::Refused(13);
+    };
+    write_positions(list, last, count, positions);
+    let chosen = count as u32;
+    RunCut::Written(bytes, places, transitions, chosen)
+}
+
+// What fed the criterion, by tables that the caller lends: `last` gets one more than the last chosen firing of each transition.
+fn fed_by(
+    plan: &[u8],
+    h: Header,
+    criterion: &[u16],
+    list: &[u16],
+    head: &mut [u32],
+    next: &mut [u32],
+    first: &mut [u16],
+    last: &mut [u16],
+) -> Traced
+    requires { ⌜ Given (now plan) h (now criterion) (now list) ⌝ }
+    requires { ⌜ Lent h (now head) (now next) (now first) × Cleared h (now last) ⌝ }
+    ensures { λ r. ⌜ FedBy (now (plan .entry)) h (now (criterion .entry)) (now (list .entry)) (now (last .exit)) (record { places = r .places; transitions = r .transitions }) (r .count) ⌝ }
+{
+    cut_index::index(plan, h, head, next);
+    let mut places = [0u64; 16];
+    let mut transitions = [0u64; 16];
+    run_feed::enter_criterion(plan, h, head, next, criterion, &mut places, first);
+    let count = run_feed::back(
+        plan,
+        h,
+        head,
+        next,
+        criterion,
+        list,
+        &mut places,
+        first,
+        &mut transitions,
+        last,
+    );
+    Traced {
+        places,
+        transitions,
+        count,
+    }
+}
+
+// With tables for 16 places and transitions and 64 arcs.
+fn fed_small(plan: &[u8], h: Header, criterion: &[u16], list: &[u16], last: &mut [u16]) -> Traced
+    requires { ⌜ Given (now plan) h (now criterion) (now list) ⌝ }
+    requires { ⌜ Cleared h (now last) × (h .places ≤ 16) × (h .arcs ≤ 64) × (h .transitions ≤ 16) ⌝ }
+    ensures { λ r. ⌜ FedBy (now (plan .entry)) h (now (criterion .entry)) (now (list .entry)) (now (last .exit)) (record { places = r .places; transitions = r .transitions }) (r .count) ⌝ }
+{
+    let mut head = [0u32; 2 * SMALL];
+    let mut next = [0u32; SMALL_ARCS];
+    let mut first = [0u16; SMALL];
+    fed_by(
+        plan,
+        h,
+        criterion,
+        list,
+        &mut head,
+        &mut next,
+        &mut first,
+        last,
+    )
+}
+
+// With tables for 128 places and transitions and 512 arcs.
+fn fed_middle(plan: &[u8], h: Header, criterion: &[u16], list: &[u16], last: &mut [u16]) -> Traced
+    requires { ⌜ Given (now plan) h (now criterion) (now list) ⌝ }
+    requires { ⌜ Cleared h (now last) × (h .places ≤ 128) × (h .arcs ≤ 512) × (h .transitions ≤ 128) ⌝ }
+    ensures { λ r. ⌜ FedBy (now (plan .entry)) h (now (criterion .entry)) (now (list .entry)) (now (last .exit)) (record { places = r .places; transitions = r .transitions }) (r .count) ⌝ }
+{
+    let mut head = [0u32; 2 * MIDDLE];
+    let mut next = [0u32; MIDDLE_ARCS];
+    let mut first = [0u16; MIDDLE];
+    fed_by(
+        plan,
+        h,
+        criterion,
+        list,
+        &mut head,
+        &mut next,
+        &mut first,
+        last,
+    )
+}
+
+// With tables for 1,024 places and transitions and 4,096 arcs.
+fn fed_large(plan: &[u8], h: Header, criterion: &[u16], list: &[u16], last: &mut [u16]) -> Traced
+    requires { ⌜ Given (now plan) h (now criterion) (now list) ⌝ }
+    requires { ⌜ Cleared h (now last) ⌝ }
+    ensures { λ r. ⌜ FedBy (now (plan .entry)) h (now (criterion .entry)) (now (list .entry)) (now (last .exit)) (record { places = r .places; transitions = r .transitions }) (r .count) ⌝ }
+{
+    let mut head = [0u32; 2 * LARGE];
+    let mut next = [0u32; LARGE_ARCS];
+    let mut first = [0u16; LARGE];
+    fed_by(
+        plan,
+        h,
+        criterion,
+        list,
+        &mut head,
+        &mut next,
+        &mut first,
+        last,
+    )
+}
+
+// The same, with tables as large as the plan needs them.
+fn fed(plan: &[u8], h: Header, criterion: &[u16], list: &[u16], last: &mut [u16]) -> Traced
+    requires { ⌜ Given (now plan) h (now criterion) (now list) ⌝ }
+    requires { ⌜ Cleared h (now last) ⌝ }
+    ensures { λ r. ⌜ FedBy (now (plan .entry)) h (now (criterion .entry)) (now (list .entry)) (now (last .exit)) (record { places = r .places; transitions = r .transitions }) (r .count) ⌝ }
+{
+    if (h.places <= SMALL) & (h.arcs <= SMALL_ARCS) & (h.transitions <= SMALL) {
+        return fed_small(plan, h, criterion, list, last);
+    }
+    if (h.places <= MIDDLE) & (h.arcs <= MIDDLE_ARCS) & (h.transitions <= MIDDLE) {
+        return fed_middle(plan, h, criterion, list, last);
+    }
+    fed_large(plan, h, criterion, list, last)
+}
+
+// The run cut where the list fires.
+fn write_fed(
+    plan: &[u8],
+    h: Header,
+    criterion: &[u16],
+    list: &[u16],
+    buffer: &mut [u8],
+    positions: &mut [u16],
+) -> RunCut
+    requires { ⌜ Given (now plan) h (now criterion) (now list) ⌝ }
+    ensures { λ r. ⌜ Answers (now (plan .entry)) h (now (criterion .entry)) (now (list .entry)) (runOutcome (netFrom (now (plan .entry)) h) (now (criterion .entry)) (now (list .entry)) (length (now (buffer .entry))) (length (now (positions .entry)))) (now (buffer .entry)) (now (buffer .exit)) (now (positions .entry)) (now (positions .exit)) r ⌝ }
+{
+    let mut last = [0u16; LARGE];
+    let f = fed(plan, h, criterion, list, &mut last);
+    let places = f.places;
+    let transitions = f.transitions;
+    let kept = KeptSets {
+        places,
+        transitions,
+    };
+    write(
+        plan,
+        h,
+        criterion,
+        list,
+        &last,
+        kept,
+        f.count,
+        buffer,
+        positions,
+    )
+}
+
+// How the list fares from the plan's marking. The marking that it ends with is not asked for.
+fn fares(plan: &[u8], h: Header, list: &[u16]) -> Outcome
+    requires { ⌜ Sound (now plan) h ⌝ }
+    ensures { λ r. ⌜ outcomeNumbers r ≡ replayOr (listRefusal (h .transitions) (now (list .entry))) (replayOf (netFrom (now (plan .entry)) h) (now (list .entry)) .answer) ⌝ }
+{
+    if h.places <= SMALL {
+        let mut marking = [0u64; SMALL];
+        return replay::replay(plan, h, list, &mut marking);
+    }
+    if h.places <= MIDDLE {
+        let mut marking = [0u64; MIDDLE];
+        return replay::replay(plan, h, list, &mut marking);
+    }
+    let mut marking = [0u64; LARGE];
+    replay::replay(plan, h, list, &mut marking)
+}
+
+// The run cut of a plan that was read and a criterion that is not refused.
+pub fn run(
+    plan: &[u8],
+    h: Header,
+    criterion: &[u16],
+    list: &[u16],
+    buffer: &mut [u8],
+    positions: &mut [u16],
+) -> RunCut
+    requires { ⌜ Sound (now plan) h × (criterionRefusal (h .places) (now criterion) ≡ 0) ⌝ }
+    ensures { λ r. ⌜ Answers (now (plan .entry)) h (now (criterion .entry)) (now (list .entry)) (answerTo (now (plan .entry)) h (now (criterion .entry)) (now (list .entry)) (length (now (buffer .entry))) (length (now (positions .entry)))) (now (buffer .entry)) (now (buffer .exit)) (now (positions .entry)) (now (positions .exit)) r ⌝ }
+{
+    let outcome = fares(plan, h, list);
+    match outcome {
+        Outcome::Refused(k) => RunCut::Refused(k),
+        Outcome::Stuck(i, p, n) => RunCut::Sticks(i, p, n),
+        Outcome::Fired => write_fed(plan, h, criterion, list, buffer, positions),
+    }
+}
