@@ -16,15 +16,15 @@
  *   and no other result. Inputs may overlap each other, or be the same string.
  * - While a call runs nobody else writes what it reads, and nobody else reads or writes what it writes.
  * - There is stack, measured on x86-64: below 1 KB for effect, arcs and together, 27 KB for the cuts, 32 KB for the
- *   check, 38 KB for replay, TODO-MEASURE for shadow.
+ *   check, 38 KB for replay, TODO-MEASURE for shadow and for the run cut.
  *
  * What is proved of every such call, on every input: whatever the counts are, whatever the strings, lists and buffers hold, and
  * whatever numbers are passed
  * - It returns, and does nothing undefined.
  * - It answers as stated below, and each result and each entry of a lent buffer is afterwards as stated below.
  * - Bad input is refused: the call returns the number of the first rule broken, in the order told below, puts 0 into
- *   every result pointer, and leaves every lent buffer as it was. (A read of one transition's arcs has no number: it gives an
- *   empty run.)
+ *   every result pointer (14 alone tells more), and leaves every lent buffer as it was. (A read of one transition's arcs has
+ *   no number: it gives an empty run.)
  * - It allocates nothing, keeps no state, and reads and writes nothing but its arguments; so calls may run on many threads at once.
  * README.md says what the proofs themselves assume.
  *
@@ -38,7 +38,7 @@
 #include <stdint.h>
 
 /* One more with each change of a call, of a number or of the files, so that a program can refuse to be built with another. */
-#define NESFOAL_VERSION 6
+#define NESFOAL_VERSION 7
 
 /* The limits of a file, and of a list that a call takes. */
 #define NESFOAL_MAX_FILE_BYTES 65536
@@ -49,12 +49,13 @@
 
 /* Room that always suffices, whatever the plan and the list, so that 13 is not met: bytes for the slice that a cut writes,
  * 40,976 (4 for a marking, 8 for an arc, 2 for an origin, 16 for the trailer); entries for a marking, of a replay or of what
- * nesfoal_together leaves; entries for a shadow.
+ * nesfoal_together leaves; entries for a shadow; entries for the positions of a run cut.
  */
 #define NESFOAL_SLICE_ROOM \
     (4 * NESFOAL_MAX_PLACES + 8 * NESFOAL_MAX_ARCS + 2 * NESFOAL_MAX_PLACES + 2 * NESFOAL_MAX_TRANSITIONS + 16)
 #define NESFOAL_MARKING_ROOM NESFOAL_MAX_PLACES
 #define NESFOAL_SHADOW_ROOM NESFOAL_MAX_LIST_ENTRIES
+#define NESFOAL_POSITIONS_ROOM NESFOAL_MAX_LIST_ENTRIES
 
 /* What the calls return, but for nesfoal_arcs. In the order of checking: files come first (plan before slice), then
  * criterion, list or transition, marking, and last the buffer; each file is gone through from 1 to 8, its arcs one by one,
@@ -79,6 +80,7 @@ enum {
     NESFOAL_REFUSED_LIST = 11,       /* list: above 65,535 entries */
     NESFOAL_REFUSED_TRANSITION = 12, /* list or transition: a number that is no transition */
     NESFOAL_REFUSED_BUFFER = 13,     /* buffer: shorter than what the call writes; always the last */
+    NESFOAL_REFUSED_STUCK = 14,      /* list of a run cut: it sticks; comes after 12 */
     NESFOAL_REFUSED_MARKING = 15,    /* marking: not as many entries as the plan has places */
     NESFOAL_LAST_REFUSAL = 15,       /* answers from 1 to this one are refusals */
 
@@ -194,6 +196,28 @@ uint32_t nesfoal_branching(const uint8_t *plan, size_t plan_length,
                            const uint16_t *criterion, size_t criterion_count,
                            uint8_t *slice, size_t slice_length,
                            uint32_t *length, uint32_t *places, uint32_t *transitions);
+
+/* The cut for one recorded run: what fed the places of a criterion in a list of firings. From the last firing back, with W the
+ * criterion at first: a firing that raised the tokens of a place of W is chosen, and its transition's input places join W.
+ * The slice file has the places of the final W, the chosen transitions and every arc of the plan between them; positions gets
+ * where the chosen firings stand in the list, from 0 and rising. For no place it is the slice of 16 bytes, with none chosen.
+ * Fired in order from the slice's marking, the chosen firings all fire, and leave each place of the criterion at least the
+ * tokens that the list leaves there in the plan.
+ * This slice is for that run: it says nothing of others, and nesfoal_check need not accept it.
+ *
+ * Returns 0, with *length, *places and *transitions as of nesfoal_safety and the number of positions written in *count; or a
+ * refusal: 1 to 7, 10, 11, 12, 14 where the list sticks, with *index, *place and *amount as of nesfoal_replay, 13 where slice
+ * is shorter than the file, and then 13 where positions has fewer entries than are chosen. Of *length, *places, *transitions
+ * and *count all are 0 where it is refused; *index, *place and *amount are 0 but for 14.
+ * Later bytes of slice and later entries of positions keep their values.
+ */
+uint32_t nesfoal_run_cut(const uint8_t *plan, size_t plan_length,
+                         const uint16_t *criterion, size_t criterion_count,
+                         const uint16_t *list, size_t list_count,
+                         uint8_t *slice, size_t slice_length,
+                         uint16_t *positions, size_t positions_count,
+                         uint32_t *length, uint32_t *places, uint32_t *transitions, uint32_t *count,
+                         uint32_t *index, uint32_t *place, uint32_t *amount);
 
 /* Where the arcs of a transition stand: in the slice where of_slice is true, else in the plan. Both files are read.
  *

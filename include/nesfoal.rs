@@ -3,7 +3,7 @@
 
 #![allow(dead_code)]
 
-pub const NESFOAL_VERSION: u32 = 6;
+pub const NESFOAL_VERSION: u32 = 7;
 
 pub const NESFOAL_MAX_FILE_BYTES: usize = 65536;
 pub const NESFOAL_MAX_PLACES: usize = 1024;
@@ -15,6 +15,7 @@ pub const NESFOAL_SLICE_ROOM: usize =
     4 * NESFOAL_MAX_PLACES + 8 * NESFOAL_MAX_ARCS + 2 * NESFOAL_MAX_PLACES + 2 * NESFOAL_MAX_TRANSITIONS + 16;
 pub const NESFOAL_MARKING_ROOM: usize = NESFOAL_MAX_PLACES;
 pub const NESFOAL_SHADOW_ROOM: usize = NESFOAL_MAX_LIST_ENTRIES;
+pub const NESFOAL_POSITIONS_ROOM: usize = NESFOAL_MAX_LIST_ENTRIES;
 
 pub const NESFOAL_DONE: u32 = 0;
 pub const NESFOAL_ACCEPTED: u32 = 0;
@@ -31,6 +32,7 @@ pub const NESFOAL_REFUSED_PLACE: u32 = 10;
 pub const NESFOAL_REFUSED_LIST: u32 = 11;
 pub const NESFOAL_REFUSED_TRANSITION: u32 = 12;
 pub const NESFOAL_REFUSED_BUFFER: u32 = 13;
+pub const NESFOAL_REFUSED_STUCK: u32 = 14;
 pub const NESFOAL_REFUSED_MARKING: u32 = 15;
 pub const NESFOAL_LAST_REFUSAL: u32 = 15;
 pub const NESFOAL_STUCK: u32 = 100;
@@ -81,6 +83,25 @@ extern "C" {
         length: *mut u32,
         places: *mut u32,
         transitions: *mut u32,
+    ) -> u32;
+    pub fn nesfoal_run_cut(
+        plan: *const u8,
+        plan_len: usize,
+        q: *const u16,
+        q_len: usize,
+        list: *const u16,
+        list_len: usize,
+        slice: *mut u8,
+        slice_len: usize,
+        positions: *mut u16,
+        positions_len: usize,
+        length: *mut u32,
+        places: *mut u32,
+        transitions: *mut u32,
+        count: *mut u32,
+        index: *mut u32,
+        place: *mut u32,
+        amount: *mut u32,
     ) -> u32;
     pub fn nesfoal_shadow(
         plan: *const u8,

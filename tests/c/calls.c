@@ -268,6 +268,66 @@ static void cuts(void)
     expect("branching, transitions", transitions, 3);
 }
 
+/* Each case with exactly the room that it takes; what stands beyond stays. */
+static void run_cuts(void)
+{
+    const struct {
+        const char *what;
+        uint16_t criterion[1], list[5];
+        size_t q, n, bytes, entries;
+        uint32_t answer, results[7]; /* length, places, transitions, count, index, place, amount */
+        uint16_t positions[6];
+    } cases[] = {
+        {"run, bell", {4}, {0, 1, 0, 1, 2}, 1, 5, 116, 5, 0, {116, 5, 3, 5, 0, 0, 0}, {0, 1, 2, 3, 4, 7}},
+        {"run, left", {3}, {3, 0, 1}, 1, 3, 92, 2, 0, {92, 4, 2, 2, 0, 0, 0}, {1, 2, 7, 7, 7, 7}},
+        {"run, in bay", {2}, {3, 0, 1}, 1, 3, 100, 6, 0, {60, 3, 1, 1, 0, 0, 0}, {1, 7, 7, 7, 7, 7}},
+        {"run, nothing raised it", {4}, {0, 1, 3}, 1, 3, 22, 0, 0, {22, 1, 0, 0, 0, 0, 0}, {7, 7, 7, 7, 7, 7}},
+        {"run, the empty list", {2}, {0}, 1, 0, 22, 0, 0, {22, 1, 0, 0, 0, 0, 0}, {7, 7, 7, 7, 7, 7}},
+        {"run, for no place", {0}, {0, 1, 0, 1, 2}, 0, 5, 16, 0, 0, {16, 0, 0, 0, 0, 0, 0}, {7, 7, 7, 7, 7, 7}},
+        {"run, stuck", {4}, {3, 0, 1, 0}, 1, 4, 0, 0, NESFOAL_REFUSED_STUCK, {0, 0, 0, 0, 3, 0, 1}, {7, 7, 7, 7, 7, 7}},
+        {"run, one byte short", {3}, {3, 0, 1}, 1, 3, 91, 6, NESFOAL_REFUSED_BUFFER, {0}, {7, 7, 7, 7, 7, 7}},
+        {"run, one entry short", {3}, {3, 0, 1}, 1, 3, 120, 1, NESFOAL_REFUSED_BUFFER, {0}, {7, 7, 7, 7, 7, 7}},
+        {"run, unknown place", {5}, {4}, 1, 1, 0, 0, NESFOAL_REFUSED_PLACE, {0}, {7, 7, 7, 7, 7, 7}},
+        {"run, unknown transition", {2}, {2, 4}, 1, 2, 0, 0, NESFOAL_REFUSED_TRANSITION, {0}, {7, 7, 7, 7, 7, 7}},
+    };
+    uint32_t r[7];
+    uint8_t room[120];
+    for (size_t i = 0; i < sizeof cases / sizeof cases[0]; i++) {
+        uint16_t positions[6] = {7, 7, 7, 7, 7, 7};
+        memset(room, 0xAA, sizeof room);
+        memset(r, 0xAA, sizeof r);
+        expect(cases[i].what, nesfoal_run_cut(plan, 108, cases[i].criterion, cases[i].q, cases[i].list, cases[i].n, room, cases[i].bytes, positions, cases[i].entries, &r[0], &r[1], &r[2], &r[3], &r[4], &r[5], &r[6]), cases[i].answer);
+        expect(cases[i].what, memcmp(r, cases[i].results, sizeof r), 0);
+        expect(cases[i].what, memcmp(positions, cases[i].positions, sizeof positions), 0);
+        size_t untouched = cases[i].results[0];
+        while (untouched < sizeof room && room[untouched] == 0xAA)
+            untouched++;
+        expect(cases[i].what, untouched, sizeof room);
+    }
+
+    /* The chosen firings fire in the slice, by its own numbers, and leave as many tokens as the plan, or more. */
+    const uint16_t left[] = {3}, list[] = {3, 0, 1};
+    uint16_t positions[3];
+    uint64_t in_plan[5], in_slice[4];
+    uint32_t index, place, amount;
+    expect("run", nesfoal_run_cut(plan, 108, left, 1, list, 3, room, 120, positions, 3, &r[0], &r[1], &r[2], &r[3], &r[4], &r[5], &r[6]), 0);
+    const uint16_t own[] = {list[positions[0]], list[positions[1]]}; /* transitions 0 and 1 are 0 and 1 in the slice */
+    expect("run, in the plan", nesfoal_replay(plan, 108, list, 3, in_plan, 5, &index, &place, &amount), 0);
+    expect("run, in the slice", nesfoal_replay(room, r[0], own, 2, in_slice, 4, &index, &place, &amount), 0);
+    expect("run, place 3", in_slice[3] >= in_plan[3], 1);
+    /* Transition 2 takes from place 3 and is left out: this slice is for that run alone. */
+    expect("run, not accepted", nesfoal_check(plan, 108, room, r[0], (const uint8_t[]){3, 0}, 2), NESFOAL_RULE + 6);
+    expect("run, a slice is no plan", nesfoal_run_cut(cut, 78, left, 1, list, 3, room, 120, positions, 3, &r[0], &r[1], &r[2], &r[3], &r[4], &r[5], &r[6]), NESFOAL_REFUSED_KIND);
+
+    /* A list as long as can be: every firing of a spring is chosen. */
+    static uint16_t longest[NESFOAL_MAX_LIST_ENTRIES + 1], chosen[NESFOAL_POSITIONS_ROOM];
+    static const uint8_t spring[28] = {0, 0, 0, 0, 0, 0, 1, 0, 0, 0, 1, 0, 12, 0, 0, 0, 1, 0, 1, 0, 1, 0, 0, 1, 'B', 'E', 'L', 'L'};
+    expect("run, 65,535 firings", nesfoal_run_cut(spring, 28, longest, 1, longest, NESFOAL_MAX_LIST_ENTRIES, room, 120, chosen, NESFOAL_POSITIONS_ROOM, &r[0], &r[1], &r[2], &r[3], &r[4], &r[5], &r[6]), 0);
+    expect("run, 65,535 firings, count", r[3], NESFOAL_MAX_LIST_ENTRIES);
+    expect("run, 65,535 firings, first and last", chosen[0] == 0 && chosen[65534] == 65534, 1);
+    expect("run, 65,536 firings", nesfoal_run_cut(spring, 28, longest, 1, longest, NESFOAL_MAX_LIST_ENTRIES + 1, room, 120, chosen, NESFOAL_POSITIONS_ROOM, &r[0], &r[1], &r[2], &r[3], &r[4], &r[5], &r[6]), NESFOAL_REFUSED_LIST);
+}
+
 static void checks(void)
 {
     const uint8_t one[] = {2, 0}, both[] = {2, 0, 3, 0};
@@ -489,6 +549,11 @@ static void nulls(void)
     expect("null marking, too short", nesfoal_together(plan, 108, 0, NULL, 0, marking, 5, &times), NESFOAL_REFUSED_MARKING);
     expect("null rest, too short", nesfoal_together(plan, 108, 0, marking, 5, NULL, 0, &times), NESFOAL_REFUSED_BUFFER);
     expect("null plan, together", nesfoal_together(NULL, 0, 0, NULL, 0, NULL, 0, &times), NESFOAL_REFUSED_LENGTH);
+    uint32_t e, f, g;
+    expect("null all, run", nesfoal_run_cut(NULL, 0, NULL, 0, NULL, 0, NULL, 0, NULL, 0, &a, &b, &c, &d, &e, &f, &g), NESFOAL_REFUSED_LENGTH);
+    expect("null all but plan, run", nesfoal_run_cut(plan, 108, NULL, 0, NULL, 0, NULL, 0, NULL, 0, &a, &b, &c, &d, &e, &f, &g), NESFOAL_REFUSED_BUFFER);
+    expect("null positions, run", nesfoal_run_cut(plan, 108, NULL, 0, NULL, 0, room, 16, NULL, 0, &a, &b, &c, &d, &e, &f, &g), 0);
+    expect("null positions, run, results", a == 16 && b + c + d + e + f + g == 0, 1);
     expect("null plan, check", nesfoal_check(NULL, 0, NULL, 0, NULL, 0), NESFOAL_REFUSED_LENGTH);
     expect("null criterion, check", nesfoal_check(plan, 108, cut, 78, NULL, 0), NESFOAL_ACCEPTED);
     expect("null criterion, verdict", nesfoal_verdict(plan, 108, cut, 78, NULL, 0, &a), NESFOAL_ACCEPTED);
@@ -520,6 +585,7 @@ int main(void)
     replays();
     takings();
     cuts();
+    run_cuts();
     checks();
     shadows();
     no_place();

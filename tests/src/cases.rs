@@ -2,8 +2,9 @@
 
 use crate::cut::{cut, Cut};
 use crate::replay::Replayed;
+use crate::run_cut::RunCut;
 use crate::together::Together;
-use crate::{arcs, check, effect, replay, shadow, together};
+use crate::{arcs, check, effect, replay, run_cut, shadow, together};
 use std::fmt::Write;
 
 /// Entries that are lent to a call, standing inside a larger piece of memory.
@@ -253,6 +254,45 @@ impl Case for CutCase {
         show_bytes("plan", &self.plan)
             + &show_numbers("criterion", &self.q)
             + &format!("  slice: {} bytes lent\n", self.slice.len)
+    }
+}
+
+#[derive(Clone, Debug)]
+pub struct RunCutCase {
+    pub plan: Lent<u8>,
+    pub q: Lent<u16>,
+    pub list: Lent<u16>,
+    pub slice: Lent<u8>,
+    pub positions: Lent<u16>,
+}
+
+impl Case for RunCutCase {
+    fn second(&self) -> Answer {
+        let (mut slice, mut positions) = (self.slice.clone(), self.positions.clone());
+        let (plan, q, list) = (self.plan.part(), self.q.part(), self.list.part());
+        let (number, outs) = match run_cut::run_cut(plan, q, list, slice.part_mut(), positions.part_mut()) {
+            Ok(RunCut::Written(w, count)) => (0, [w.length, w.places, w.transitions, count, 0, 0, 0]),
+            Ok(RunCut::Sticks { index, place, amount }) => (14, [0, 0, 0, 0, index, place.into(), amount as usize]),
+            Err(refusal) => (refusal, [0; 7]),
+        };
+        Answer::new(number, outs.map(|n| n as u64), vec![Cells::Bytes(slice.cells), Cells::Halves(positions.cells)])
+    }
+
+    fn show(&self) -> String {
+        show_bytes("plan", &self.plan)
+            + &show_numbers("criterion", &self.q)
+            + &show_numbers("list", &self.list)
+            + &format!("  slice: {} bytes lent, positions: {} entries\n", self.slice.len, self.positions.len)
+    }
+
+    /// How much of the run is chosen: nothing, all, or a part.
+    fn outcome(&self, answer: &Answer) -> String {
+        match (answer.number, answer.outs[3]) {
+            (0, 0) => "chosen-none".into(),
+            (0, n) if n == self.list.len as i128 => "chosen-all".into(),
+            (0, _) => "chosen-some".into(),
+            (n, _) => n.to_string(),
+        }
     }
 }
 

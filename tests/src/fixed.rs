@@ -688,6 +688,154 @@ pub fn shadows() -> Vec<Fixed<ShadowCase>> {
     list
 }
 
+pub fn run_cuts() -> Vec<Fixed<RunCutCase>> {
+    let case = |plan: &[u8], q: &[u16], list: &[u16], bytes, entries| RunCutCase {
+        plan: lent(plan),
+        q: lent(q),
+        list: lent(list),
+        slice: buffer(bytes),
+        positions: buffer(entries),
+    };
+    let mut list = Vec::new();
+    // Into exactly the room that it takes and into more; and into too little for the one, the other or both.
+    let mut run = |name: &str, plan: &[u8], q: &[u16], numbers: &[u16], slice: &Draft, chosen: &[u16]| {
+        let (file, count) = (slice.bytes(), chosen.len());
+        let (places, transitions) = (i64::from(slice.places), i64::from(slice.transitions));
+        for (bytes, entries) in [(0, 0), (1, 0), (0, 1), (30, 9)].map(|(b, e)| (file.len() + b, count + e)) {
+            let name = format!("{name}, {bytes} bytes and {entries} entries lent");
+            let outs = [file.len() as i64, places, transitions, count as i64, 0, 0, 0];
+            let mut one = fixed(name, case(plan, q, numbers, bytes, entries), 0, outs);
+            one.cells = Some(vec![Cells::Bytes(after(bytes, &file)), Cells::Halves(after(entries, chosen))]);
+            list.push(one);
+        }
+        let mut short = vec![(file.len() - 1, count), (0, count + 5), (0, 0)];
+        if count > 0 {
+            short.extend([(file.len(), count - 1), (file.len() + 5, 0), (file.len() - 1, count - 1)]);
+        }
+        for (bytes, entries) in short {
+            let name = format!("{name}, {bytes} bytes and {entries} entries lent");
+            let mut one = fixed(name, case(plan, q, numbers, bytes, entries), 13, [0; 7]);
+            one.cells = Some(vec![Cells::Bytes(after(bytes, &[])), Cells::Halves(after(entries, &[]))]);
+            list.push(one);
+        }
+    };
+    let (a, plan) = (DraftArc::new, small_plan().bytes());
+    let of_kerb = |places: &[u16], transitions: &[u16]| part_of(&small_plan(), places, transitions);
+    let alone = |place: u16| of_kerb(&[place], &[]);
+    run("bell rung", &plan, &[4], &[0, 1, 0, 1, 2], &of_kerb(&[0, 1, 2, 3, 4], &[0, 1, 2]), &[0, 1, 2, 3, 4]);
+    run("one left", &plan, &[3], &[3, 0, 1], &of_kerb(&[0, 1, 2, 3], &[0, 1]), &[1, 2]);
+    run("one was in the bay", &plan, &[2], &[3, 0, 1], &of_kerb(&[0, 1, 2], &[0]), &[1]);
+    run("both places", &plan, &[2, 3], &[3, 0, 1], &of_kerb(&[0, 1, 2, 3], &[0, 1]), &[1, 2]);
+    run("fired after it is of no use", &plan, &[2], &[0, 3], &of_kerb(&[0, 1, 2], &[0]), &[0]);
+    run("fed again and again", &plan, &[1], &[0, 1, 0, 1], &of_kerb(&[0, 1, 2], &[0, 1]), &[0, 1, 2, 3]);
+    run("nothing raised it", &plan, &[4], &[0, 1, 3], &alone(4), &[]);
+    run("only lowered", &plan, &[0], &[3, 0], &alone(0), &[]);
+    run("the empty list", &plan, &[2], &[], &alone(2), &[]);
+    let nothing = of_kerb(&[], &[]);
+    run("for no place", &plan, &[], &[0, 1, 0, 1, 2], &nothing, &[]);
+    run("for no place, the empty list", &plan, &[], &[], &nothing, &[]);
+    run("no place in the plan", &Draft::plan(vec![], 2, vec![]).bytes(), &[], &[0, 1, 1], &nothing, &[]);
+    // Raised is by the effect, of parallel arcs by their sums; all arcs go with the transition.
+    let still = Draft::plan(vec![4], 0, vec![]).into_slice(vec![0], vec![]);
+    run("a reader", &loop_net(2, 2, 4), &[0], &[0, 0], &still, &[]);
+    run("a loop that lowers", &loop_net(3, 2, 4), &[0], &[0, 0], &still, &[]);
+    run("a reader by sums", &several(&[1, 3], &[2, 2], 4).bytes(), &[0], &[0], &still, &[]);
+    for (ins, outs) in [(&[2][..], &[3][..]), (&[1, 1], &[1, 2]), (&[2], &[1, 1, 1]), (&[], &[1])] {
+        let growing = several(ins, outs, 4);
+        let all = growing.clone().into_slice(vec![0], vec![0]);
+        run("a loop that raises", &growing.bytes(), &[0], &[0, 0, 0], &all, &[0, 1, 2]);
+    }
+    // Transition 0 raises place 0, its own input; 1 takes from there for place 1. W is looked at before the own inputs join it.
+    let own = Draft::plan(vec![2, 0], 2, vec![a(0, 0, 0, 1), a(0, 1, 0, 2), a(1, 0, 0, 1), a(1, 1, 1, 1)]);
+    run("before", &own.bytes(), &[1], &[0, 1], &part_of(&own, &[0, 1], &[0, 1]), &[0, 1]);
+    run("after", &own.bytes(), &[1], &[1, 0], &part_of(&own, &[0, 1], &[1]), &[0]);
+    run("before and after", &own.bytes(), &[1], &[0, 1, 0], &part_of(&own, &[0, 1], &[0, 1]), &[0, 1]);
+    // An arc to a place of W that is no input goes with its transition, though that place was not what it was chosen for.
+    let fork = Draft::plan(vec![1, 0, 0], 1, vec![a(0, 0, 0, 1), a(0, 1, 1, 1), a(0, 1, 2, 1)]);
+    run("fork, one end", &fork.bytes(), &[2], &[0], &part_of(&fork, &[0, 2], &[0]), &[0]);
+    run("fork, both ends", &fork.bytes(), &[1, 2], &[0], &part_of(&fork, &[0, 1, 2], &[0]), &[0]);
+    // Long lists and large nets.
+    let full = counted(&small_plan(), |d| d.marking[0] = 40);
+    let of_full = |places: &[u16], transitions: &[u16]| {
+        let mut draft = small_plan();
+        draft.marking[0] = 40;
+        part_of(&draft, places, transitions)
+    };
+    let turns = [0, 1].repeat(40);
+    let upto = |n: u16| (0..n).collect::<Vec<u16>>();
+    run("80 firings", &full, &[3], &turns, &of_full(&[0, 1, 2, 3], &[0, 1]), &upto(80));
+    run("79 of 80", &full, &[2], &turns, &of_full(&[0, 1, 2], &[0, 1]), &upto(79));
+    let spring = several(&[], &[65_535], u32::MAX);
+    let all = spring.clone().into_slice(vec![0], vec![0]);
+    run("65,535 firings", &spring.bytes(), &[0], &[0; 65_535], &all, &upto(65_535));
+    let spring = several(&[65_535; 2_047], &[65_535; 2_049], u32::MAX);
+    let all = spring.clone().into_slice(vec![0], vec![0]);
+    run("4,096 arcs", &spring.bytes(), &[0], &[0; 70], &all, &upto(70));
+    let arcs = (0..1_023).flat_map(|t| [a(t, 0, t + 1, 1), a(t, 1, t, 1)]).collect();
+    let chain = Draft::plan(vec![1; 1_024], 1_023, arcs);
+    let all = part_of(&chain, &upto(1_024), &upto(1_023));
+    let down: Vec<u16> = (0..1_023).rev().collect();
+    run("a chain", &chain.bytes(), &[0], &down, &all, &upto(1_023));
+    run("a chain the wrong way", &chain.bytes(), &[0], &upto(1_023), &part_of(&chain, &[0, 1], &[0]), &[0]);
+    for net in published::nets() {
+        for c in &net.run_cuts {
+            let draft = Draft::of(&read(&net.plan, None).unwrap());
+            let slice = part_of(&draft, &c.places, &c.transitions);
+            run(&format!("{}, {:?}", net.name, c.list), &net.plan, &c.q, &c.list, &slice, &c.chosen);
+        }
+    }
+
+    let mut refused =
+        |name: String, plan: &[u8], q: &[u16], numbers: &[u16], (bytes, entries), number, stuck: [i64; 3]| {
+            let outs = [0, 0, 0, 0, stuck[0], stuck[1], stuck[2]];
+            let mut one = fixed(name, case(plan, q, numbers, bytes, entries), number, outs);
+            one.cells = Some(vec![Cells::Bytes(after(bytes, &[])), Cells::Halves(after(entries, &[]))]);
+            list.push(one);
+        };
+    for room in [(200, 9), (0, 0)] {
+        refused(format!("3,0,1,0, {room:?} lent"), &plan, &[4], &[3, 0, 1, 0], room, 14, [3, 0, 1]);
+        refused(format!("0,1,2, {room:?} lent"), &plan, &[], &[0, 1, 2, 2], room, 14, [2, 3, 1]);
+        refused(format!("stuck at once, {room:?} lent"), &plan, &[0], &[2], room, 14, [0, 3, 2]);
+        let parallel = several(&[2, 3], &[9], 1).bytes();
+        refused(format!("a sum is short, {room:?} lent"), &parallel, &[0], &[0], room, 14, [0, 0, 4]);
+    }
+    let mut stuck = turns.clone();
+    stuck.push(0);
+    refused("80 firings, then 0".into(), &full, &[3], &stuck, (200, 100), 14, [80, 0, 1]);
+    let drain = several(&[65_535; 4_096], &[], 0).bytes();
+    refused("the largest shortage".into(), &drain, &[0], &[0], (200, 9), 14, [0, 0, 268_431_360]);
+    let ample = (200, 9);
+    refused("place P".into(), &plan, &[5], &[], ample, 10, [0; 3]);
+    refused("criterion equal".into(), &plan, &[2, 2], &[], ample, 10, [0; 3]);
+    refused("criterion falling".into(), &plan, &[2, 1], &[], ample, 10, [0; 3]);
+    refused("criterion before list".into(), &plan, &[5], &[4; 65_536], (0, 0), 10, [0; 3]);
+    refused("65,536 entries".into(), &plan, &[2], &[0; 65_536], (200, 65_536), 11, [0; 3]);
+    refused("length before numbers".into(), &plan, &[2], &[4; 65_536], (0, 0), 11, [0; 3]);
+    refused("unknown number".into(), &plan, &[2], &[0, 4], ample, 12, [0; 3]);
+    refused("unknown number after a stuck one".into(), &plan, &[2], &[1, 65_535], (0, 0), 12, [0; 3]);
+    for (name, bad, number) in bad_plans() {
+        refused(name, &bad, &[9], &[9], (0, 0), number, [0; 3]);
+    }
+    let mut null = case(&[], &[], &[], 0, 0);
+    (null.plan.null, null.q.null, null.list.null, null.slice.null, null.positions.null) =
+        (true, true, true, true, true);
+    list.push(fixed("null pointers", null.clone(), 1, [0; 7]));
+    (null.plan, null.slice) = (lent(plan), buffer(16));
+    list.push(fixed("null criterion, list and positions", null, 0, [16, 0, 0, 0, 0, 0, 0]));
+    list
+}
+
+/// The slice of a plan with these places and transitions, both rising, and every arc between them, put down by hand.
+fn part_of(plan: &Draft, places: &[u16], transitions: &[u16]) -> Draft {
+    let number = |kept: &[u16], n: u16| kept.iter().position(|&k| k == n);
+    let marking = places.iter().map(|&p| plan.marking[usize::from(p)]).collect();
+    let arcs = plan.arcs.iter().filter_map(|a| {
+        let (t, p) = (number(transitions, a.transition)?, number(places, a.place)?);
+        Some(DraftArc::new(t, a.direction, p, a.weight))
+    });
+    Draft::plan(marking, transitions.len(), arcs.collect()).into_slice(places.to_vec(), transitions.to_vec())
+}
+
 pub fn takings() -> Vec<Fixed<TogetherCase>> {
     let case = |plan: &[u8], transition, marking: &[u64], len| TogetherCase {
         plan: lent(plan),
@@ -1040,6 +1188,24 @@ mod tests {
     #[test]
     fn shadow_examples() {
         hold(shadows());
+    }
+
+    #[test]
+    fn run_cut_examples() {
+        hold(run_cuts());
+    }
+
+    /// The lengths of the request's own examples, counted by hand.
+    #[test]
+    fn run_cuts_are_of_the_length_told() {
+        let lengths = |name: &str| {
+            let cases = run_cuts().into_iter().filter(|one| one.name.starts_with(name) && one.number == 0);
+            cases.map(|one| one.outs[..4].to_vec()).next().expect("a case")
+        };
+        assert_eq!(lengths("bell rung"), [116, 5, 3, 5]);
+        assert_eq!(lengths("one left"), [92, 4, 2, 2]);
+        assert_eq!(lengths("one was in the bay"), [60, 3, 1, 1]);
+        assert_eq!(lengths("for no place"), [16, 0, 0, 0]);
     }
 
     #[test]

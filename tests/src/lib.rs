@@ -11,6 +11,7 @@ pub mod list;
 pub mod net;
 pub mod read;
 pub mod replay;
+pub mod run_cut;
 pub mod shadow;
 pub mod together;
 pub mod write;

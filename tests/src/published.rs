@@ -9,6 +9,7 @@ pub struct Published {
     pub plan_bytes: usize,
     pub cuts: Vec<PublishedCut>,
     pub lists: Vec<PublishedList>,
+    pub run_cuts: Vec<PublishedRun>,
 }
 
 pub struct PublishedCut {
@@ -31,6 +32,15 @@ pub struct PublishedList {
     pub stuck: Option<(i64, i64)>,
 }
 
+pub struct PublishedRun {
+    pub list: Vec<u16>,
+    pub q: Vec<u16>,
+    pub places: Vec<u16>,
+    pub transitions: Vec<u16>,
+    /// Positions in the list, from 0.
+    pub chosen: Vec<u16>,
+}
+
 pub fn nets() -> Vec<Published> {
     let text = include_str!("../data/published-nets.json");
     parse(text).list().iter().map(net).collect()
@@ -49,6 +59,10 @@ fn net(json: &Json) -> Published {
         plan_bytes: json.get("plan_bytes").number() as usize,
         cuts: json.get("cuts").list().iter().map(cut).collect(),
         lists: json.get("lists").list().iter().map(list).collect(),
+        run_cuts: match json.get("run_cuts") {
+            Json::Null => Vec::new(),
+            runs => runs.list().iter().map(run).collect(),
+        },
     }
 }
 
@@ -78,6 +92,16 @@ fn list(json: &Json) -> PublishedList {
         list: json.get("list").numbers(),
         marking: json.get("marking").list().iter().map(|m| m.number() as u64).collect(),
         stuck,
+    }
+}
+
+fn run(json: &Json) -> PublishedRun {
+    PublishedRun {
+        list: json.get("list").numbers(),
+        q: json.get("Q").numbers(),
+        places: json.get("places").numbers(),
+        transitions: json.get("transitions").numbers(),
+        chosen: json.get("chosen").numbers(),
     }
 }
 

@@ -3,10 +3,11 @@
 use super::*;
 use crate::cases::*;
 use crate::cut::{self, Cut};
-use crate::net::{Kind, Net};
+use crate::net::{Kind, Net, MAX_LIST};
 use crate::read::read;
 use crate::replay::{fire_list, Replayed};
 use crate::rng::Rng;
+use crate::run_cut::go_back;
 use crate::shadow::strike_out;
 use crate::write::slice_bytes;
 
@@ -206,6 +207,63 @@ pub fn shadow_case(rng: &mut Rng) -> ShadowCase {
     }
 }
 
+/// A plan in which three transitions can fire, where one is found soon.
+fn lively_plan(rng: &mut Rng) -> Draft {
+    for _ in 0..6 {
+        let draft = plan_with_arcs(rng);
+        if firing_list(rng, &net_of(&draft), 3).len() == 3 {
+            return draft;
+        }
+    }
+    plan_with_arcs(rng)
+}
+
+pub fn run_cut_case(rng: &mut Rng) -> RunCutCase {
+    let aim = rng.below(100);
+    let draft = if rng.percent(90) { lively_plan(rng) } else { plan(rng) };
+    let net = net_of(&draft);
+    let mut file = draft.bytes();
+    if aim < 24 {
+        file = bad_file(rng, Some(Kind::Plan));
+    }
+    let list = match aim {
+        30 | 31 => long_list(rng, &net),
+        32..=37 => unknown_list(rng, &net),
+        38..=49 => list_for(rng, &net),
+        _ => {
+            let most = *rng.pick(&[3, 8, 8, 24, 24, 24, 100]);
+            let most = if rng.below(1_000) == 0 { 20_000 } else { most };
+            firing_list(rng, &net, most)
+        }
+    };
+    let q = match aim {
+        24..=29 => bad_criterion(rng, net.places()),
+        _ if rng.percent(3) => Vec::new(),
+        _ if rng.percent(65) => raised_criterion(rng, &net, &list),
+        _ => good_criterion(rng, net.places()),
+    };
+    // The room due, where the list fires.
+    let known = list.len() <= MAX_LIST && list.iter().all(|&t| usize::from(t) < net.transitions());
+    let (mut length, mut count) = (22, list.len());
+    if known && crate::criterion::check(&q, net.places()).is_ok() {
+        if let (Replayed::Fired, end) = fire_list(&net, &list) {
+            let (kept, chosen) = go_back(&net, &q, &list, end);
+            (length, count) = (slice_bytes(&net, &kept).len(), chosen.len());
+        }
+    }
+    let short = (50..58).contains(&aim) || aim < 50 && rng.percent(20);
+    let length = buffer_length(rng, length, short);
+    let short = (58..68).contains(&aim) || aim < 58 && rng.percent(20);
+    let count = buffer_length(rng, count, short);
+    RunCutCase {
+        plan: lend(rng, &file),
+        q: lend(rng, &q),
+        list: lend(rng, &list),
+        slice: lend_out(rng, length),
+        positions: lend_out(rng, count),
+    }
+}
+
 pub fn together_case(rng: &mut Rng) -> TogetherCase {
     let aim = rng.below(100);
     let draft = if rng.percent(97) { plan_with_arcs(rng) } else { plan(rng) };
@@ -350,6 +408,7 @@ mod tests {
         share("safety", |rng| cut_case(rng, Cut::Safety), &[0, 1, 2, 3, 4, 5, 6, 7, 10, 13]);
         share("branching", |rng| cut_case(rng, Cut::Branching), &[0, 1, 2, 3, 4, 5, 6, 7, 10, 13]);
         share("shadow", shadow_case, &[0, 100, 1, 2, 3, 4, 5, 6, 7, 8, 11, 12, 13]);
+        share("run_cut", run_cut_case, &[0, 14, 1, 2, 3, 4, 5, 6, 7, 10, 11, 12, 13]);
         share("together", together_case, &[0, 100, 1, 2, 3, 4, 5, 6, 7, 12, 13, 15]);
         let mut checker = vec![0, 1, 2, 3, 4, 5, 6, 7, 8, 10, 101, 102, 103, 104, 105, 106, 107, 108];
         share("verdict", verdict_case, &checker);
@@ -375,6 +434,39 @@ mod tests {
             *counts.entry(outcome).or_insert(0) += 1;
         }
         for outcome in ["fired", "fired-none", "stuck", "stuck-none", "stuck with less room", "13-marking", "13-out"] {
+            let count = counts.get(outcome).copied().unwrap_or(0);
+            assert!(100 * count >= CASES, "{outcome} came {count} times in {CASES}");
+        }
+    }
+
+    /// Runs of which nothing, all or a part is chosen come, kept transitions that fire again unchosen, and refusals by 13 for
+    /// each of the two buffers alone.
+    #[test]
+    fn run_cuts_of_every_sort_have_their_share() {
+        let mut counts = BTreeMap::new();
+        for number in 0..CASES {
+            let case = run_cut_case(&mut Rng::for_case(10, "run_cut", number));
+            let answer = case.second();
+            let mut outcomes = vec![case.outcome(&answer)];
+            if answer.number == 0 || answer.number == 13 {
+                let net = read(case.plan.part(), Some(Kind::Plan)).unwrap();
+                let (q, list) = (case.q.part(), case.list.part());
+                let (kept, chosen) = go_back(&net, q, list, fire_list(&net, list).1);
+                let of_kept = list.iter().filter(|&&t| kept.transitions[usize::from(t)]).count();
+                match (slice_bytes(&net, &kept).len() > case.slice.len, chosen.len() > case.positions.len) {
+                    (true, false) => outcomes.push("the slice alone is short".into()),
+                    (false, true) => outcomes.push("the positions alone are short".into()),
+                    _ if of_kept > chosen.len() => outcomes.push("fires again unchosen".into()),
+                    _ => (),
+                }
+            }
+            for outcome in outcomes {
+                *counts.entry(outcome).or_insert(0) += 1;
+            }
+        }
+        let short = ["the slice alone is short", "the positions alone are short"];
+        let chosen = ["chosen-none", "chosen-some", "chosen-all", "fires again unchosen"];
+        for outcome in short.into_iter().chain(chosen) {
             let count = counts.get(outcome).copied().unwrap_or(0);
             assert!(100 * count >= CASES, "{outcome} came {count} times in {CASES}");
         }
@@ -441,6 +533,7 @@ mod tests {
             let written = percent("cut", make, |c| c.q.part().is_empty() && c.second().number == 0);
             near_5("16 bytes written", written);
         }
+        near_5("run cut", percent("run_cut", run_cut_case, |c| c.q.part().is_empty()));
         near_5("check, no bytes", percent("check", check_case, |c| c.q.part().is_empty()));
         near_5("verdict, no place", percent("verdict", verdict_case, |c| c.q.part().is_empty()));
         near_5("check, empty slice", percent("check", check_case, |c| is_empty(&c.slice)));

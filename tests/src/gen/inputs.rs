@@ -30,6 +30,31 @@ pub fn good_criterion(rng: &mut Rng, places: usize) -> Vec<u16> {
     }
 }
 
+/// A place that some firing of the list raises, now and then with other places; any criterion where there is none.
+pub fn raised_criterion(rng: &mut Rng, net: &Net, list: &[u16]) -> Vec<u16> {
+    let mut listed: Vec<usize> = list.iter().map(|&t| usize::from(t)).filter(|&t| t < net.transitions()).collect();
+    listed.sort();
+    listed.dedup();
+    let mut raised = Vec::new();
+    for t in listed {
+        net.each_effect(t, |p, effect| {
+            if effect > 0 {
+                raised.push(p as u16);
+            }
+        });
+    }
+    let mut q = good_criterion(rng, net.places());
+    if !raised.is_empty() {
+        if rng.percent(80) {
+            q.clear();
+        }
+        q.push(*rng.pick(&raised));
+        q.sort();
+        q.dedup();
+    }
+    q
+}
+
 /// A criterion with an unknown place, or one that does not rise.
 pub fn bad_criterion(rng: &mut Rng, places: usize) -> Vec<u16> {
     let mut q = good_criterion(rng, places);

@@ -9,6 +9,7 @@
 //! in the plan leaves the plan's tokens on all its places (`exact`); and every accepted slice that leaves
 //! out nothing that changes a kept place has all that it has (`contained`).
 
+use crate::both::replay;
 use crate::frame::{on_threads, print_histogram, Found, Settings};
 use crate::library;
 use nesfoal_tests::cases::*;
@@ -16,7 +17,6 @@ use nesfoal_tests::cut::{kept, Cut};
 use nesfoal_tests::gen::{guarantee_case, GuaranteeCase};
 use nesfoal_tests::net::{changes, Kind, Net};
 use nesfoal_tests::read::read;
-use nesfoal_tests::replay::{fire_list, Replayed};
 use nesfoal_tests::rng::Rng;
 use nesfoal_tests::write::slice_bytes;
 use std::sync::atomic::{AtomicU64, Ordering};
@@ -178,23 +178,6 @@ fn contains(slice: &Net, cut: &Net) -> Option<()> {
         within(&cut.place_origins, &slice.place_origins) && within(&cut.transition_origins, &slice.transition_origins);
     let counts = cut.places() <= slice.places() && cut.transitions() <= slice.transitions();
     (members && counts).then_some(())
-}
-
-/// Replays in the second implementation and, where it is on, in the library; the marking if it fires.
-fn replay(net: &Net, file: &[u8], list: &[u16]) -> Result<Option<Vec<u64>>, String> {
-    let (answer, marking) = fire_list(net, list);
-    #[cfg(feature = "replay")]
-    {
-        let marking_lent = Lent::plain(vec![0; net.places()]);
-        let case =
-            ReplayCase { file: Lent::plain(file.to_vec()), list: Lent::plain(list.to_vec()), marking: marking_lent };
-        let library = library::replay(&case);
-        if library != case.second() {
-            return Err(format!("replays differ: library {}", library.show()));
-        }
-    }
-    let _ = file;
-    Ok(if answer == Replayed::Fired { Some(marking) } else { None })
 }
 
 /// The marking that the plan's list leaves and its shadow, by the second implementation and, where it is on, by the library.

@@ -88,6 +88,37 @@ fn cut(case: &CutCase, call: CutCall) -> Answer {
     Answer { inputs_kept, ..Answer::new(number, [length, places, transitions], vec![Cells::Bytes(slice.cells)]) }
 }
 
+#[cfg(feature = "run_cut")]
+pub fn run_cut(case: &RunCutCase) -> Answer {
+    let (plan, q, list) = (case.plan.clone(), case.q.clone(), case.list.clone());
+    let (mut slice, mut positions) = (case.slice.clone(), case.positions.clone());
+    let mut outs = [UNSET; 7];
+    let [length, places, transitions, count, index, place, amount] = &mut outs;
+    let number = unsafe {
+        nesfoal_run_cut(
+            plan.pointer(),
+            plan.len,
+            q.pointer(),
+            q.len,
+            list.pointer(),
+            list.len,
+            slice.pointer_mut(),
+            slice.len,
+            positions.pointer_mut(),
+            positions.len,
+            length,
+            places,
+            transitions,
+            count,
+            index,
+            place,
+            amount,
+        )
+    };
+    let inputs_kept = plan == case.plan && q == case.q && list == case.list;
+    Answer { inputs_kept, ..Answer::new(number, outs, vec![Cells::Bytes(slice.cells), Cells::Halves(positions.cells)]) }
+}
+
 #[cfg(feature = "shadow")]
 pub fn shadow(case: &ShadowCase) -> Answer {
     let (plan, slice, list) = (case.plan.clone(), case.slice.clone(), case.list.clone());

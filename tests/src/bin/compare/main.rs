@@ -11,12 +11,15 @@
     feature = "replay",
     feature = "safety",
     feature = "branching",
+    feature = "run_cut",
     feature = "shadow",
     feature = "together",
     feature = "check"
 )))]
 compile_error!("no call to compare: turn a feature on");
 
+#[cfg(any(feature = "check", feature = "run_cut"))]
+mod both;
 mod frame;
 mod library;
 
@@ -28,10 +31,14 @@ mod branching;
 mod check;
 #[cfg(feature = "effect")]
 mod effect;
+#[cfg(feature = "run_cut")]
+mod fed;
 #[cfg(feature = "check")]
 mod guarantee;
 #[cfg(feature = "replay")]
 mod replay;
+#[cfg(feature = "run_cut")]
+mod run_cut;
 #[cfg(feature = "safety")]
 mod safety;
 #[cfg(feature = "shadow")]
@@ -79,6 +86,10 @@ fn comparisons() -> Vec<fn(&Settings) -> bool> {
         |s| frame::compare::<safety::Safety>(s),
         #[cfg(feature = "branching")]
         |s| frame::compare::<branching::Branching>(s),
+        #[cfg(feature = "run_cut")]
+        |s| frame::compare::<run_cut::RunCut>(s),
+        #[cfg(feature = "run_cut")]
+        fed::compare,
         #[cfg(feature = "shadow")]
         |s| frame::compare::<shadow::Shadow>(s),
         #[cfg(feature = "together")]
