@@ -22,6 +22,7 @@ pub fn agree(cases: u64) -> bool {
         call("replay", cases, fixed::replays(), gen::replay_case, replay),
         call("safety", cases, fixed::cuts(Cut::Safety), cut(Cut::Safety), cut_answer),
         call("branching", cases, fixed::cuts(Cut::Branching), cut(Cut::Branching), cut_answer),
+        call("run_cut", cases, fixed::run_cuts(), gen::run_cut_case, run_cut),
         call("shadow", cases, fixed::shadows(), gen::shadow_case, shadow),
         call("together", cases, fixed::takings(), gen::together_case, together),
         call("check", cases, fixed::checks(), gen::check_case, check),
@@ -67,6 +68,35 @@ fn cut_answer(c: &CutCase) -> Answer {
     let number =
         unsafe { call(plan.pointer(), plan.len, q.pointer(), q.len, to, room, &mut length, &mut places, &mut kept) };
     Answer::new(number, [length, places, kept], vec![Cells::Bytes(lent.cells)])
+}
+
+fn run_cut(c: &RunCutCase) -> Answer {
+    let (plan, q, list) = (&c.plan, &c.q, &c.list);
+    let (mut slice, mut positions) = (c.slice.clone(), c.positions.clone());
+    let mut outs = [UNSET; 7];
+    let [length, places, transitions, count, index, place, amount] = &mut outs;
+    let number = unsafe {
+        tuned::run_cut(
+            plan.pointer(),
+            plan.len,
+            q.pointer(),
+            q.len,
+            list.pointer(),
+            list.len,
+            slice.pointer_mut(),
+            slice.len,
+            positions.pointer_mut(),
+            positions.len,
+            length,
+            places,
+            transitions,
+            count,
+            index,
+            place,
+            amount,
+        )
+    };
+    Answer::new(number, outs, vec![Cells::Bytes(slice.cells), Cells::Halves(positions.cells)])
 }
 
 fn shadow(c: &ShadowCase) -> Answer {

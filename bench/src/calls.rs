@@ -9,6 +9,25 @@ type Replay =
     unsafe extern "C" fn(*const u8, usize, *const u16, usize, *mut u64, usize, *mut u32, *mut u32, *mut u32) -> u32;
 type Cut =
     unsafe extern "C" fn(*const u8, usize, *const u16, usize, *mut u8, usize, *mut u32, *mut u32, *mut u32) -> u32;
+type RunCut = unsafe extern "C" fn(
+    *const u8,
+    usize,
+    *const u16,
+    usize,
+    *const u16,
+    usize,
+    *mut u8,
+    usize,
+    *mut u16,
+    usize,
+    *mut u32,
+    *mut u32,
+    *mut u32,
+    *mut u32,
+    *mut u32,
+    *mut u32,
+    *mut u32,
+) -> u32;
 type Shadow = unsafe extern "C" fn(
     *const u8,
     usize,
@@ -38,6 +57,7 @@ pub struct Program {
     branching: Option<Cut>,
     check: Option<Check>,
     verdict: Option<Verdict>,
+    run_cut: Option<RunCut>,
     shadow: Option<Shadow>,
     together: Option<Together>,
 }
@@ -61,6 +81,7 @@ pub const LIBRARY: Program = Program {
     branching: of_library!(nesfoal_branching, "branching"),
     check: of_library!(nesfoal_check, "check"),
     verdict: of_library!(nesfoal_verdict, "verdict"),
+    run_cut: of_library!(nesfoal_run_cut, "run_cut"),
     shadow: of_library!(nesfoal_shadow, "shadow"),
     together: of_library!(nesfoal_together, "together"),
 };
@@ -73,6 +94,7 @@ pub const TUNED: Program = Program {
     branching: Some(tuned::branching),
     check: Some(tuned::check),
     verdict: Some(tuned::verdict),
+    run_cut: Some(tuned::run_cut),
     shadow: Some(tuned::shadow),
     together: Some(tuned::together),
 };
@@ -89,11 +111,12 @@ pub enum Call {
     Branching,
     Check,
     Verdict,
+    RunCut,
     Shadow,
     Together,
 }
 
-pub const CALLS: [Call; 11] = [
+pub const CALLS: [Call; 12] = [
     Call::ReadPlan,
     Call::ReadSlice,
     Call::Effect,
@@ -103,6 +126,7 @@ pub const CALLS: [Call; 11] = [
     Call::Branching,
     Call::Check,
     Call::Verdict,
+    Call::RunCut,
     Call::Shadow,
     Call::Together,
 ];
@@ -119,6 +143,7 @@ impl Call {
             Call::Branching => "branching",
             Call::Check => "check",
             Call::Verdict => "verdict",
+            Call::RunCut => "run cut",
             Call::Shadow => "shadow",
             Call::Together => "together",
         }
@@ -153,7 +178,7 @@ pub struct Outcome {
 struct Values {
     effect: i32,
     times: u64,
-    numbers: [u32; 4],
+    numbers: [u32; 7],
 }
 
 #[derive(PartialEq, Eq)]
@@ -183,6 +208,7 @@ impl<'a> Job<'a> {
             Call::Branching => program.branching.is_some(),
             Call::Check => program.check.is_some(),
             Call::Verdict => program.verdict.is_some(),
+            Call::RunCut => program.run_cut.is_some(),
             Call::Shadow => program.shadow.is_some(),
             Call::Together => program.together.is_some(),
         };
@@ -238,6 +264,15 @@ impl<'a> Job<'a> {
                 self.results(&mut arguments, 1);
                 program.verdict.unwrap() as *const ()
             }
+            Call::RunCut => {
+                read_part(&mut arguments, &input.plan);
+                read_part(&mut arguments, &input.fed);
+                read_part(&mut arguments, &input.list);
+                written_part(&mut arguments, &mut self.buffers.slice);
+                written_part(&mut arguments, &mut self.buffers.out);
+                self.results(&mut arguments, 7);
+                program.run_cut.unwrap() as *const ()
+            }
             Call::Shadow => {
                 read_part(&mut arguments, &input.plan);
                 read_part(&mut arguments, &input.slice);
@@ -268,7 +303,7 @@ impl<'a> Job<'a> {
         let (program, input) = (self.program, self.input);
         let (plan, slice, list, q) = (part(&input.plan), part(&input.slice), part(&input.list), part(&input.q));
         let (q_bytes, place, transition) = (part(&input.q_bytes), input.place, input.transition);
-        let [first, second, third, fourth] = &mut self.values.numbers;
+        let [first, second, third, fourth, fifth, sixth, seventh] = &mut self.values.numbers;
         let (effect, times) = (&mut self.values.effect, &mut self.values.times);
         let (tokens, taking) = (part(&input.tokens), input.taking);
         let Buffers { marking, slice: to, out } = &mut self.buffers;
@@ -307,6 +342,16 @@ impl<'a> Job<'a> {
             Call::Verdict => {
                 let call = program.verdict.unwrap();
                 Box::new(move || unsafe { call(plan.0, plan.1, slice.0, slice.1, q.0, q.1, first) })
+            }
+            Call::RunCut => {
+                let (call, q) = (program.run_cut.unwrap(), part(&input.fed));
+                let (to, room, out, entries) = (to.as_mut_ptr(), to.len(), out.as_mut_ptr(), out.len());
+                Box::new(move || unsafe {
+                    call(
+                        plan.0, plan.1, q.0, q.1, list.0, list.1, to, room, out, entries, first, second, third, fourth,
+                        fifth, sixth, seventh,
+                    )
+                })
             }
             Call::Shadow => {
                 let call = program.shadow.unwrap();

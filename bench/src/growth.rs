@@ -10,7 +10,9 @@ pub fn print(effort: Effort) {
         "Growth: microseconds at an eighth, a quarter, a half and the whole, the four in turns, and how many times"
     );
     println!("longer each doubling of the files' bytes takes (steps that are not exact doublings are scaled to one).");
-    println!("Replay and shadow keep lists of 65,535 throughout, so they grow only with the arcs of a firing.");
+    println!(
+        "Replay, run cut and shadow keep lists of 65,535 throughout, so they grow mainly with the arcs of a firing."
+    );
     println!(
         "Random nets: sixteen of each size in turn. On one and the same net again and again, branches are learnt by"
     );

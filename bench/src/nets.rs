@@ -20,6 +20,8 @@ pub struct Input {
     pub checked: u32,
     /// Firings of the plan that all fire.
     pub list: Vec<u16>,
+    /// The criterion of the run cut: the first place that the list's last firing to raise any raises.
+    pub fed: Vec<u16>,
     /// An arc's place and transition.
     pub place: u16,
     pub transition: u16,
@@ -56,6 +58,7 @@ impl Input {
             q,
             slice,
             checked: 0,
+            fed: last_raised(&net, &list),
             list,
             place: middle.place,
             transition: middle.transition,
@@ -74,6 +77,20 @@ impl Input {
             self.slice.len()
         )
     }
+}
+
+/// The first place that the list's last firing to raise any raises; none if there is no such firing.
+fn last_raised(net: &Net, list: &[u16]) -> Vec<u16> {
+    let raised = |&t: &u16| {
+        let mut first = None;
+        net.each_effect(usize::from(t), |p, effect| {
+            if effect > 0 && first.is_none() {
+                first = Some(p as u16);
+            }
+        });
+        first
+    };
+    list.iter().rev().find_map(raised).into_iter().collect()
 }
 
 /// So many firings: each time a random transition, or the next one that is enabled. Fewer if none is.
@@ -179,7 +196,7 @@ pub fn small(waiting: u32, firings: usize) -> Input {
     let draft = Draft::plan(vec![waiting, 1, 0, 0, 0], 4, arcs);
     let mut input = Input::new("small", draft, Some(2), firings);
     if waiting == 2 {
-        input.list = vec![0, 1, 0, 1, 2];
+        (input.list, input.fed) = (vec![0, 1, 0, 1, 2], vec![4]);
     } else {
         input.name = "small, refilled".into();
     }

@@ -29,7 +29,7 @@ pub fn print(effort: Effort) {
         for call in CALLS {
             // The refilled net is there for its long list alone.
             let extra = input.name == "small, refilled";
-            if !extra || call.only_reads() || matches!(call, Call::Replay | Call::Shadow) {
+            if !extra || call.only_reads() || matches!(call, Call::Replay | Call::RunCut | Call::Shadow) {
                 println!("{}", line(call.name(), call, inputs, effort));
             }
         }

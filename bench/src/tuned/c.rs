@@ -83,6 +83,31 @@ pub unsafe extern "C" fn branching(
     super::cut::cut::<false>(plan, q, slice, [&mut *length, &mut *places, &mut *transitions])
 }
 
+pub unsafe extern "C" fn run_cut(
+    plan: *const u8,
+    plan_len: usize,
+    q: *const u16,
+    q_len: usize,
+    list: *const u16,
+    list_len: usize,
+    slice: *mut u8,
+    slice_len: usize,
+    positions: *mut u16,
+    positions_len: usize,
+    length: *mut u32,
+    places: *mut u32,
+    transitions: *mut u32,
+    count: *mut u32,
+    index: *mut u32,
+    place: *mut u32,
+    amount: *mut u32,
+) -> u32 {
+    let (plan, q, list) = (lent(plan, plan_len), lent(q, q_len), lent(list, list_len));
+    let (slice, positions) = (lent_out(slice, slice_len), lent_out(positions, positions_len));
+    let written = [&mut *length, &mut *places, &mut *transitions, &mut *count];
+    super::run_cut::run_cut(plan, q, list, slice, positions, written, [&mut *index, &mut *place, &mut *amount])
+}
+
 pub unsafe extern "C" fn shadow(
     plan: *const u8,
     plan_len: usize,

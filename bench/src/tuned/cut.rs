@@ -9,26 +9,57 @@ const LEFT_OUT: u16 = 0xFFFF;
 /// The rows of a net. For each place its heads. For each arc, counted from 1: the arc before it in its row (16 bits), its
 /// transition (16), and that transition's first arc (16).
 #[derive(Clone, Copy)]
-struct Rows {
+pub struct Rows {
     heads: *mut Heads,
     links: *mut u64,
+}
+
+impl Rows {
+    #[inline(always)]
+    pub fn in_room(heads: &mut Raw<Heads, PLACES>, links: &mut Raw<u64, { ARCS + 1 }>) -> Rows {
+        Rows { heads: heads.as_mut_ptr().cast(), links: links.as_mut_ptr().cast() }
+    }
+
+    /// # Safety
+    /// The room lasts.
+    #[inline(always)]
+    pub unsafe fn clear(self, h: &Header) {
+        self.heads.write_bytes(0, h.places);
+        *self.links = u64::MAX;
+    }
+
+    /// The last arc that raises a place, counted from 1, or 0.
+    ///
+    /// # Safety
+    /// The rows are linked, and the place is one of the net's.
+    #[inline(always)]
+    pub unsafe fn raising(self, place: usize) -> usize {
+        usize::from((*self.heads.add(place)).arcs[1])
+    }
+
+    /// # Safety
+    /// The arc is one of a row.
+    #[inline(always)]
+    pub unsafe fn link(self, arc: usize) -> u64 {
+        *self.links.add(arc)
+    }
 }
 
 /// The last arc, counted from 1, that lowers a place and the last that raises it; and what the transition of the lowering
 /// one takes, less what it gave back so far.
 #[derive(Clone, Copy)]
 #[repr(C)]
-struct Heads {
+pub struct Heads {
     arcs: [u16; 2],
     taken: u32,
 }
 
 /// What is kept so far, a byte for each, and the kept places that are still to be gone through.
 #[derive(Clone, Copy)]
-struct Kept {
-    places: *mut u8,
-    transitions: *mut u8,
-    pending: *mut u16,
+pub struct Kept {
+    pub places: *mut u8,
+    pub transitions: *mut u8,
+    pub pending: *mut u16,
 }
 
 /// Safety, or branching.
@@ -38,14 +69,12 @@ pub fn cut<const SAFETY: bool>(plan: &[u8], q: &[u16], slice: &mut [u8], results
     *length = 0;
     *places = 0;
     *transitions = 0;
-    let mut heads = raw::<Heads, PLACES>();
-    let mut links = raw::<u64, { ARCS + 1 }>();
-    let rows = Rows { heads: heads.as_mut_ptr().cast(), links: links.as_mut_ptr().cast() };
+    let (mut heads, mut links) = (raw(), raw());
+    let rows = Rows::in_room(&mut heads, &mut links);
     // SAFETY: numbers are below the limits once read; tables are cleared as far as the net goes.
     unsafe {
         let read = read_by(plan, PLAN, |h| {
-            rows.heads.write_bytes(0, h.places);
-            *rows.links = u64::MAX;
+            rows.clear(h);
             rows_of(h.arcs_at, h.arcs, room(h), rows)
         });
         let h = match read {
@@ -71,15 +100,34 @@ pub fn cut<const SAFETY: bool>(plan: &[u8], q: &[u16], slice: &mut [u8], results
     }
 }
 
-/// Checks the arcs and links the rows. Of parallel arcs that take, the first one is linked; of those that give, each that
-/// raises its place, since the search passes over a transition that it knows.
+/// Checks the arcs and links the rows.
 #[inline(never)]
 unsafe fn rows_of(at: *const u8, count: usize, room: u64, rows: Rows) -> u32 {
-    let (mut last, mut first) = (usize::MAX, 0);
-    each_arc(at, count, room, |j, arc| {
+    let mut link = Link::new();
+    each_arc(at, count, room, |j, arc| link.see(rows, j, arc))
+}
+
+/// Links arcs into the rows, one after the other. Of parallel arcs that take, the first one is linked; of those that give,
+/// each that raises its place, since the search passes over a transition that it knows.
+pub struct Link {
+    /// The transition of the arc before, and its first arc.
+    last: usize,
+    first: usize,
+}
+
+impl Link {
+    #[inline(always)]
+    pub fn new() -> Link {
+        Link { last: usize::MAX, first: 0 }
+    }
+
+    /// # Safety
+    /// Arcs come in order, each within the limits; the rows were cleared.
+    #[inline(always)]
+    pub unsafe fn see(&mut self, rows: Rows, j: usize, arc: u64) {
         let (t, d, p) = (transition(arc), direction(arc), place(arc));
-        first = if t == last { first } else { j };
-        last = t;
+        let first = if t == self.last { self.first } else { j };
+        (self.last, self.first) = (t, first);
         let heads = &mut *rows.heads.add(p);
         let lowering = heads.arcs.as_mut_ptr();
         let before = *rows.links.add(usize::from(*lowering));
@@ -104,7 +152,7 @@ unsafe fn rows_of(at: *const u8, count: usize, room: u64, rows: Rows) -> u32 {
                 link(lowering.add(1));
             }
         }
-    })
+    }
 }
 
 /// Keeps what the cut keeps.
@@ -175,7 +223,7 @@ unsafe fn renumber(kept: *const u8, count: usize, origins: *mut u16, own: *mut u
 
 /// Writes the slice of the kept sets, or refuses with 13.
 #[inline(always)]
-unsafe fn write(h: &Header, kept: Kept, slice: &mut [u8], results: [&mut u32; 3]) -> u32 {
+pub unsafe fn write(h: &Header, kept: Kept, slice: &mut [u8], results: [&mut u32; 3]) -> u32 {
     let mut place_origins = raw::<u16, { PLACES + 1 }>();
     let mut transition_origins = raw::<u16, { TRANSITIONS + 1 }>();
     let mut own_places = raw::<u16, PLACES>();

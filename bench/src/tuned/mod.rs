@@ -14,10 +14,11 @@ mod effect;
 mod list;
 mod read;
 mod replay;
+mod run_cut;
 mod shadow;
 mod starts;
 mod together;
 #[cfg(feature = "vectors")]
 mod vectors;
 
-pub use c::{arcs, branching, check, effect, replay, safety, shadow, together, verdict};
+pub use c::{arcs, branching, check, effect, replay, run_cut, safety, shadow, together, verdict};

@@ -70,9 +70,39 @@ impl Moves {
     #[inline(always)]
     pub unsafe fn read(self, file: &[u8], due: u64) -> Result<Header, u32> {
         read_by(file, due, |h| {
-            self.starts.write_bytes(0, h.transitions + 1);
-            moves_of(h.arcs_at, h.arcs, room(h), self.starts, self.moves)
+            self.clear(h);
+            moves_of(h.arcs_at, h.arcs, room(h), self)
         })
+    }
+
+    /// # Safety
+    /// The tables last.
+    #[inline(always)]
+    pub unsafe fn clear(self, h: &Header) {
+        self.starts.write_bytes(0, h.transitions + 1);
+    }
+
+    /// Notes an arc: its move, and one past it as its transition's end so far.
+    ///
+    /// # Safety
+    /// Arcs come in order, each within the limits; the starts were cleared.
+    #[inline(always)]
+    pub unsafe fn note(self, j: usize, arc: u64) {
+        *self.starts.add(transition(arc) + 1) = j as u16 + 1;
+        let tokens = weight(arc) as i32;
+        let adds = if direction(arc) == 1 { tokens } else { -tokens };
+        *self.moves.add(j) = adds << 10 | place(arc) as i32;
+    }
+
+    /// The input places of a transition; moves that take come first, and are below 0.
+    ///
+    /// # Safety
+    /// The starts are made, and the transition is one of the net's.
+    #[inline(always)]
+    pub unsafe fn inputs(self, transition: usize) -> impl Iterator<Item = usize> {
+        let (from, to) = (*self.starts.add(transition), *self.starts.add(transition + 1));
+        let moves = (from..to).map(move |j| *self.moves.add(usize::from(j)));
+        moves.take_while(|&m| m < 0).map(|m| (m & 1023) as usize)
     }
 
     /// Makes the starts, and loads the initial marking.
@@ -121,13 +151,8 @@ impl Moves {
 
 /// Checks the arcs; makes a move of each, and the table of ends.
 #[inline(never)]
-unsafe fn moves_of(at: *const u8, count: usize, room: u64, table: *mut u16, moves: *mut i32) -> u32 {
-    each_arc(at, count, room, |j, arc| {
-        *table.add(transition(arc) + 1) = j as u16 + 1;
-        let tokens = weight(arc) as i32;
-        let adds = if direction(arc) == 1 { tokens } else { -tokens };
-        *moves.add(j) = adds << 10 | place(arc) as i32;
-    })
+unsafe fn moves_of(at: *const u8, count: usize, room: u64, moves: Moves) -> u32 {
+    each_arc(at, count, room, |j, arc| moves.note(j, arc))
 }
 
 /// The lowest place from which the moves take more than there is, parallel ones together, and the tokens missing there;
