@@ -5,7 +5,7 @@ use mathlib.Core.List.{List, [], _∷_}
 use lib.Dec.{eqb, leb}
 use Rattle.answers.specs.declared.verbs.Verb.{Verb}
 use Rattle.answers.specs.declared.verbs.Words.{Words}
-use Rattle.answers.specs.declared.verbs.Verb.the-variants.{Unknown, Show, Dot, Effect, Replay, Together, Safety, Branching, DotSlice, Arcs, Check, Shadow}
+use Rattle.answers.specs.declared.verbs.Verb.the-variants.{Unknown, Show, Dot, Effect, Replay, Together, Safety, Branching, Run, DotSlice, Arcs, Check, Shadow}
 
 -- do two byte strings hold the same bytes?
 unfoldable pub same : List ℕ → List ℕ → Bool
@@ -33,6 +33,9 @@ safety = 115 ∷ 97 ∷ 102 ∷ 101 ∷ 116 ∷ 121 ∷ []
 abbrev pub branching : List ℕ
 branching = 98 ∷ 114 ∷ 97 ∷ 110 ∷ 99 ∷ 104 ∷ 105 ∷ 110 ∷ 103 ∷ []
 
+abbrev pub run : List ℕ
+run = 114 ∷ 117 ∷ 110 ∷ []
+
 abbrev pub dot : List ℕ
 dot = 100 ∷ 111 ∷ 116 ∷ []
 
@@ -58,7 +61,7 @@ ofTwo w count =
 
 -- the cuts, and the verbs on two files
 unfoldable pub ofCuts : List ℕ → ℕ → Verb
-ofCuts w count = pick (same w safety) Safety (pick (same w branching) Branching (ofTwo w count))
+ofCuts w count = pick (same w safety) Safety (pick (same w branching) Branching (pick (same w run) Run (ofTwo w count)))
 
 -- the verb of a command of so many words, the program's name among them
 unfoldable pub verbOf : List ℕ → ℕ → Verb
@@ -79,6 +82,7 @@ takenBy Replay count = row 3 count 3 count
 takenBy Together count = row 4 count 3 4
 takenBy Safety count = row 4 count 4 count
 takenBy Branching count = row 4 count 4 count
+takenBy Run count = row 5 count 4 count
 takenBy DotSlice count = row 4 count 4 count
 takenBy Arcs count = row 6 6 5 6
 takenBy Check count = row 4 count 4 count

@@ -4,6 +4,7 @@ pub mod cuts;
 pub mod effect;
 pub mod input;
 pub mod lists;
+pub mod recorded;
 pub mod replays;
 pub mod shadows;
 pub mod takings;

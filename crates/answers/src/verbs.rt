@@ -14,6 +14,7 @@ pub enum Verb {
     Together,
     Safety,
     Branching,
+    Run,
     DotSlice,
     Arcs,
     Check,
@@ -51,6 +52,9 @@ fn cutting(word: &[u8], count: usize) -> Verb
     }
     if check::same(word, b"branching") {
         return Verb::Branching;
+    }
+    if check::same(word, b"run") {
+        return Verb::Run;
     }
     second(word, count)
 }
@@ -106,6 +110,7 @@ pub fn taken(verb: Verb, count: usize) -> Words
         Verb::Together => row(4, count, 3, 4),
         Verb::Safety => row(4, count, 4, count),
         Verb::Branching => row(4, count, 4, count),
+        Verb::Run => row(5, count, 4, count),
         Verb::DotSlice => row(4, count, 4, count),
         Verb::Arcs => row(6, 6, 5, 6),
         Verb::Check => row(4, count, 4, count),

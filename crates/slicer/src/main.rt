@@ -3,6 +3,7 @@ mod arcs;
 mod cuts;
 mod demo;
 mod effect;
+mod recorded;
 mod replays;
 mod shadows;
 mod takings;
@@ -82,7 +83,10 @@ fn answer(word: &[u8], count: usize) {
     let verb = verbs::named(word, count);
     let words = verbs::taken(verb, count);
     if verbs::fits(words, count) {
-        asked(verb, words.list, words.end);
+        match verb {
+            Verb::Run => recorded::asked(count),
+            _ => asked(verb, words.list, words.end),
+        }
         return;
     }
     match verb {

@@ -39,6 +39,18 @@ pub fn write(i: usize) {
     say::text(&buf[..n]);
 }
 
+// The first argument from `from` to before `end` that is this word; `end` where there is none.
+pub fn first(word: &[u8], from: usize, end: usize) -> usize {
+    let mut i = from;
+    while i < end {
+        if is(i, word) {
+            return i;
+        }
+        i += 1;
+    }
+    end
+}
+
 // Is argument i @ and a name?
 pub fn is_file(i: usize) -> bool {
     let mut path = io::buffer();

@@ -38,111 +38,115 @@ pub const LIST_TRANSITION: usize = 34;
 
 pub const NO_ROOM: usize = 35;
 
-pub const MARKING_LENGTH: usize = 36;
+pub const STICKS: usize = 36;
 
-pub const LONG_MARKING: usize = 37;
+pub const MARKING_LENGTH: usize = 37;
 
-pub const UNKNOWN_PLACE: usize = 38;
+pub const LONG_MARKING: usize = 38;
 
-pub const UNKNOWN_TRANSITION: usize = 39;
+pub const UNKNOWN_PLACE: usize = 39;
 
-pub const ACCEPTED: usize = 40;
+pub const UNKNOWN_TRANSITION: usize = 40;
 
-pub const RULE: usize = 41;
+pub const ACCEPTED: usize = 41;
 
-pub const WRITTEN: usize = 49;
+pub const RULE: usize = 42;
 
-pub const FIRED: usize = 50;
+pub const WRITTEN: usize = 50;
 
-pub const STUCK: usize = 51;
+pub const CHOSEN: usize = 51;
 
-pub const TAKEN: usize = 52;
+pub const FIRED: usize = 52;
 
-pub const UNLIMITED: usize = 53;
+pub const STUCK: usize = 53;
 
-pub const SHADOW: usize = 54;
+pub const TAKEN: usize = 54;
 
-pub const ENTRY: usize = 55;
+pub const UNLIMITED: usize = 55;
 
-pub const EFFECT: usize = 56;
+pub const SHADOW: usize = 56;
 
-pub const EFFECT_OF: usize = 57;
+pub const ENTRY: usize = 57;
 
-pub const ARCS_IN_PLAN: usize = 58;
+pub const EFFECT: usize = 58;
 
-pub const ARCS_IN_SLICE: usize = 59;
+pub const EFFECT_OF: usize = 59;
 
-pub const NONE_IN_PLAN: usize = 60;
+pub const ARCS_IN_PLAN: usize = 60;
 
-pub const NONE_IN_SLICE: usize = 61;
+pub const ARCS_IN_SLICE: usize = 61;
 
-pub const NO_PLACE: usize = 62;
+pub const NONE_IN_PLAN: usize = 62;
 
-pub const PLAN_OF: usize = 63;
+pub const NONE_IN_SLICE: usize = 63;
 
-pub const SLICE_OF: usize = 64;
+pub const NO_PLACE: usize = 64;
 
-pub const NOTE: usize = 65;
+pub const PLAN_OF: usize = 65;
 
-pub const NOTE_TEXT: usize = 66;
+pub const SLICE_OF: usize = 66;
 
-pub const PLACE: usize = 67;
+pub const NOTE: usize = 67;
 
-pub const TRANSITION: usize = 68;
+pub const NOTE_TEXT: usize = 68;
 
-pub const ORIGIN: usize = 69;
+pub const PLACE: usize = 69;
 
-pub const TOKENS: usize = 70;
+pub const TRANSITION: usize = 70;
 
-pub const FIRST: usize = 71;
+pub const ORIGIN: usize = 71;
 
-pub const NEXT: usize = 72;
+pub const TOKENS: usize = 72;
 
-pub const TAKES: usize = 73;
+pub const FIRST: usize = 73;
 
-pub const ADDS: usize = 74;
+pub const NEXT: usize = 74;
 
-pub const END: usize = 75;
+pub const TAKES: usize = 75;
 
-pub const GRAPH: usize = 76;
+pub const ADDS: usize = 76;
 
-pub const CIRCLE: usize = 77;
+pub const END: usize = 77;
 
-pub const BOX: usize = 78;
+pub const GRAPH: usize = 78;
 
-pub const INSIDE: usize = 79;
+pub const CIRCLE: usize = 79;
 
-pub const LEFT_OUT: usize = 80;
+pub const BOX: usize = 80;
 
-pub const DRAWN: usize = 81;
+pub const INSIDE: usize = 81;
 
-pub const MARKED: usize = 82;
+pub const LEFT_OUT: usize = 82;
 
-pub const FROM_PLACE: usize = 83;
+pub const DRAWN: usize = 83;
 
-pub const FROM_TRANSITION: usize = 84;
+pub const MARKED: usize = 84;
 
-pub const GREY: usize = 85;
+pub const FROM_PLACE: usize = 85;
 
-pub const BLACK: usize = 86;
+pub const FROM_TRANSITION: usize = 86;
 
-pub const LABEL: usize = 87;
+pub const GREY: usize = 87;
 
-pub const NO_LABEL: usize = 88;
+pub const BLACK: usize = 88;
 
-pub const GRAPH_END: usize = 89;
+pub const LABEL: usize = 89;
 
-pub const DEMO: usize = 90;
+pub const NO_LABEL: usize = 90;
 
-pub const DEMO_EFFECT: usize = 91;
+pub const GRAPH_END: usize = 91;
 
-pub const DEMO_SAFETY: usize = 92;
+pub const DEMO: usize = 92;
 
-pub const DEMO_CHECK: usize = 93;
+pub const DEMO_EFFECT: usize = 93;
 
-pub const DEMO_SHADOW: usize = 94;
+pub const DEMO_SAFETY: usize = 94;
 
-pub const DEMO_SLICE: usize = 95;
+pub const DEMO_CHECK: usize = 95;
+
+pub const DEMO_SHADOW: usize = 96;
+
+pub const DEMO_SLICE: usize = 97;
 
 // Writes form k of the page.
 pub fn fill(k: usize, numbers: &[usize]) {
@@ -180,6 +184,7 @@ pub fn fill(k: usize, numbers: &[usize]) {
 |refused 11: list: above 65,535 entries
 |refused 12: list: entry % is %: no such transition; T is %
 |refused 13: buffer: shorter than what is written
+|refused 14: list: stuck at index %: transition %, place % is short of %
 |refused 15: marking: % number&; P is %
 |refused 15: marking: more than 1,024 numbers; P is %
 |refused 10: unknown place %; P is %
@@ -194,7 +199,7 @@ pub fn fill(k: usize, numbers: &[usize]) {
 |rule 7 broken by transition %: it is kept and one of its input places is not
 |rule 8 broken by transition %: it is left out and raises a kept place
 |written ~: % byte&, % place&, % transition&
-|fired % transition&, ending|stuck at index %: transition %, place % is short of %
+|chosen|fired % transition&, ending|stuck at index %: transition %, place % is short of %
 |taken % time&, leaving|unlimited, leaving|shadow| %|effect | of transition % on place %
 |arcs % of transition % in the plan|arcs % of transition % in the slice|error: the plan has no transition %: it has % transition&, numbered from 0
 |error: the slice has no transition %: it has % transition&, numbered from 0

@@ -1,0 +1,39 @@
+// run: the slice written to OUT, argument 3, and below it the chosen positions; or why not.
+use crate::cuts;
+use crate::lists;
+use terminal::phrases;
+use terminal::say;
+use words::refusal;
+
+// The slice is the buffer's first bytes, the positions are the first `count` entries.
+pub fn written(
+    buffer: &[u8],
+    length: u32,
+    places: u32,
+    transitions: u32,
+    positions: &[u16],
+    count: u32,
+) {
+    if cuts::save(buffer, length, places, transitions) {
+        lists::line(phrases::CHOSEN, positions, count as usize);
+    }
+}
+
+pub fn sticks(list: &[u16], index: u32, place: u32, amount: u32) {
+    let i = index as usize;
+    say::four(
+        phrases::STICKS,
+        i,
+        blame::numbers::entry(list, i),
+        place as usize,
+        amount as usize,
+    );
+}
+
+pub fn refused(n: u32, plan: &[u8], criterion: &[u16], list: &[u16]) {
+    if n == 10 {
+        refusal::one(n, 2, plan, criterion);
+        return;
+    }
+    refusal::one(n, 2, plan, list);
+}
