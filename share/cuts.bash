@@ -36,7 +36,7 @@ out_bad() {
         why='it is no plain file'
     elif [ "$out" -ef "$2" ]; then
         why='it is the plan'
-    elif [ "$out" -ef "$3" ]; then
+    elif [ "$out" -ef "$3" ] || [ "$out" -ef "$other" ]; then
         why='it is the list'
     elif mode=$(stat -c %a -- "$out" 2> /dev/null) && { [ ! -w "$out" ] || [ $((0${mode:-200} & 0222)) -eq 0 ]; }; then
         why='it may not be written'

@@ -7,7 +7,7 @@ taken=''
 longest=1048576 # bytes of a list in text
 width=2         # bytes of an entry
 
-# inputs: the files and the list of the command's words.
+# inputs: the files and the list of the command's words, or both lists of run.
 inputs() {
     local i from to
     local -a files=(1)
@@ -15,7 +15,7 @@ inputs() {
         dot | arcs | check | shadow) files=(1 2) && from=3 ;;
         replay) from=2 ;;
         together) from=3 width=8 ;;
-        safety | branching) from=3 ;;
+        safety | branching | run) from=3 ;;
         *) from=${#words[@]} ;;
     esac
     to=${#words[@]}
@@ -29,8 +29,21 @@ inputs() {
             words[i]=$room/input
         fi
     done
-    if [ $((to - from)) -eq 1 ]; then
-        case ${words[from]} in - | @?*) list_at "$from" ;; esac
+    if [ "$verb" = run ]; then
+        for ((i = from; i < to; i++)); do
+            if [ "${words[i]}" = for ]; then
+                list_of $((i + 1)) "$to"
+                to=$i
+            fi
+        done
+    fi
+    list_of "$from" "$to"
+}
+
+# list_of FROM TO: the list that these words are, where it is one word that names it.
+list_of() {
+    if [ $(($2 - $1)) -eq 1 ]; then
+        case ${words[$1]} in - | @?*) list_at "$1" ;; esac
     fi
 }
 
@@ -47,22 +60,22 @@ standard_input() {
 # list_at INDEX: the list that this word names.
 list_at() {
     local name=${words[$1]#@} file
-    file=$name list=$name
+    file=$name other=$list list=$name
     if [ "$name" = - ]; then
         standard_input $((longest + 1))
         file=$room/input
         words[$1]=@$file
     elif [ -p "$file" ] || [ -c "$file" ]; then
         make_room
-        head -c $((longest + 1)) < "$file" > "$room/list-input" 2> /dev/null
-        file=$room/list-input
+        head -c $((longest + 1)) < "$file" > "$room/list-input$1" 2> /dev/null
+        file=$room/list-input$1
         named "$file" "$name"
         words[$1]=@$file
     fi
     if [ -f "$file" ] && [ -r "$file" ] && [ -s "$file" ] && is_text "$file"; then
         make_room
-        entries "$name" "$file"
-        words[$1]=@$room/list
+        entries "$name" "$file" "$room/list$1"
+        words[$1]=@$room/list$1
     fi
 }
 
@@ -71,8 +84,8 @@ is_text() {
     [ -z "$(head -c $((longest + 1)) -- "$1" | tr -d '\11-\15\40-\176' | head -c 1 | od -An -tx1)" ]
 }
 
-# entries NAME FILE: the numbers of a text, as many bytes each as the width says, into the room's file `list`; of an answer of shadow, or,
-# for a marking, of replay or together, the numbers that end it. As many as a list may have, and one more.
+# entries NAME FILE TO: the numbers of a text, as many bytes each as the width says, into the file TO; of an answer of shadow, or, for a
+# marking, of replay or together, the numbers that end it. As many as a list may have, and one more.
 entries() {
     local codes most=65536 largest=65535 first='^(fired|stuck|shadow)$' last='^shadow$'
     if [ "$width" -eq 8 ]; then most=1025 largest=18446744073709551615 first='^(fired|taken|unlimited,)$' last='^(ending|leaving)$'; fi
@@ -117,5 +130,5 @@ entries() {
         END { if (skipped != "") print "not " skipped }')
     case $codes in *'not '*) fail "$1: '${codes##*not }' is not a number from 0 to $largest" ;; esac
     [ "$(head -c $((longest + 1)) -- "$2" | wc -c)" -le "$longest" ] || fail "$1: a list in text has at most $longest bytes"
-    printf %b "$codes" > "$room/list" || fail "$1: the list could not be copied to $room"
+    printf %b "$codes" > "$3" || fail "$1: the list could not be copied to $room"
 }

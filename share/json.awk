@@ -114,7 +114,19 @@ function written(s,    at, next_at) {
     at = 0
     while ((next_at = index(substr(s, at + 1), ": ")) > 0) at += next_at
     return text("file", substr(s, 9, at - 9)) field("bytes", count(substr(s, at + 1), "byte")) \
-        field("places", count(substr(s, at + 1), "place")) field("transitions", count(substr(s, at + 1), "transition"))
+        field("places", count(substr(s, at + 1), "place")) field("transitions", count(substr(s, at + 1), "transition")) chosen
+}
+
+# run's second line, `chosen 0 1 3`, out of the answer, whose last it is.
+function ended(s) {
+    chosen = ",\"chosen\":" numbers(substr(lines[NR], 7))
+    return substr(s, 1, length(s) - length(lines[NR]) - 1)
+}
+
+# `stuck at index 3: transition 0, place 0 is short of 1`
+function stuck(s,    w) {
+    split(s, w, " ")
+    return field("index", w[4] + 0) field("transition", w[6] + 0) field("place", w[8]) field("short", w[12])
 }
 
 # How many bytes the note of show's first line has.
@@ -154,13 +166,13 @@ function told(s,    w) {
     }
     else if (w[1] == "fired") object("fired", field("fired", w[2]) ",\"marking\":" numbers(after(s, ", ending")) shadow)
     else if (w[1] == "stuck")
-        object("stuck", field("index", w[4] + 0) field("transition", w[6] + 0) field("place", w[8]) field("short", w[12]) shadow)
+        object("stuck", stuck(s) shadow)
     else if (w[1] == "taken") object("taken", field("times", w[2]) ",\"leaving\":" numbers(after(s, ", leaving")))
     else if (w[1] == "unlimited,") object("unlimited", ",\"leaving\":" numbers(after(s, ", leaving")))
     else if (w[1] == "written") object("written", written(s))
     else if (s == "accepted") object("accepted", "")
     else if (w[1] == "rule") object("broken", broken(s))
-    else if (w[1] == "refused") object("refused", field("refusal", w[2] + 0) text("reason", after(s, ": ")))
+    else if (w[1] == "refused") object("refused", field("refusal", w[2] + 0) text("reason", after(s, ": ")) (w[2] == "14:" ? stuck(after(s, ": list: ")) : ""))
     else if (w[1] == "error:") object("error", text("reason", substr(s, 8)))
     else if (w[1] == "usage:") object("usage", text("usage", substr(s, 8)))
     else if (w[1] == "built") object("built", text("file", substr(s, 7)))
@@ -190,6 +202,7 @@ function helped(    i, name, use, short, body) {
 END {
     whole = lines[1]
     for (i = 2; i <= NR; i++) whole = whole "\n" lines[i]
+    if (verb == "run" && whole ~ /^written / && lines[NR] ~ /^chosen( |$)/) whole = ended(whole)
     if (verb == "help" && whole ~ /^@/) helped()
     else if (whole ~ /^digraph /) object("picture", text("graphviz", whole "\n"))
     else if (whole ~ /^(refused|error:|usage:|written|installed|removed) /) told(whole)
