@@ -2,12 +2,13 @@
 
 use nesfoal_tests::cases::*;
 use nesfoal_tests::check::{verdict, Verdict};
-use nesfoal_tests::cut::{cut, Cut};
+use nesfoal_tests::cut::{cut, Cut, Written};
 use nesfoal_tests::fixed::{self, Fixed};
 use nesfoal_tests::net::{Kind, Refusal, MAX_FILE, MAX_LIST, MAX_PLACES};
 use nesfoal_tests::read::read;
 use nesfoal_tests::replay::{replay, Replayed};
 use nesfoal_tests::rng::Rng;
+use nesfoal_tests::run_cut::{run_cut, RunCut};
 use nesfoal_tests::shadow::shadow;
 use nesfoal_tests::together::{together, Together};
 use nesfoal_tests::{arcs, effect, gen};
@@ -15,6 +16,7 @@ use nesfoal_tests::{arcs, effect, gen};
 /// The file that a cut writes.
 pub const OUT: &str = "out";
 const LIST: &str = "list";
+const CRITERION: &str = "criterion";
 const MARKING: &str = "marking";
 
 pub struct Due {
@@ -52,10 +54,15 @@ impl Asked {
     }
 
     /// A list at the end: as words, or as a file where it is long.
-    fn list(mut self, list: &[u16]) -> Asked {
+    fn list(self, list: &[u16]) -> Asked {
+        self.list_in(LIST, list)
+    }
+
+    /// The same, with the file's name.
+    fn list_in(mut self, file: &'static str, list: &[u16]) -> Asked {
         if list.len() % 8 == 5 || list.len() > 1_000 {
-            self.files.push((LIST, gen::to_bytes(list)));
-            self.words.push(format!("@{LIST}"));
+            self.files.push((file, gen::to_bytes(list)));
+            self.words.push(format!("@{file}"));
         } else {
             self.words.extend(list.iter().map(|n| n.to_string()));
         }
@@ -143,6 +150,14 @@ pub fn all() -> Vec<Verb> {
             fixed: || each(fixed::cuts(Cut::Branching), of_cut),
             random: |rng| of_cut(&gen::cut_case(rng, Cut::Branching)),
             spoil: another_letter,
+        },
+        Verb {
+            name: "run",
+            outcomes: "written 1 2 3 4 5 6 7 10 11 12 14",
+            fixed: || each(fixed::run_cuts(), of_run),
+            random: |rng| of_run(&gen::run_cut_case(rng)),
+            // The first position is dropped.
+            spoil: |due| due.says = due.says.replacen("chosen 0", "chosen", 1),
         },
         Verb {
             name: "shadow",
@@ -303,16 +318,41 @@ fn of_together(case: &TogetherCase) -> Asked {
 fn of_cut(case: &CutCase) -> Asked {
     let mut buffer = vec![0; MAX_FILE];
     let due = match cut(case.which, case.plan.part(), case.q.part(), &mut buffer) {
-        Ok(w) => {
-            let counts = [counted(w.length, "byte"), counted(w.places, "place"), counted(w.transitions, "transition")];
-            buffer.truncate(w.length);
-            let says = format!("written {OUT}: {}\n", counts.join(", "));
-            Due { written: Some(buffer), ..Due::new("written", says) }
-        }
+        Ok(w) => written(&w, buffer),
         Err(n) => refused(n, "plan"),
     };
     let verb = if case.which == Cut::Safety { "safety" } else { "branching" };
     Asked::new(&[verb, "plan", OUT], &[("plan", &case.plan)], due).list(case.q.part())
+}
+
+/// The line of a cut, and the file.
+fn written(w: &Written, mut buffer: Vec<u8>) -> Due {
+    let counts = [counted(w.length, "byte"), counted(w.places, "place"), counted(w.transitions, "transition")];
+    buffer.truncate(w.length);
+    let says = format!("written {OUT}: {}\n", counts.join(", "));
+    Due { written: Some(buffer), ..Due::new("written", says) }
+}
+
+fn of_run(case: &RunCutCase) -> Asked {
+    let (plan, q, list) = (case.plan.part(), case.q.part(), case.list.part());
+    let (mut buffer, mut positions) = (vec![0; MAX_FILE], vec![0; MAX_LIST]);
+    let due = match run_cut(plan, q, list, &mut buffer, &mut positions) {
+        Ok(RunCut::Written(w, count)) => {
+            let mut due = written(&w, buffer);
+            let chosen: Vec<String> = positions[..count].iter().map(|i| format!(" {i}")).collect();
+            due.says += &format!("chosen{}\n", chosen.concat());
+            due
+        }
+        Ok(RunCut::Sticks { index, place, amount }) => {
+            let stuck = replayed(&Replayed::Stuck { index, place, amount }, plan, list, &[]);
+            Due::new(14, format!("refused 14: list: {}", stuck.says))
+        }
+        Err(n) => refused(n, "plan"),
+    };
+    let asked = Asked::new(&["run", "plan", OUT], &[("plan", &case.plan)], due);
+    let mut asked = asked.list(list);
+    asked.words.push("for".into());
+    asked.list_in(CRITERION, q)
 }
 
 fn of_shadow(case: &ShadowCase) -> Asked {
