@@ -4,6 +4,7 @@ use Rattle.replay.specs.Told.{ToldApart as Outcomes}
 use Rattle.shadow.specs.Told.{ToldApart as Shadows}
 use Rattle.together.specs.Told.{ToldApart as Takings}
 use Rattle.slice.specs.Kept.{ToldApart as Cuts}
+use Rattle.run_cut.specs.Told.{ToldApart as RunCuts}
 use Rattle.call_firing.specs.Effect.{ToldApart as Changes}
 
 -- no two answers of a call have the same numbers
@@ -12,5 +13,6 @@ pub record Pinned : Type 0 where
   pub replay : Outcomes
   pub shadow : Shadows
   pub safety-and-branching : Cuts
+  pub run-cut : RunCuts
   pub effect : Changes
   pub together : Takings
