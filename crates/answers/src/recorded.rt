@@ -3,7 +3,15 @@ use crate::cuts;
 use crate::lists;
 use terminal::phrases;
 use terminal::say;
+use terminal::whole;
 use words::refusal;
+
+fn saved(slice: &[u8], places: u32, transitions: u32, positions: &[u16], count: u32) {
+    if whole::save(3, slice) {
+        cuts::told(slice.len(), places, transitions);
+        lists::line(phrases::CHOSEN, positions, count as usize);
+    }
+}
 
 // The slice is the buffer's first bytes, the positions are the first `count` entries.
 pub fn written(
@@ -14,9 +22,8 @@ pub fn written(
     positions: &[u16],
     count: u32,
 ) {
-    if cuts::save(buffer, length, places, transitions) {
-        lists::line(phrases::CHOSEN, positions, count as usize);
-    }
+    let end = io::count(length as isize, buffer);
+    saved(&buffer[..end], places, transitions, positions, count);
 }
 
 pub fn sticks(list: &[u16], index: u32, place: u32, amount: u32) {

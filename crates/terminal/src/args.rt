@@ -40,7 +40,9 @@ pub fn write(i: usize) {
 }
 
 // The first argument from `from` to before `end` that is this word; `end` where there is none.
-pub fn first(word: &[u8], from: usize, end: usize) -> usize {
+pub fn first(word: &[u8], from: usize, end: usize) -> usize
+    ensures { λ r. ⌜ r ≤ end ⌝ }
+{
     let mut i = from;
     while i < end {
         if is(i, word) {
