@@ -57,8 +57,11 @@ mul-e-2 c = search needs
 shared-slice-read-e : tie.Need-shared-slice-read-e Inv-loop μ-loop
 shared-slice-read-e c = search needs
 
+-- an entry of either row
 cast-e : tie.Need-cast-e Inv-loop μ-loop
-cast-e c = let start = c .before .before .before .before .before in omega (arith, c .shared-slice-known4 .given (2 * start .args .p + 1))
+cast-e c =
+    let p = c .before .before .before .before .before .args .p in
+    omega (arith, c .shared-slice-known4 .given (2 * p + 0), c .shared-slice-known4 .given (2 * p + 1))
 
 loop-holds : tie.Need-loop-holds Inv-loop μ-loop
 loop-holds c = let start = c .before .before .before .before .before in along-none _ (start .args .h) _ _ _ (start .pre .1 .heads 1 (start .args .p) (omega arith) (start .pre .2))

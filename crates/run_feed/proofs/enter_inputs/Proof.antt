@@ -1,5 +1,5 @@
 use borrow.Author.Needs.{needs}
-use Prim.Native.Nat.{_+_, _*_, _-_}
+use Prim.Native.Nat.{_+_, _*_, _-_, _<_}
 use mathlib.Core.Path.{_≡_, sym, ap, _∙_}
 use native.Mathlib.Omega.{arith}
 use Rattle.net.specs.declared.Arc.{Arc}
@@ -37,6 +37,10 @@ sum : (c : Read) → let s = call (turn-of c) in let j = turn-of c .loop .j in
     c .arc .result .transition + c .arc .result .direction * 65536 ≡ transitionAt (s .args .file .now) (s .args .h .arcstart) j + directionAt (s .args .file .now) (s .args .h .arcstart) j * 65536
 sum c = ap (λ (a : Arc). a .transition + a .direction * 65536) (c .arc .ensures .0)
 
+-- an arc of the plan
+below : (c : Read) → let t = turn-of c in t .loop .j < call t .args .h .arcs
+below c = let t = turn-of c in omega (arith, c .before .loop-test .taken, call t .pre .1 .1 .within)
+
 loop-holds : tie.Need-loop-holds Inv-loop μ-loop
 loop-holds c =
     let start = c .before .before .before .before in
@@ -65,14 +69,14 @@ returns c =
     let read = c .before .before .before in
     let t = turn-of read in
     let s = call t in
-    inputs-stop _ (s .args .h) (s .pre .0 .0) _ _ (s .pre .1 .0) (s .pre .1 .1) _ _ _ _ _ (t .loop .inv) (read .before .loop-test .taken) (λ e. c .if1 .taken (sum read ∙ e))
+    inputs-stop _ (s .args .h) (s .pre .0 .0) _ _ (s .pre .1 .0) (s .pre .1 .1) _ _ _ _ _ (t .loop .inv) (below read) (λ e. c .if1 .taken (sum read ∙ e))
 
 enter-requires : tie.Need-enter-requires Inv-loop μ-loop
 enter-requires c κs =
     let read = read-of (c .before .before) in
     let t = turn-of read in
     let s = call t in
-    let good = good-at (s .args .file .now) (s .args .h) (s .pre .0 .0) (t .loop .j) (read .before .loop-test .taken) in (
+    let good = good-at (s .args .file .now) (s .args .h) (s .pre .0 .0) (t .loop .j) (below read) in (
       s .pre .0 .0,
       s .pre .0 .1,
       omega (arith, ap (λ (a : Arc). a .place) (read .arc .ensures .0), good .place),
@@ -93,7 +97,7 @@ loop-again c =
     let read = read-of else in
     let t = turn-of read in
     let s = call t in
-    inputs-more _ (s .args .h) (s .pre .0 .0) _ _ (s .pre .1 .0) (s .pre .1 .1) _ _ _ _ _ (t .loop .inv) (read .before .loop-test .taken)
+    inputs-more _ (s .args .h) (s .pre .0 .0) _ _ (s .pre .1 .0) (s .pre .1 .1) _ _ _ _ _ (t .loop .inv) (below read)
     (sym (sum read) ∙ else .if1 .left) _ _ _ (ap (λ (a : Arc). a .place) (read .arc .ensures .0)) (entered .enter .ensures)
 
 same-length-2 : tie.Need-same-length-2 Inv-loop μ-loop
@@ -102,7 +106,7 @@ same-length-2 c = c .before .loop .inv .entered .first-long
 returns-2 : tie.Need-returns-2 Inv-loop μ-loop
 returns-2 c =
     let s = call (c .before) in
-    inputs-all _ (s .args .h) (s .pre .0 .0) _ _ (s .pre .1 .0) (s .pre .1 .1) _ _ _ _ _ (c .before .loop .inv) (c .loop-test .left)
+    inputs-all _ (s .args .h) (s .pre .0 .0) _ _ (s .pre .1 .0) (s .pre .1 .1) _ _ _ _ _ (c .before .loop .inv) (omega (arith, c .loop-test .left))
 
 pub enter-inputs-spec : {M : Type 1} → statement M
 enter-inputs-spec =
