@@ -1,5 +1,6 @@
 use borrow.Author.Needs.{needs}
 use mathlib.Core.Path.{sym, ap, _∙_}
+use native.Mathlib.Omega.{arith}
 use lib.ListN.{length}
 use Rattle.slice.specs.Kept.{cutNumbers}
 use Rattle.run_cut.proofs.Outcomes.{count-few, no-entries, no-room, whole}
@@ -20,7 +21,7 @@ written-of c = c .before .before .before .before
 returns : tie.Need-returns
 returns c =
     let s = call (c .before) in
-    no-entries _ (s .args .h) _ _ _ (s .args .kept) _ (s .pre .0) (s .pre .1) _ _ (c .if1 .taken)
+    no-entries _ (s .args .h) _ _ _ (s .args .kept) _ (s .pre .0) (s .pre .1) _ _ (omega (arith, c .if1 .taken))
 
 write-requires : tie.Need-write-requires
 write-requires c κs = let s = call (c .before .before) in (s .pre .0 .sound, s .pre .1 .within)
