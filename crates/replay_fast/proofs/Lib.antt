@@ -1,3 +1,4 @@
+pub mod Signs
+pub mod Filling
 pub mod Moving
-pub mod Raising
 pub mod Marching

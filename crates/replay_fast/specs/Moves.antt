@@ -1,6 +1,6 @@
--- One number for each arc that says what the arc does to its place, and entries that stand 2^46 above their tokens.
+-- What each arc adds to its place, as one number, and entries that wrap below 0 in the middle of a firing.
 use Prim.Native.Nat.{ℕ, _+_, _*_, _-_, _%_, _^_, _≤_, _<_}
-use mathlib.Core.List.{List, map}
+use mathlib.Core.List.{List}
 use mathlib.Core.Path.{_≡_}
 use lib.Dec.{eqb}
 use lib.ListN.{length, getD}
@@ -9,82 +9,72 @@ use Rattle.file.specs.Layout.{arcAt}
 use Rattle.file.specs.Facts.{Sound}
 use Rattle.file.specs.declared.Header.{Header}
 use Rattle.arcs_starts.specs.Table.{choose}
-use Rattle.arcs_column.specs.Ways.{sumOn}
-use Rattle.replay_steps.specs.Steps.{Underway}
+use Rattle.arcs_column.specs.Ways.{placeAt, sumOn}
 
--- the move of an arc: its place, and below that what it adds, modulo 2 ^ 54; an input arc takes its weight
-abbrev pub moveOf : ℕ → ℕ → ℕ → ℕ
-moveOf direction weight place = place * 18014398509481984 + choose (eqb direction 0) (18014398509481984 - weight) weight
+-- what an arc adds to its place, modulo 2 ^ 32; an input arc takes its weight
+abbrev pub changeOf : ℕ → ℕ → ℕ
+changeOf direction weight = choose (eqb direction 0) (4294967296 - weight) weight
 
--- the fields of an arc of a file that was read
-pub record MoveFits (w q : ℕ) : Type 0 where
+-- the weight of an arc of a file that was read
+pub record Weighs (w : ℕ) : Type 0 where
   pub some : 1 ≤ w
-  pub weight : w < 65536
-  pub place : q < 1024
+  pub below : w < 65536
 
--- the move of arc j of those that start at `start`
-abbrev pub moveFrom : List ℕ → ℕ → ℕ → ℕ
-moveFrom s start j = moveOf (arcAt s (start + 8 * j) .direction) (arcAt s (start + 8 * j) .weight) (arcAt s (start + 8 * j) .place)
+-- r is modulo 2 ^ 64 what c is modulo 2 ^ 32, with bit 31 as the sign
+pub record Signed (c r : ℕ) : Type 0 where
+  pub gives : c < 2147483648 → r ≡ c
+  pub takes : 2147483648 ≤ c → r ≡ c + 18446744069414584320
 
--- a file that was read, and room for its moves
-pub record Readable (s : List ℕ) (h : Header) (moves : List ℕ) : Type 0 where
+-- what arc j of those that start at `start` adds to its place
+abbrev pub changeAt : List ℕ → ℕ → ℕ → ℕ
+changeAt s start j = changeOf (arcAt s (start + 8 * j) .direction) (arcAt s (start + 8 * j) .weight)
+
+-- a file that was read, and room for an entry an arc in both tables
+pub record Readable (s : List ℕ) (h : Header) (places changes : List ℕ) : Type 0 where
   pub sound : Sound s h
-  pub long : h .arcs ≤ length moves
+  pub room : h .arcs ≤ length places
+  pub long : h .arcs ≤ length changes
 
--- the moves of all arcs
-pub record MovesOf (s : List ℕ) (h : Header) (moves : List ℕ) : Type 0 where
-  pub long : h .arcs ≤ length moves
-  pub at : (j : ℕ) → j < h .arcs → getD moves j 0 ≡ moveFrom s (h .arcstart) j
+-- the places of all arcs, and what they add
+pub record MovesOf (s : List ℕ) (h : Header) (places changes : List ℕ) : Type 0 where
+  pub room : h .arcs ≤ length places
+  pub long : h .arcs ≤ length changes
+  pub place : (j : ℕ) → j < h .arcs → getD places j 0 ≡ placeAt s (h .arcstart) j
+  pub change : (j : ℕ) → j < h .arcs → getD changes j 0 ≡ changeAt s (h .arcstart) j
 
--- the part of an entry below the place
-abbrev pub low : ℕ → ℕ
-low v = v % 18014398509481984
+-- an entry counted from 2 ^ 63 below 0 on: the tokens and 2 ^ 63, and less than 2 ^ 63 where it has wrapped
+abbrev pub lift : ℕ → ℕ
+lift v = (v + 9223372036854775808) % 18446744073709551616
 
--- that part of the entry of p
-abbrev pub lowAt : List ℕ → ℕ → ℕ
-lowAt m p = low (getD m p 0)
+-- the entry of p so
+abbrev pub liftAt : List ℕ → ℕ → ℕ
+liftAt m p = lift (getD m p 0)
 
 -- the arcs from..to, inputs first, can move the entries of m, none of which leaves its room
-pub record Movable (s : List ℕ) (h : Header) (moves : List ℕ) (from to : ℕ) (m : List ℕ) : Type 0 where
+pub record Movable (s : List ℕ) (h : Header) (places changes : List ℕ) (from to : ℕ) (m : List ℕ) : Type 0 where
   pub sound : Sound s h
   pub bytes : Bytes s
-  pub moves-of : MovesOf s h moves
+  pub moves-of : MovesOf s h places changes
   pub rising : from ≤ to
   pub within : to ≤ h .arcs
-  pub places : length m ≡ h .places
+  pub held : length m ≡ h .places
   pub small : (d p : ℕ) → sumOn d s (h .arcstart) p to ≤ sumOn d s (h .arcstart) p from + 268435456
   pub inputs : (j p : ℕ) → from ≤ j → j < to → arcAt s (h .arcstart + 8 * j) .direction ≡ 0 → sumOn 1 s (h .arcstart) p (j + 1) ≡ sumOn 1 s (h .arcstart) p from
-  pub least : (p : ℕ) → p < length m → 35184372088832 ≤ lowAt m p
-  pub most : (p : ℕ) → p < length m → lowAt m p < 9007199254740992
+  pub least : (p : ℕ) → p < length m → 4611686018427387904 ≤ liftAt m p
+  pub most : (p : ℕ) → p < length m → liftAt m p < 13835058055282163712
+  pub fits : (p : ℕ) → getD m p 0 < 18446744073709551616
 
 -- each entry has lost the weights of the arcs from..to in direction d, and got those in direction g
 pub record Moved (d g : ℕ) (s : List ℕ) (h : Header) (from to : ℕ) (was is : List ℕ) : Type 0 where
   pub long : length is ≡ length was
-  pub at : (p : ℕ) → p < length was → lowAt is p + sumOn d s (h .arcstart) p to + sumOn g s (h .arcstart) p from ≡ lowAt was p + sumOn g s (h .arcstart) p to + sumOn d s (h .arcstart) p from
+  pub at : (p : ℕ) → p < length was → liftAt is p + sumOn d s (h .arcstart) p to + sumOn g s (h .arcstart) p from ≡ liftAt was p + sumOn g s (h .arcstart) p to + sumOn d s (h .arcstart) p from
+  pub fits : (p : ℕ) → getD is p 0 < 18446744073709551616
 
--- every entry stands at 2 ^ 46 or above
-abbrev pub Lifted : List ℕ → Type 0
-Lifted m = (p : ℕ) → p < length m → 70368744177664 ≤ lowAt m p
+-- no entry has wrapped
+abbrev pub Whole : List ℕ → Type 0
+Whole m = (p : ℕ) → p < length m → 9223372036854775808 ≤ liftAt m p
 
--- the arcs from..to have moved the entries, and where the answer is not 0 no input took more than the tokens
+-- the arcs from..to have moved the entries, and where bit 63 of the answer is 0 no input took more than the tokens
 pub record Shifted (s : List ℕ) (h : Header) (from to : ℕ) (was is : List ℕ) (r : ℕ) : Type 0 where
   pub moved : Moved 0 1 s h from to was is
-  pub enough : (r ≡ 0 → ⊥) → Lifted was → (p : ℕ) → p < length was → 70368744177664 + sumOn 0 s (h .arcstart) p to ≤ lowAt was p + sumOn 0 s (h .arcstart) p from
-
--- the tokens of each entry
-abbrev pub lowered : List ℕ → List ℕ
-lowered m = map (λ v. v % 18014398509481984 - 70368744177664) m
-
--- no more tokens than a file can give
-abbrev pub Plain : List ℕ → Type 0
-Plain m = (p : ℕ) → getD m p 0 < 2 ^ 32
-
--- the entries stand 2 ^ 46 above the tokens
-pub record Raised (was is : List ℕ) : Type 0 where
-  pub lifted : Lifted is
-  pub same : lowered is ≡ was
-
--- the first k firings are done, on entries that stand 2 ^ 46 above their tokens
-pub record Marched (s : List ℕ) (h : Header) (ts was is : List ℕ) (k : ℕ) : Type 0 where
-  pub lifted : Lifted is
-  pub underway : Underway s h ts (lowered was) (lowered is) k
+  pub enough : r < 9223372036854775808 → Whole was → (p : ℕ) → p < length was → 9223372036854775808 + sumOn 0 s (h .arcstart) p to ≤ liftAt was p + sumOn 0 s (h .arcstart) p from

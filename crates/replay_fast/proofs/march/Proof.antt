@@ -1,19 +1,19 @@
--- The entries stand above their tokens, and the first k firings are done (`Marched`).
+-- The first k firings are done (`Underway`).
 use borrow.Author.Needs.{needs}
 use Prim.Native.Nat.{_-_}
 use native.Mathlib.Omega.{arith}
 use lib.ListN.{length}
-use Rattle.replay_fast.specs.Moves.{Marched}
-use Rattle.replay_steps.proofs.Underway.{Tabulated, tabulated}
-use Rattle.replay_fast.proofs.Marching.{marched-none, marched-long, Step, step}
+use Rattle.replay_steps.specs.Steps.{Underway}
+use Rattle.replay_steps.proofs.Underway.{Tabulated, tabulated, underway-begin}
+use Rattle.replay_fast.proofs.Marching.{Step, step}
 use Rattle.replay_fast.proofs.march.Statement.{statement}
 use Rattle.replay_fast.proofs.march.Tie as tie
 
 abbrev Inv-loop : tie.InvT-loop
-Inv-loop file h moves table list marking₀ count k₀ marking k = Marched file h list marking₀ marking k
+Inv-loop file h places changes table list marking₀ count k₀ marking k = Underway file h list marking₀ marking k
 
 abbrev μ-loop : tie.MeasureT-loop
-μ-loop file h moves table list marking₀ count k₀ marking k = length list - k
+μ-loop file h places changes table list marking₀ count k₀ marking k = length list - k
 
 -- ---- the states: the call, the head of a firing
 
@@ -21,24 +21,22 @@ abbrev Firing : Type 0
 Firing = tie.At-loop Inv-loop μ-loop
 
 abbrev call : Firing → tie.Start Inv-loop μ-loop
-call c = c .before .before .before .before .before .before
+call c = c .before .before .before .before .before .before .before
 
 -- the transition listed at k, in the table
-listed : (c : tie.After-shared-slice-known5 Inv-loop μ-loop) → let s = call (c .before .before) in Tabulated (s .args .h) (s .args .table .now) (s .args .list .now) (c .before .before .loop .k)
-listed c = tabulated (c .before .before .loop .inv .underway) (c .before .loop-test .taken) (call (c .before .before) .pre .0)
+listed : (c : tie.After-shared-slice-known6 Inv-loop μ-loop) → let s = call (c .before .before) in Tabulated (s .args .h) (s .args .table .now) (s .args .list .now) (c .before .before .loop .k)
+listed c = tabulated (c .before .before .loop .inv) (c .before .loop-test .taken) (call (c .before .before) .pre .0)
 
 -- its firing, by the arcs that the table tells
 step-at : (c : tie.After-entry2 Inv-loop μ-loop) → let x = c .before .before .before .before in let s = call x in
-    Step (s .args .file .now) (s .args .h) (s .args .moves .now) (s .args .list .now) (s .args .marking .now) (x .loop .marking) (x .loop .k) (c .before .entry .result) (c .entry2 .result)
+    Step (s .args .file .now) (s .args .h) (s .args .places .now) (s .args .changes .now) (s .args .list .now) (s .args .marking .now) (x .loop .marking) (x .loop .k) (c .before .entry .result) (c .entry2 .result)
 step-at c =
     let x = c .before .before .before .before in
     let pre = call x .pre in
-    step (pre .0) (pre .1 .0) (x .loop .inv) (c .before .before .before .loop-test .taken) (c .before .entry .ensures .0) (c .entry2 .ensures .0)
+    step (pre .0) (pre .1 .1) (x .loop .inv) (c .before .before .before .loop-test .taken) (c .before .entry .ensures .0) (c .entry2 .ensures .0)
 
 loop-holds : tie.Need-loop-holds Inv-loop μ-loop
-loop-holds c =
-    let pre = c .before .before .before .before .before .pre in
-    marched-none (pre .1 .1 .0) (pre .1 .1 .1)
+loop-holds c = underway-begin (c .before .before .before .before .before .before .pre .1 .0)
 
 mul-t : tie.Need-mul-t Inv-loop μ-loop
 mul-t c = search needs
@@ -47,7 +45,7 @@ shared-slice-read-t : tie.Need-shared-slice-read-t Inv-loop μ-loop
 shared-slice-read-t c = search needs
 
 cast-t : tie.Need-cast-t Inv-loop μ-loop
-cast-t c = omega (arith, c .shared-slice-known5 .given (c .before .before .loop .k))
+cast-t c = omega (arith, c .shared-slice-known6 .given (c .before .before .loop .k))
 
 mul-entry : tie.Need-mul-entry Inv-loop μ-loop
 mul-entry c = omega (arith, listed c .known, listed c .few)
@@ -78,7 +76,7 @@ same-length : tie.Need-same-length Inv-loop μ-loop
 same-length c =
     let back = c .before .before in
     let shift = back .before .before .before .before .before in
-    marched-long (step-at (shift .before .before) .undone _ _ _ (shift .shift .ensures) (back .back .ensures))
+    step-at (shift .before .before) .undone _ _ _ (shift .shift .ensures) (back .back .ensures) .long
 
 returns : tie.Need-returns Inv-loop μ-loop
 returns c =
@@ -91,7 +89,7 @@ returns c =
 add-k : tie.Need-add-k Inv-loop μ-loop
 add-k c =
     let x = c .before .before .before .before .before .before .before .before in
-    omega (arith, x .loop-test .taken, x .before .loop .inv .underway .listed .short)
+    omega (arith, x .loop-test .taken, x .before .loop .inv .listed .short)
 
 loop-less : tie.Need-loop-less Inv-loop μ-loop
 loop-less c = omega (arith, c .before .before .before .before .before .before .before .before .loop-test .taken)
@@ -99,10 +97,10 @@ loop-less c = omega (arith, c .before .before .before .before .before .before .b
 loop-again : tie.Need-loop-again Inv-loop μ-loop
 loop-again c =
     let shift = c .before .before .before in
-    step-at (shift .before .before) .fired _ _ (shift .shift .ensures) (c .if1 .left)
+    step-at (shift .before .before) .fired _ _ (shift .shift .ensures) (omega (arith, c .if1 .left))
 
 same-length-2 : tie.Need-same-length-2 Inv-loop μ-loop
-same-length-2 c = marched-long (c .before .loop .inv)
+same-length-2 c = c .before .loop .inv .long
 
 returns-2 : tie.Need-returns-2 Inv-loop μ-loop
 returns-2 c = c .before .loop .inv

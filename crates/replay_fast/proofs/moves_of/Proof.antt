@@ -1,32 +1,49 @@
+-- Both tables are right for the arcs so far.
 use borrow.Author.Needs.{needs}
-use Prim.Native.Nat.{ℕ, _+_, _-_, _*_, _≤_, _<_}
-use mathlib.Core.Path.{_≡_, refl, ap, _∙_}
+use Prim.Native.Nat.{_+_, _-_, _*_, _≤_, _<_}
+use mathlib.Core.Path.{ap, _∙_}
 use native.Mathlib.Omega.{arith}
-use borrow.Author.Count.{below-none, below-more}
-use lib.ListN.{length, getD, length-set}
-use lib.Seq.{getD-set-same, getD-set-other}
+use lib.ListN.{length}
 use Rattle.net.specs.declared.Arc.{Arc}
 use Rattle.file.proofs.Rows.{good-at}
-use Rattle.replay_fast.specs.Moves.{moveOf, moveFrom}
+use Rattle.arcs_column.specs.Ways.{placeAt}
+use Rattle.replay_fast.specs.Moves.{changeOf, changeAt}
+use Rattle.replay_fast.proofs.Filling.{Filled, filled-none, filled-next}
 use Rattle.replay_fast.proofs.moves_of.Statement.{statement}
 use Rattle.replay_fast.proofs.moves_of.Tie as tie
 
 abbrev Inv-loop : tie.InvT-loop
-Inv-loop file moves₀ arcs start j₀ moves j = (j ≤ arcs) × (length moves ≡ length moves₀) × ((i : ℕ) → i < j → getD moves i 0 ≡ moveFrom file start i)
+Inv-loop file places₀ changes₀ arcs start j₀ places changes j = (j ≤ arcs) × Filled (placeAt file start) places₀ places j × Filled (changeAt file start) changes₀ changes j
 
 abbrev μ-loop : tie.MeasureT-loop
-μ-loop file moves₀ arcs start j₀ moves j = arcs - j
+μ-loop file places₀ changes₀ arcs start j₀ places changes j = arcs - j
 
-fit : (c : tie.In-loop Inv-loop μ-loop) → c .before .before .before .before .args .h .arcstart + 8 * c .before .loop .j + 8 ≤ length (c .before .before .before .before .args .file .now)
+-- ---- the states: the call, the head of a turn
+
+abbrev call : tie.At-loop Inv-loop μ-loop → tie.Start Inv-loop μ-loop
+call c = c .before .before .before .before
+
+abbrev turn-of : tie.After-struct-known Inv-loop μ-loop → tie.In-loop Inv-loop μ-loop
+turn-of c = c .before .before
+
+-- ---- an arc of the file, with room for it in both tables
+
+fit : (c : tie.In-loop Inv-loop μ-loop) → call (c .before) .args .h .arcstart + 8 * c .before .loop .j + 8 ≤ length (call (c .before) .args .file .now)
 fit c =
-    let p = c .before .before .before .before .pre .sound .placed in
+    let p = call (c .before) .pre .sound .placed in
     omega (arith, c .loop-test .taken, p .arcsFit, p .originsFit)
 
+inside : (c : tie.In-loop Inv-loop μ-loop) → (c .before .loop .j < 4096) × (c .before .loop .j < length (call (c .before) .args .places .now)) × (c .before .loop .j < length (call (c .before) .args .changes .now))
+inside c =
+    let pre = call (c .before) .pre in
+    let l = c .loop-test .taken in
+    (omega (arith, pre .sound .placed .arcs, l), omega (arith, pre .room, l), omega (arith, pre .long, l))
+
 loop-holds : tie.Need-loop-holds Inv-loop μ-loop
-loop-holds c = (omega arith, refl, below-none _)
+loop-holds c = (omega arith, filled-none, filled-none)
 
 mul-arc : tie.Need-mul-arc Inv-loop μ-loop
-mul-arc c = omega (arith, c .before .before .before .before .pre .sound .placed .arcs, c .loop-test .taken)
+mul-arc c = omega (arith, call (c .before) .pre .sound .placed .arcs, c .loop-test .taken)
 
 add-arc : tie.Need-add-arc Inv-loop μ-loop
 add-arc c = omega (arith, fit c)
@@ -34,22 +51,27 @@ add-arc c = omega (arith, fit c)
 arc-requires : tie.Need-arc-requires Inv-loop μ-loop
 arc-requires c κs = omega (arith, fit c)
 
-move-of-requires : tie.Need-move-of-requires Inv-loop μ-loop
-move-of-requires c κs =
-    let start = c .before .before .before .before .before in
-    let e = c .arc .ensures .0 in
-    let good = good-at (start .args .file .now) (start .args .h) (start .pre .sound) (c .before .before .loop .j) (c .before .loop-test .taken) in
-    record {
-      some = omega (arith, ap (λ (a : Arc). a .weight) e, good .weight);
-      weight = c .arc .ensures .1 .weight;
-      place = omega (arith, ap (λ (a : Arc). a .place) e, good .place, start .pre .sound .placed .places);
-    }
+cast-places : tie.Need-cast-places Inv-loop μ-loop
+cast-places c = omega (arith, c .before .arc .ensures .1 .place)
 
-mul-moves : tie.Need-mul-moves Inv-loop μ-loop
-mul-moves c = omega (arith, c .before .before .before .before .before .before .pre .sound .placed .arcs, c .before .before .loop-test .taken)
+mul-places : tie.Need-mul-places Inv-loop μ-loop
+mul-places c = omega (arith, inside (turn-of c) .0)
 
-slice-write-moves : tie.Need-slice-write-moves Inv-loop μ-loop
-slice-write-moves c = omega (arith, c .before .before .before .before .before .before .pre .long, c .before .before .before .loop .inv .1, c .before .before .loop-test .taken)
+slice-write-places : tie.Need-slice-write-places Inv-loop μ-loop
+slice-write-places c = omega (arith, inside (turn-of c) .1, turn-of c .before .loop .inv .1 .long)
+
+change-of-requires : tie.Need-change-of-requires Inv-loop μ-loop
+change-of-requires c κs =
+    let t = turn-of c in
+    let s = call (t .before) in
+    let good = good-at (s .args .file .now) (s .args .h) (s .pre .sound) (t .before .loop .j) (t .loop-test .taken) in
+    record { some = omega (arith, ap (λ (a : Arc). a .weight) (c .before .arc .ensures .0), good .weight); below = c .before .arc .ensures .1 .weight }
+
+mul-changes : tie.Need-mul-changes Inv-loop μ-loop
+mul-changes c = omega (arith, inside (turn-of (c .before)) .0)
+
+slice-write-changes : tie.Need-slice-write-changes Inv-loop μ-loop
+slice-write-changes c = let t = turn-of (c .before) in omega (arith, inside t .2, t .before .loop .inv .2 .long)
 
 add-j : tie.Need-add-j Inv-loop μ-loop
 add-j c = search needs
@@ -59,24 +81,31 @@ loop-less c = search needs
 
 loop-again : tie.Need-loop-again Inv-loop μ-loop
 loop-again c =
-    let at = c .before .before .before .loop in
-    let l = c .before .before .loop-test .taken in
-    let m = c .move-of .result in (
-      omega (arith, l),
-      length-set (at .moves) (at .j) m ∙ at .inv .1,
-      below-more _ (at .j)
-          (λ i u. getD-set-other (at .moves) (at .j) i m 0 (λ z. omega arith) ∙ at .inv .2 i u)
-          (getD-set-same (at .moves) (at .j) m 0 (omega (arith, at .inv .1, l, c .before .before .before .before .before .before .pre .long)) ∙ c .move-of .ensures ∙ ap (λ (a : Arc). moveOf (a .direction) (a .weight) (a .place)) (c .before .arc .ensures .0)),
+    let t = turn-of (c .before) in
+    let inv = t .before .loop .inv in
+    let arc = c .before .before .arc in (
+      omega (arith, t .loop-test .taken),
+      filled-next (inv .1) (inside t .1) (arc .result .place) (ap (λ (a : Arc). a .place) (arc .ensures .0)),
+      filled-next (inv .2) (inside t .2) (c .change-of .result) (c .change-of .ensures ∙ ap (λ (a : Arc). changeOf (a .direction) (a .weight)) (arc .ensures .0)),
     )
 
 same-length : tie.Need-same-length Inv-loop μ-loop
-same-length c = c .before .loop .inv .1
+same-length c = c .before .loop .inv .1 .long
+
+same-length-2 : tie.Need-same-length-2 Inv-loop μ-loop
+same-length-2 c = c .before .loop .inv .2 .long
 
 returns : tie.Need-returns Inv-loop μ-loop
-returns c = record {
-  long = omega (arith, c .before .loop .inv .1, c .before .before .before .before .pre .long);
-  at = λ j l. c .before .loop .inv .2 j (omega (arith, l, c .loop-test .left));
-}
+returns c =
+    let inv = c .before .loop .inv in
+    let pre = call (c .before) .pre in
+    let e = c .loop-test .left in
+    record {
+      room = omega (arith, inv .1 .long, pre .room);
+      long = omega (arith, inv .2 .long, pre .long);
+      place = λ j l. inv .1 .at j (omega (arith, l, e));
+      change = λ j l. inv .2 .at j (omega (arith, l, e));
+    }
 
 pub moves-of-spec : {M : Type 1} → statement M
 moves-of-spec =
@@ -88,11 +117,15 @@ moves-of-spec =
     mul-arc
     add-arc
     arc-requires
-    move-of-requires
-    mul-moves
-    slice-write-moves
+    cast-places
+    mul-places
+    slice-write-places
+    change-of-requires
+    mul-changes
+    slice-write-changes
     add-j
     loop-less
     loop-again
     same-length
+    same-length-2
     returns)
