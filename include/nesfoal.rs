@@ -17,6 +17,17 @@ pub const NESFOAL_MARKING_ROOM: usize = NESFOAL_MAX_PLACES;
 pub const NESFOAL_SHADOW_ROOM: usize = NESFOAL_MAX_LIST_ENTRIES;
 pub const NESFOAL_POSITIONS_ROOM: usize = NESFOAL_MAX_LIST_ENTRIES;
 
+pub const NESFOAL_STACK_CHECK: usize = 32768;
+pub const NESFOAL_STACK_VERDICT: usize = 30720;
+pub const NESFOAL_STACK_EFFECT: usize = 1024;
+pub const NESFOAL_STACK_REPLAY: usize = 33792;
+pub const NESFOAL_STACK_SAFETY: usize = 27648;
+pub const NESFOAL_STACK_BRANCHING: usize = 27648;
+pub const NESFOAL_STACK_RUN_CUT: usize = 45056;
+pub const NESFOAL_STACK_SHADOW: usize = 45056;
+pub const NESFOAL_STACK_TOGETHER: usize = 1024;
+pub const NESFOAL_STACK_ARCS: usize = 1024;
+
 pub const NESFOAL_DONE: u32 = 0;
 pub const NESFOAL_ACCEPTED: u32 = 0;
 pub const NESFOAL_REFUSED_LENGTH: u32 = 1;
