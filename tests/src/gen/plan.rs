@@ -1,12 +1,17 @@
-//! Good plans of many shapes: mostly tiny, some larger, a few at the limits.
+//! Good plans of many shapes: mostly tiny, some larger, a few at the limits; or, with NESFOAL_SIZES in the environment, every other one
+//! of a size at which the library's tables change, or near it.
 
 use super::draft::{Draft, DraftArc};
 use crate::net::{MAX_ARCS, MAX_FILE, MAX_PLACES, MAX_TRANSITIONS};
 use crate::rng::Rng;
+use std::sync::OnceLock;
 
 /// Any good plan, with or without a note.
 pub fn plan(rng: &mut Rng) -> Draft {
+    static SIZES: OnceLock<bool> = OnceLock::new();
+    let sizes = *SIZES.get_or_init(|| std::env::var_os("NESFOAL_SIZES").is_some());
     let mut draft = match rng.below(1_000) {
+        0..=499 if sizes => of_a_size(rng),
         0..=2 => limit_plan(rng),
         3..=9 => large(rng),
         10..=69 => {
@@ -189,6 +194,33 @@ fn large(rng: &mut Rng) -> Draft {
             Draft::plan(style.markings(rng, places), transitions, arcs)
         }
     }
+}
+
+/// As many places, transitions and arcs as the small, middle or large tables have, one more or less, or anything between.
+fn of_a_size(rng: &mut Rng) -> Draft {
+    fn near(rng: &mut Rng, most: usize) -> usize {
+        let size = most >> *rng.pick(&[0, 3, 6]);
+        match rng.below(4) {
+            0 => size,
+            1 => (size + 1).min(most),
+            2 => size - 1,
+            _ => rng.range(1, size),
+        }
+    }
+    let (places, transitions, arcs) = (near(rng, MAX_PLACES), near(rng, MAX_TRANSITIONS), near(rng, MAX_ARCS));
+    let style = Style::any(rng);
+    // Within a block of places and transitions, so that cuts keep a part; or all over.
+    let blocks = *rng.pick(&[1, 1, 4, 16]);
+    let mut keys: Vec<(usize, u8, usize)> = (0..arcs)
+        .map(|_| {
+            let block = rng.below(blocks);
+            let one_of = |rng: &mut Rng, n: usize| (rng.below(n.div_ceil(blocks)) * blocks + block).min(n - 1);
+            (one_of(rng, transitions), rng.below(2) as u8, one_of(rng, places))
+        })
+        .collect();
+    keys.sort();
+    let arcs = keys.iter().map(|&(t, d, p)| DraftArc::new(t, d, p, style.weight(rng))).collect();
+    Draft::plan(style.markings(rng, places), transitions, arcs)
 }
 
 /// Transition t moves a token along a chain of places, numbered forwards or backwards.
