@@ -1,3 +1,4 @@
+pub mod Beside
 pub mod Weights
 pub mod Ends
 pub mod Linking

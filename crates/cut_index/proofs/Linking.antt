@@ -589,6 +589,7 @@ module _ (s : List ℕ) (h : Header) (sound : Sound s h) (before after head next
       record {
         stands = record { some = l; few = sound .placed .arcs; fit = omega (arith, sound .placed .arcsFit, sound .placed .originsFit); short = sound .placed .short };
         behind = omega (arith, sound .placed .arcsFit, sound .placed .originsFit);
+        zeros = sound .zeros;
         begun = omega (arith, sound .placed .arcs, f, start-is .within);
         head-long = omega (arith, x .head-long);
         next-long = omega (arith, x .next-long);

@@ -3,6 +3,7 @@ use Prim.Native.Nat.{ℕ, _+_, _*_, _-_, _/_, _%_, _≤_, _<_}
 use mathlib.Core.List.{List}
 use mathlib.Core.Path.{_≡_}
 use lib.ListN.{length, getD, set}
+use Rattle.file.specs.Word.{byteAt}
 use Rattle.arcs_groups.specs.Groups.{Stands, GroupEnd, runWeight}
 use Rattle.cut_rows.specs.Rows.{entryOf}
 
@@ -30,10 +31,15 @@ pub record Linked (s : List ℕ) (start arcs j from p d : ℕ) (head next head�
   pub back : (getD head (2 * p + d) 0 / 65536 ≡ from + 1 → ⊥) → getD head (2 * p) 0 / 65536 ≡ from + 1 → Returned s start arcs j from p (arcIn (getD head (2 * p) 0)) head next head′ next′ r
   pub new : (getD head (2 * p + d) 0 / 65536 ≡ from + 1 → ⊥) → (getD head (2 * p) 0 / 65536 ≡ from + 1 → ⊥) → Fronted (2 * p + d) j from head next head′ next′ × (r ≡ j + 1)
 
+-- each of the first n arcs has its zero byte
+abbrev pub ZeroBytes : List ℕ → ℕ → ℕ → Type 0
+ZeroBytes s start n = (i : ℕ) → i < n → byteAt s (start + 8 * i + 3) ≡ 0
+
 -- the arcs stand in the file, and there is room for arc j; the rows of p start with arcs up to it, of transitions up to its own
 pub record Room (s : List ℕ) (start arcs j from p : ℕ) (head next : List ℕ) : Type 0 where
   pub stands : Stands s start j arcs
   pub behind : start + 8 * arcs + 8 ≤ length s
+  pub zeros : ZeroBytes s start arcs
   pub begun : from ≤ 4096
   pub head-long : 2 * p + 1 < length head
   pub next-long : j < length next

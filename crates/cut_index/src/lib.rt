@@ -1,16 +1,18 @@
 // The arcs of each place that lower it, and those that raise it, linked by groups of parallel arcs: from the last of them to the one before it.
 ghost use mathlib.Core.Path.{_≡_};
-ghost use Prim.Native.Nat.{ℕ, _*_, _%_, _<_, _≤_};
+ghost use Prim.Native.Nat.{ℕ, _+_, _*_, _%_, _<_, _≤_};
 ghost use lib.Dec.{eqb};
 ghost use lib.ListN.{length, getD};
 ghost use Rattle.file.specs.Facts.{Sound};
 ghost use Rattle.arcs_starts.specs.Table.{choose};
 ghost use Rattle.cut_rows.specs.Rows.{Rows, entryOf};
-ghost use Rattle.cut_index.specs.Steps.{arcIn, Fronted, Returned, Linked, Room};
-use arcs_groups::alone;
+ghost use mathlib.Core.Bool.{true};
+ghost use Rattle.arcs_groups.specs.Groups.{GroupEnd, Stands};
+ghost use Rattle.cut_index.specs.Steps.{arcIn, Fronted, Returned, Linked, Room, ZeroBytes};
 use arcs_groups::group;
 use file::Header;
 use file::word::get16;
+use file::word::get32;
 
 // The start of the arcs of transition t: j where t is a new one.
 fn begin(t: usize, last: usize, from: usize, j: usize) -> usize
@@ -64,6 +66,48 @@ fn link_groups(
     given.end
 }
 
+// The same where several arcs take, and where several give back: apart, so that what the rare call needs in memory is made ready there alone.
+fn several_taken(
+    file: &[u8],
+    start: usize,
+    arcs: usize,
+    j: usize,
+    from: usize,
+    p: usize,
+    head: &mut [u32],
+    next: &mut [u32],
+) -> usize
+    requires { ⌜ Room (now file) start arcs j from p (now head) (now next) × (0 < getD (now head) (2 * p) 0 % 65536) ⌝ }
+    ensures { λ r. ⌜ Returned (now (file .entry)) start arcs j from p (arcIn (getD (now (head .entry)) (2 * p) 0)) (now (head .entry)) (now (next .entry)) (now (head .exit)) (now (next .exit)) r ⌝ }
+{
+    link_groups(file, start, arcs, j, from, p, head, next)
+}
+
+fn several_given(
+    file: &[u8],
+    start: usize,
+    arcs: usize,
+    j: usize,
+    from: usize,
+    p: usize,
+    head: &mut [u32],
+    next: &mut [u32],
+) -> usize
+    requires { ⌜ Room (now file) start arcs j from p (now head) (now next) × (0 < getD (now head) (2 * p) 0 % 65536) ⌝ }
+    ensures { λ r. ⌜ Returned (now (file .entry)) start arcs j from p (arcIn (getD (now (head .entry)) (2 * p) 0)) (now (head .entry)) (now (next .entry)) (now (head .exit)) (now (next .exit)) r ⌝ }
+{
+    link_groups(file, start, arcs, j, from, p, head, next)
+}
+
+// Is the arc after arc i, which takes, at another place or in the other direction? Then of the arcs up to arc j arc i is a group of its own.
+fn single(file: &[u8], start: usize, i: usize, j: usize) -> bool
+    requires { ⌜ Stands (now file) start i j × (start + 8 * j + 8 ≤ length (now file)) × ZeroBytes (now file) start j ⌝ }
+    ensures { λ r. ⌜ (r ≡ true → GroupEnd (now (file .entry)) start i j (i + 1)) ⌝ }
+{
+    let at = start + 8 * i;
+    get32(file, at + 10) != get32(file, at + 2)
+}
+
 // The same; mostly both groups have one arc. Behind the last arc there are bytes too: what they are does not matter.
 fn link_back(
     file: &[u8],
@@ -79,11 +123,11 @@ fn link_back(
     ensures { λ r. ⌜ Returned (now (file .entry)) start arcs j from p (arcIn (getD (now (head .entry)) (2 * p) 0)) (now (head .entry)) (now (next .entry)) (now (head .exit)) (now (next .exit)) r ⌝ }
 {
     let i = (head[2 * p] % 65536 - 1) as usize;
-    if !alone(file, start, i, j) {
-        return link_groups(file, start, arcs, j, from, p, head, next);
+    if !single(file, start, i, j) {
+        return several_taken(file, start, arcs, j, from, p, head, next);
     }
     if get16(file, start + 8 * j + 12) == get16(file, start + 8 * j + 4) {
-        return link_groups(file, start, arcs, j, from, p, head, next);
+        return several_given(file, start, arcs, j, from, p, head, next);
     }
     let taken = get16(file, start + 8 * i + 6);
     let given = get16(file, start + 8 * j + 6);

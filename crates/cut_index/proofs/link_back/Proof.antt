@@ -26,13 +26,17 @@ sub-i c = search needs
 cast-i : tie.Need-cast-i
 cast-i c = search needs
 
-alone-requires : tie.Need-alone-requires
-alone-requires c κs =
-    let x = c .before .before .before .before .pre .0 in
-    record { some = omega (arith, x .within, c .before .before .before .before .pre .1); few = omega (arith, x .stands .some, x .stands .few); fit = omega (arith, x .stands .some, x .stands .fit); short = x .stands .short }
+single-requires : tie.Need-single-requires
+single-requires c κs =
+    let start = c .before .before .before .before in
+    let x = start .pre .0 in (
+      record { some = omega (arith, x .within, start .pre .1); few = omega (arith, x .stands .some, x .stands .few); fit = omega (arith, x .stands .some, x .stands .fit); short = x .stands .short },
+      omega (arith, x .stands .some, x .stands .fit),
+      λ i l. x .zeros i (omega (arith, l, x .stands .some)),
+    )
 
-link-groups-requires : tie.Need-link-groups-requires
-link-groups-requires c κs = c .before .before .before .before .before .before .before .before .pre
+several-taken-requires : tie.Need-several-taken-requires
+several-taken-requires c κs = c .before .before .before .before .before .before .before .before .pre
 
 same-length : tie.Need-same-length
 same-length c = search needs
@@ -41,7 +45,7 @@ same-length-2 : tie.Need-same-length-2
 same-length-2 c = search needs
 
 returns : tie.Need-returns
-returns c = c .before .before .before .before .link-groups .ensures
+returns c = c .before .before .before .before .several-taken .ensures
 
 mul-get16 : tie.Need-mul-get16
 mul-get16 c = search needs
@@ -67,8 +71,8 @@ add-get16-4 c = search needs
 get16-requires-2 : tie.Need-get16-requires-2
 get16-requires-2 c κs = let first = c .before in let x = first .before .before .before .before .before .before .pre .0 in omega (arith, x .stands .some, x .stands .fit)
 
-link-groups-requires-2 : tie.Need-link-groups-requires-2
-link-groups-requires-2 c κs = let first = c .before .before .before .before .before in first .before .before .before .before .before .before .pre
+several-given-requires : tie.Need-several-given-requires
+several-given-requires c κs = let first = c .before .before .before .before .before in first .before .before .before .before .before .before .pre
 
 same-length-3 : tie.Need-same-length-3
 same-length-3 c = search needs
@@ -77,7 +81,7 @@ same-length-4 : tie.Need-same-length-4
 same-length-4 c = search needs
 
 returns-2 : tie.Need-returns-2
-returns-2 c = c .before .before .before .before .link-groups2 .ensures
+returns-2 c = c .before .before .before .before .several-given .ensures
 
 mul-get16-3 : tie.Need-mul-get16-3
 mul-get16-3 c = search needs
@@ -113,7 +117,7 @@ ones c =
     let both = c .before .before in
     let first = both .before .before .before in
     let x = first .before .before .before .before .before .before .pre .0 in (
-      first .before .alone .ensures (not-false _ (first .if1 .left)),
+      first .before .single .ensures (not-false _ (first .if1 .left)),
       record {
         after = omega arith;
         within = omega (arith, x .stands .some);
@@ -216,8 +220,8 @@ link-back-spec =
     slice-read-i
     sub-i
     cast-i
-    alone-requires
-    link-groups-requires
+    single-requires
+    several-taken-requires
     same-length
     same-length-2
     returns
@@ -229,7 +233,7 @@ link-back-spec =
     add-get16-3
     add-get16-4
     get16-requires-2
-    link-groups-requires-2
+    several-given-requires
     same-length-3
     same-length-4
     returns-2
