@@ -20,7 +20,7 @@
 
 #define PAGE 4096u
 #define PARTS 16
-#define ROOM (256u * PAGE)       /* of a part */
+#define ROOM (512u * PAGE)       /* of a part */
 #define STACK (64u * PAGE)       /* of the largest stack, and room above it for arguments */
 #define BEHIND 16u               /* arguments after the sixth */
 #define AROUND 64                /* bytes before and after a lent buffer that are looked at */
