@@ -1,7 +1,7 @@
 // How often the inputs of a transition of a plan can be taken together from a marking.
 ghost use mathlib.Core.Path.{_≡_};
 ghost use lib.ListN.{length};
-ghost use Rattle.promise.specs.Together.{togetherAnswer, togetherRest};
+ghost use Rattle.promise.specs.Together.{togetherAnswer, togetherRest, TakesLargest};
 ghost use Rattle.together.specs.Told.{togetherNumbers};
 ghost use Rattle.nesfoal.specs.Takings.{togetherCode};
 use together::Together;
@@ -40,6 +40,7 @@ pub extern "C" fn nesfoal_together(
     ensures answer { λ r. ⌜ r ≡ togetherCode (togetherAnswer (now (plan .entry)) transition (now (marking .entry)) (length (now (rest .entry)))) ⌝ }
     ensures rest { λ _. ⌜ now (rest .exit) ≡ togetherRest (now (plan .entry)) transition (now (marking .entry)) (now (rest .entry)) ⌝ }
     ensures times { λ _. ⌜ now (times .exit) ≡ togetherAnswer (now (plan .entry)) transition (now (marking .entry)) (length (now (rest .entry))) .times ⌝ }
+    ensures largest { λ _. ⌜ TakesLargest (now (plan .entry)) transition (now (marking .entry)) (togetherAnswer (now (plan .entry)) transition (now (marking .entry)) (length (now (rest .entry)))) (now (rest .exit)) ⌝ }
 {
     let a = call_firing::takings::together(plan, transition, marking, rest);
     *times = times_of(a);

@@ -1,5 +1,6 @@
-use mathlib.Core.Path.{_∙_, ap}
+use mathlib.Core.Path.{refl, _∙_, ap}
 use Rattle.promise.specs.Together.{TogetherAnswer}
+use Rattle.promise.proofs.Together.{takes-largest}
 use Rattle.nesfoal.specs.Takings.{togetherCode}
 use borrow.Author.Needs.{needs}
 use Rattle.nesfoal.proofs.takings.nesfoal_together.Statement.{statement}
@@ -21,7 +22,7 @@ returns : tie.Need-returns
 returns c =
     let e = c .before .before .before .before .together .ensures in (
       c .code .ensures ∙ ap togetherCode (e .0),
-      (e .1 .0, c .before .times-of .ensures ∙ ap (λ (a : TogetherAnswer). a .times) (e .0)),
+      (e .1 .0, (c .before .times-of .ensures ∙ ap (λ (a : TogetherAnswer). a .times) (e .0), takes-largest _ _ _ _ refl (e .1 .0))),
     )
 
 pub nesfoal-together-spec : {M : Type 1} → statement M
