@@ -34,7 +34,7 @@ install_at() {
     if [ -f "$prefix/$listing" ]; then take_away; fi
     put 755 bin/nesfoal < "$here/nesfoal"
     put 755 libexec/nesfoal/slicer < "$program"
-    for f in "$share"/{room,help,inputs,cuts,checks,install}.bash "$share"/{json.awk,help.txt}; do put 644 "share/nesfoal/${f##*/}" < "$f"; done
+    for f in "$share"/{leave,room,help,inputs,cuts,outputs,checks,install}.bash "$share"/{json.awk,help.txt}; do put 644 "share/nesfoal/${f##*/}" < "$f"; done
     put 644 include/nesfoal.h < "$header"
     put 644 lib/libnesfoal.a < "$archive"
     put 644 lib/pkgconfig/nesfoal.pc < <(package)

@@ -1,28 +1,6 @@
 # shellcheck shell=bash disable=SC2034,SC2154
-# Temporary files, which go on the way out, also by a signal; and what the system says, in the program's words.
-if [ -n "${room+x}" ]; then return 0; fi
-room=''    # a folder for temporary files
-beside=''  # a temporary file beside OUT
-folder=''  # OUT's folder, where the program makes one
-child=''   # the process group of a build
-running='' # set while the program runs that $! is
-
-# Nothing stays behind, and nothing goes on. A second signal does not hinder it.
-leave() {
-    trap '' HUP INT TERM
-    if [ -n "$child" ]; then kill -TERM -- "-$child"; fi 2> /dev/null
-    if [ -n "$running" ]; then
-        kill -TERM "$!"
-        wait "$!"
-        if [ -n "$folder" ]; then rm -f -- "$folder.nesfoal-$!-"?; fi
-    fi 2> /dev/null
-    if [ -n "$beside" ]; then rm -f -- "$beside"; fi
-    if [ -n "$room" ]; then rm -rf -- "$room"; fi
-}
-trap leave EXIT
-trap 'exit 129' HUP
-trap 'exit 130' INT
-trap 'exit 143' TERM
+# Temporary files; and what the system says, in the program's words.
+more leave
 
 make_room() {
     [ -z "$room" ] || return 0
