@@ -138,7 +138,7 @@ second-13 : (b : Bool) → refuse b 13 13 ≡ 13
 second-13 true = refl
 second-13 false = refl
 
-module _ (s : List ℕ) (h : Header) (Q list last : List ℕ) (kept : KeptSets) (count : ℕ) (g : Given s h Q list) (f : FedBy s h Q list last kept count) (entry slots : List ℕ) where
+module _ (s : List ℕ) (h : Header) (Q list last : List ℕ) (kept : KeptSets) (end : ℕ) (g : Given s h Q list) (f : FedBy s h Q list last kept end) (entry slots : List ℕ) where
   abbrev M : Net
   M = netFrom s h
 
@@ -151,9 +151,16 @@ module _ (s : List ℕ) (h : Header) (Q list last : List ℕ) (kept : KeptSets) 
   abbrev K : Slice
   K = keptSlice s h kept
 
+  -- how many are chosen
+  abbrev count : ℕ
+  count = length (chosenBy list last)
+
+  counted : count ≡ length chosen
+  counted = ap length (f .positions)
+
   pub count-few : count < 65536
   unfolding chosenBy
-  count-few = omega (arith, f .counted, ap length (f .positions), length-selected (λ i. ltb i (getD last (getD list i 0) 0)) 0 (length list), g .short)
+  count-few = omega (arith, length-selected (λ i. ltb i (getD last (getD list i 0) 0)) 0 (length list), g .short)
 
   fires : replay M list .answer ≡ fired
   unfolding replay PlanFires
@@ -170,7 +177,7 @@ module _ (s : List ℕ) (h : Header) (Q list last : List ℕ) (kept : KeptSets) 
 
   pub no-entries : length slots < count → Answers s h Q list (runOutcome M Q list (length entry) (length slots)) entry entry slots slots (Refused 13)
   unfolding runRoom
-  no-entries l = refused-13 (rw (lt-ltb (length slots) (length chosen) (omega (arith, f .counted))) (second-13 (ltb (length entry) (length (sliceBytes S))))) entry refl
+  no-entries l = refused-13 (rw (lt-ltb (length slots) (length chosen) (omega (arith, counted))) (second-13 (ltb (length entry) (length (sliceBytes S))))) entry refl
 
   module _ (exit : List ℕ) (buffer : exit ≡ written (roomRefusal (length entry) K) (sliceBytes K) entry) where
     pub no-room : (k : ℕ) → cutNumbers (cut.Refused k) ≡ cutAnswer (roomRefusal (length entry) K) (length (sliceBytes K)) K
@@ -189,18 +196,19 @@ module _ (s : List ℕ) (h : Header) (Q list last : List ℕ) (kept : KeptSets) 
       unfolding runRoom
       fits =
           let a : ltb (length entry) (length (sliceBytes S)) ≡ false = ap (λ (x : Slice). ltb (length entry) (length (sliceBytes x))) (sym (f .slice)) ∙ room-none _ (says .0) in
-          rw (a, le-ltb (length slots) (length chosen) (omega (arith, f .counted)))
+          rw (a, le-ltb (length slots) (length chosen) (omega (arith, counted)))
 
-      numbers : runWritten n p t count ≡ runWritten (length (sliceBytes S)) (S .net .places) (S .net .transitions) (length chosen)
-      numbers =
-          let n≡ : n ≡ length (sliceBytes S) = says .1 ∙ ap (λ (x : Slice). length (sliceBytes x)) (f .slice) in
-          let p≡ : p ≡ S .net .places = says .2 ∙ ap (λ (x : Slice). x .net .places) (f .slice) in
-          let t≡ : t ≡ S .net .transitions = says .3 ∙ ap (λ (x : Slice). x .net .transitions) (f .slice) in
-          let c≡ : count ≡ length chosen = f .counted in
-          λ i. runWritten (n≡ i) (p≡ i) (t≡ i) (c≡ i)
+      module _ (c : ℕ) (told-count : c ≡ count) where
+        numbers : runWritten n p t c ≡ runWritten (length (sliceBytes S)) (S .net .places) (S .net .transitions) (length chosen)
+        numbers =
+            let n≡ : n ≡ length (sliceBytes S) = says .1 ∙ ap (λ (x : Slice). length (sliceBytes x)) (f .slice) in
+            let p≡ : p ≡ S .net .places = says .2 ∙ ap (λ (x : Slice). x .net .places) (f .slice) in
+            let t≡ : t ≡ S .net .transitions = says .3 ∙ ap (λ (x : Slice). x .net .transitions) (f .slice) in
+            let c≡ : c ≡ length chosen = told-count ∙ counted in
+            λ i. runWritten (n≡ i) (p≡ i) (t≡ i) (c≡ i)
 
-      pub whole : (positions : List ℕ) → positions ≡ chosenBy list last ++ drop count slots → Answers s h Q list (runOutcome M Q list (length entry) (length slots)) entry exit slots positions (Written n p t count)
-      whole positions e =
-          let there : exit ≡ sliceBytes S ++ drop (length (sliceBytes S)) entry = buffer ∙ ap (λ (r : ℕ). written r (sliceBytes K) entry) (says .0) ∙ ap (λ (x : Slice). sliceBytes x ++ drop (length (sliceBytes x)) entry) (f .slice) in
-          let second : positions ≡ chosen ++ drop (length chosen) slots = e ∙ ap (λ (l : List ℕ). l ++ drop count slots) (f .positions) ∙ ap (λ (c : ℕ). chosen ++ drop c slots) (f .counted) in
-          subst (λ (a : RunAnswer). Answers s h Q list a entry exit slots positions (Written n p t count)) (sym (due-is 0 fits)) (record { answer = numbers; buffer = there; second = second })
+        pub whole : (positions : List ℕ) → positions ≡ chosenBy list last ++ drop count slots → Answers s h Q list (runOutcome M Q list (length entry) (length slots)) entry exit slots positions (Written n p t c)
+        whole positions e =
+            let there : exit ≡ sliceBytes S ++ drop (length (sliceBytes S)) entry = buffer ∙ ap (λ (r : ℕ). written r (sliceBytes K) entry) (says .0) ∙ ap (λ (x : Slice). sliceBytes x ++ drop (length (sliceBytes x)) entry) (f .slice) in
+            let second : positions ≡ chosen ++ drop (length chosen) slots = e ∙ ap (λ (l : List ℕ). l ++ drop (length l) slots) (f .positions) in
+            subst (λ (a : RunAnswer). Answers s h Q list a entry exit slots positions (Written n p t c)) (sym (due-is 0 fits)) (record { answer = numbers; buffer = there; second = second })

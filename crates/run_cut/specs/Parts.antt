@@ -13,6 +13,7 @@ use Rattle.file.specs.Criterion.{criterionRefusal}
 use Rattle.file.specs.declared.Header.{Header}
 use Rattle.sets.specs.declared.KeptSets.{KeptSets}
 use Rattle.slice.specs.Kept.{keptSlice, Within}
+use Rattle.run_feed.specs.Back.{endOf}
 
 -- the plan was read, the criterion passes, the list is known and fires
 pub record Given (s : List ℕ) (h : Header) (Q list : List ℕ) : Type 0 where
@@ -44,10 +45,10 @@ pub record Reached (list last : List ℕ) : Type 0 where
   pub short : length list ≤ 65535
   pub known : (i : ℕ) → i < length list → getD list i 0 < length last
 
--- the sets are those of the run cut, and `last` tells the chosen positions, `count` of them
-pub record FedBy (s : List ℕ) (h : Header) (Q list last : List ℕ) (kept : KeptSets) (count : ℕ) : Type 0 where
+-- the sets are those of the run cut, `last` tells the chosen positions, and `end` is one past the last of them
+pub record FedBy (s : List ℕ) (h : Header) (Q list last : List ℕ) (kept : KeptSets) (end : ℕ) : Type 0 where
   pub within : Within kept h
   pub slice : keptSlice s h kept ≡ runCut (netFrom s h) Q list
   pub positions : chosenBy list last ≡ fed (netFrom s h) Q list .positions
-  pub counted : count ≡ length (fed (netFrom s h) Q list .positions)
+  pub ended : end ≡ endOf (chosenBy list last)
   pub reached : Reached list last

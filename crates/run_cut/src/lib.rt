@@ -12,6 +12,7 @@ ghost use Rattle.arcs_starts.specs.Table.{choose};
 ghost use Rattle.promise.specs.Firing.{listRefusal, replayOr};
 ghost use Rattle.promise.specs.RunCut.{runOutcome};
 ghost use Rattle.replay.specs.Told.{outcomeNumbers};
+ghost use Rattle.run_feed.specs.Back.{endOf};
 ghost use Rattle.run_cut.specs.Told.{answerTo, Answers};
 ghost use Rattle.run_cut.specs.Parts.{Given, Lent, Cleared, chosenBy, Reached, FedBy};
 use file::Header;
@@ -33,11 +34,11 @@ pub enum RunCut {
     Refused(u32),
 }
 
-// What fed the criterion: the places and the transitions of the slice, and how many firings were chosen.
+// What fed the criterion: the places and the transitions of the slice, and one more than the last chosen firing.
 struct Traced {
     places: [u64; 16],
     transitions: [u64; 16],
-    count: usize,
+    end: usize,
 }
 
 // Firing i counts where it is below the entry of its transition.
@@ -47,19 +48,46 @@ fn share(i: usize, upto: usize) -> usize
     if i < upto { 1 } else { 0 }
 }
 
-// Writes the chosen positions, of which there are `count`. An entry is written for each firing; one that is not chosen is written over.
-fn write_positions(list: &[u16], last: &[u16], count: usize, positions: &mut [u16])
-    requires { ⌜ Reached (now list) (now last) × (count ≡ length (chosenBy (now list) (now last))) × (count ≤ length (now positions)) ⌝ }
-    ensures { λ _. ⌜ now (positions .exit) ≡ chosenBy (now (list .entry)) (now (last .entry)) ++ drop count (now (positions .entry)) ⌝ }
+// How many firings are chosen.
+fn counted(list: &[u16], last: &[u16], end: usize) -> usize
+    requires { ⌜ Reached (now list) (now last) × (end ≡ endOf (chosenBy (now list) (now last))) ⌝ }
+    ensures { λ r. ⌜ r ≡ length (chosenBy (now (list .entry)) (now (last .entry))) ⌝ }
+{
+    let mut n: usize = 0;
+    let mut k: usize = 0;
+    while k < end {
+        let t = list[k] as usize;
+        n += share(k, entry(last, t));
+        k += 1;
+    }
+    n
+}
+
+// Are there more chosen firings than `room`? They are counted only where there could be.
+fn lacks(list: &[u16], last: &[u16], end: usize, room: usize) -> bool
+    requires { ⌜ Reached (now list) (now last) × (end ≡ endOf (chosenBy (now list) (now last))) ⌝ }
+    ensures { λ r. ⌜ r ≡ ltb room (length (chosenBy (now (list .entry)) (now (last .entry)))) ⌝ }
+{
+    if end <= room {
+        return false;
+    }
+    room < counted(list, last, end)
+}
+
+// Writes the chosen positions, and counts them. An entry is written for each firing up to the last chosen one; one that is not chosen is written over.
+fn write_positions(list: &[u16], last: &[u16], end: usize, positions: &mut [u16]) -> usize
+    requires { ⌜ Reached (now list) (now last) × (end ≡ endOf (chosenBy (now list) (now last))) × (length (chosenBy (now list) (now last)) ≤ length (now positions)) ⌝ }
+    ensures { λ r. ⌜ (r ≡ length (chosenBy (now (list .entry)) (now (last .entry)))) × (now (positions .exit) ≡ chosenBy (now (list .entry)) (now (last .entry)) ++ drop (length (chosenBy (now (list .entry)) (now (last .entry)))) (now (positions .entry))) ⌝ }
 {
     let mut n: usize = 0;
     let mut i: usize = 0;
-    while n < count {
+    while i < end {
         positions[n] = i as u16;
         let t = list[i] as usize;
         n += share(i, entry(last, t));
         i += 1;
     }
+    n
 }
 
 // Writes the slice and the positions, or neither where one has no room.
@@ -70,22 +98,22 @@ fn write(
     list: &[u16],
     last: &[u16],
     kept: KeptSets,
-    count: usize,
+    end: usize,
     buffer: &mut [u8],
     positions: &mut [u16],
 ) -> RunCut
     requires { ⌜ Given (now plan) h (now criterion) (now list) ⌝ }
-    requires { ⌜ FedBy (now plan) h (now criterion) (now list) (now last) kept count ⌝ }
+    requires { ⌜ FedBy (now plan) h (now criterion) (now list) (now last) kept end ⌝ }
     ensures { λ r. ⌜ Answers (now (plan .entry)) h (now (criterion .entry)) (now (list .entry)) (runOutcome (netFrom (now (plan .entry)) h) (now (criterion .entry)) (now (list .entry)) (length (now (buffer .entry))) (length (now (positions .entry)))) (now (buffer .entry)) (now (buffer .exit)) (now (positions .entry)) (now (positions .exit)) r ⌝ }
 {
-    if positions.len() < count {
+    if lacks(list, last, end, positions.len()) {
         return RunCut::Refused(13);
     }
     let slice = slice::write(plan, h, kept, buffer);
     let Cut::Written(bytes, places, transitions) = slice else {
         return RunCut::Refused(13);
     };
-    write_positions(list, last, count, positions);
+    let count = write_positions(list, last, end, positions);
     let chosen = count as u32;
     RunCut::Written(bytes, places, transitions, chosen)
 }
@@ -103,13 +131,13 @@ fn fed_by(
 ) -> Traced
     requires { ⌜ Given (now plan) h (now criterion) (now list) ⌝ }
     requires { ⌜ Lent h (now head) (now next) (now first) × Cleared h (now last) ⌝ }
-    ensures { λ r. ⌜ FedBy (now (plan .entry)) h (now (criterion .entry)) (now (list .entry)) (now (last .exit)) (record { places = r .places; transitions = r .transitions }) (r .count) ⌝ }
+    ensures { λ r. ⌜ FedBy (now (plan .entry)) h (now (criterion .entry)) (now (list .entry)) (now (last .exit)) (record { places = r .places; transitions = r .transitions }) (r .end) ⌝ }
 {
     cut_index::index(plan, h, head, next);
     let mut places = [0u64; 16];
     let mut transitions = [0u64; 16];
-    run_feed::enter_criterion(plan, h, head, next, criterion, &mut places, first);
-    let count = run_feed::back(
+    run_feed::enter_criterion(plan, h, head, next, last, criterion, &mut places, first);
+    let end = run_feed::back(
         plan,
         h,
         head,
@@ -124,102 +152,28 @@ fn fed_by(
     Traced {
         places,
         transitions,
-        count,
+        end,
     }
 }
 
-// With tables for 16 places and transitions and 64 arcs.
-fn fed_small(plan: &[u8], h: Header, criterion: &[u16], list: &[u16], last: &mut [u16]) -> Traced
-    requires { ⌜ Given (now plan) h (now criterion) (now list) ⌝ }
-    requires { ⌜ Cleared h (now last) × (h .places ≤ 16) × (h .arcs ≤ 64) × (h .transitions ≤ 16) ⌝ }
-    ensures { λ r. ⌜ FedBy (now (plan .entry)) h (now (criterion .entry)) (now (list .entry)) (now (last .exit)) (record { places = r .places; transitions = r .transitions }) (r .count) ⌝ }
-{
-    let mut head = [0u32; 2 * SMALL];
-    let mut next = [0u32; SMALL_ARCS];
-    let mut first = [0u16; SMALL];
-    fed_by(
-        plan,
-        h,
-        criterion,
-        list,
-        &mut head,
-        &mut next,
-        &mut first,
-        last,
-    )
-}
-
-// With tables for 128 places and transitions and 512 arcs.
-fn fed_middle(plan: &[u8], h: Header, criterion: &[u16], list: &[u16], last: &mut [u16]) -> Traced
-    requires { ⌜ Given (now plan) h (now criterion) (now list) ⌝ }
-    requires { ⌜ Cleared h (now last) × (h .places ≤ 128) × (h .arcs ≤ 512) × (h .transitions ≤ 128) ⌝ }
-    ensures { λ r. ⌜ FedBy (now (plan .entry)) h (now (criterion .entry)) (now (list .entry)) (now (last .exit)) (record { places = r .places; transitions = r .transitions }) (r .count) ⌝ }
-{
-    let mut head = [0u32; 2 * MIDDLE];
-    let mut next = [0u32; MIDDLE_ARCS];
-    let mut first = [0u16; MIDDLE];
-    fed_by(
-        plan,
-        h,
-        criterion,
-        list,
-        &mut head,
-        &mut next,
-        &mut first,
-        last,
-    )
-}
-
-// With tables for 1,024 places and transitions and 4,096 arcs.
-fn fed_large(plan: &[u8], h: Header, criterion: &[u16], list: &[u16], last: &mut [u16]) -> Traced
-    requires { ⌜ Given (now plan) h (now criterion) (now list) ⌝ }
-    requires { ⌜ Cleared h (now last) ⌝ }
-    ensures { λ r. ⌜ FedBy (now (plan .entry)) h (now (criterion .entry)) (now (list .entry)) (now (last .exit)) (record { places = r .places; transitions = r .transitions }) (r .count) ⌝ }
-{
-    let mut head = [0u32; 2 * LARGE];
-    let mut next = [0u32; LARGE_ARCS];
-    let mut first = [0u16; LARGE];
-    fed_by(
-        plan,
-        h,
-        criterion,
-        list,
-        &mut head,
-        &mut next,
-        &mut first,
-        last,
-    )
-}
-
-// The same, with tables as large as the plan needs them.
-fn fed(plan: &[u8], h: Header, criterion: &[u16], list: &[u16], last: &mut [u16]) -> Traced
-    requires { ⌜ Given (now plan) h (now criterion) (now list) ⌝ }
-    requires { ⌜ Cleared h (now last) ⌝ }
-    ensures { λ r. ⌜ FedBy (now (plan .entry)) h (now (criterion .entry)) (now (list .entry)) (now (last .exit)) (record { places = r .places; transitions = r .transitions }) (r .count) ⌝ }
-{
-    if (h.places <= SMALL) & (h.arcs <= SMALL_ARCS) & (h.transitions <= SMALL) {
-        return fed_small(plan, h, criterion, list, last);
-    }
-    if (h.places <= MIDDLE) & (h.arcs <= MIDDLE_ARCS) & (h.transitions <= MIDDLE) {
-        return fed_middle(plan, h, criterion, list, last);
-    }
-    fed_large(plan, h, criterion, list, last)
-}
-
-// The run cut where the list fires.
-fn write_fed(
+// The run cut where the list fires, by tables that the caller lends.
+fn write_by(
     plan: &[u8],
     h: Header,
     criterion: &[u16],
     list: &[u16],
+    head: &mut [u32],
+    next: &mut [u32],
+    first: &mut [u16],
+    last: &mut [u16],
     buffer: &mut [u8],
     positions: &mut [u16],
 ) -> RunCut
     requires { ⌜ Given (now plan) h (now criterion) (now list) ⌝ }
+    requires { ⌜ Lent h (now head) (now next) (now first) × Cleared h (now last) ⌝ }
     ensures { λ r. ⌜ Answers (now (plan .entry)) h (now (criterion .entry)) (now (list .entry)) (runOutcome (netFrom (now (plan .entry)) h) (now (criterion .entry)) (now (list .entry)) (length (now (buffer .entry))) (length (now (positions .entry)))) (now (buffer .entry)) (now (buffer .exit)) (now (positions .entry)) (now (positions .exit)) r ⌝ }
 {
-    let mut last = [0u16; LARGE];
-    let f = fed(plan, h, criterion, list, &mut last);
+    let f = fed_by(plan, h, criterion, list, head, next, first, last);
     let places = f.places;
     let transitions = f.transitions;
     let kept = KeptSets {
@@ -231,12 +185,123 @@ fn write_fed(
         h,
         criterion,
         list,
-        &last,
+        last,
         kept,
-        f.count,
+        f.end,
         buffer,
         positions,
     )
+}
+
+// With tables for 16 places and transitions and 64 arcs.
+fn write_small(
+    plan: &[u8],
+    h: Header,
+    criterion: &[u16],
+    list: &[u16],
+    buffer: &mut [u8],
+    positions: &mut [u16],
+) -> RunCut
+    requires { ⌜ Given (now plan) h (now criterion) (now list) × (h .places ≤ 16) × (h .arcs ≤ 64) × (h .transitions ≤ 16) ⌝ }
+    ensures { λ r. ⌜ Answers (now (plan .entry)) h (now (criterion .entry)) (now (list .entry)) (runOutcome (netFrom (now (plan .entry)) h) (now (criterion .entry)) (now (list .entry)) (length (now (buffer .entry))) (length (now (positions .entry)))) (now (buffer .entry)) (now (buffer .exit)) (now (positions .entry)) (now (positions .exit)) r ⌝ }
+{
+    let mut head = [0u32; 2 * SMALL];
+    let mut next = [0u32; SMALL_ARCS];
+    let mut first = [0u16; SMALL];
+    let mut last = [0u16; SMALL];
+    write_by(
+        plan,
+        h,
+        criterion,
+        list,
+        &mut head,
+        &mut next,
+        &mut first,
+        &mut last,
+        buffer,
+        positions,
+    )
+}
+
+// With tables for 128 places and transitions and 512 arcs.
+fn write_middle(
+    plan: &[u8],
+    h: Header,
+    criterion: &[u16],
+    list: &[u16],
+    buffer: &mut [u8],
+    positions: &mut [u16],
+) -> RunCut
+    requires { ⌜ Given (now plan) h (now criterion) (now list) × (h .places ≤ 128) × (h .arcs ≤ 512) × (h .transitions ≤ 128) ⌝ }
+    ensures { λ r. ⌜ Answers (now (plan .entry)) h (now (criterion .entry)) (now (list .entry)) (runOutcome (netFrom (now (plan .entry)) h) (now (criterion .entry)) (now (list .entry)) (length (now (buffer .entry))) (length (now (positions .entry)))) (now (buffer .entry)) (now (buffer .exit)) (now (positions .entry)) (now (positions .exit)) r ⌝ }
+{
+    let mut head = [0u32; 2 * MIDDLE];
+    let mut next = [0u32; MIDDLE_ARCS];
+    let mut first = [0u16; MIDDLE];
+    let mut last = [0u16; MIDDLE];
+    write_by(
+        plan,
+        h,
+        criterion,
+        list,
+        &mut head,
+        &mut next,
+        &mut first,
+        &mut last,
+        buffer,
+        positions,
+    )
+}
+
+// With tables for 1,024 places and transitions and 4,096 arcs.
+fn write_large(
+    plan: &[u8],
+    h: Header,
+    criterion: &[u16],
+    list: &[u16],
+    buffer: &mut [u8],
+    positions: &mut [u16],
+) -> RunCut
+    requires { ⌜ Given (now plan) h (now criterion) (now list) ⌝ }
+    ensures { λ r. ⌜ Answers (now (plan .entry)) h (now (criterion .entry)) (now (list .entry)) (runOutcome (netFrom (now (plan .entry)) h) (now (criterion .entry)) (now (list .entry)) (length (now (buffer .entry))) (length (now (positions .entry)))) (now (buffer .entry)) (now (buffer .exit)) (now (positions .entry)) (now (positions .exit)) r ⌝ }
+{
+    let mut head = [0u32; 2 * LARGE];
+    let mut next = [0u32; LARGE_ARCS];
+    let mut first = [0u16; LARGE];
+    let mut last = [0u16; LARGE];
+    write_by(
+        plan,
+        h,
+        criterion,
+        list,
+        &mut head,
+        &mut next,
+        &mut first,
+        &mut last,
+        buffer,
+        positions,
+    )
+}
+
+// The same, with tables as large as the plan needs them.
+fn write_fed(
+    plan: &[u8],
+    h: Header,
+    criterion: &[u16],
+    list: &[u16],
+    buffer: &mut [u8],
+    positions: &mut [u16],
+) -> RunCut
+    requires { ⌜ Given (now plan) h (now criterion) (now list) ⌝ }
+    ensures { λ r. ⌜ Answers (now (plan .entry)) h (now (criterion .entry)) (now (list .entry)) (runOutcome (netFrom (now (plan .entry)) h) (now (criterion .entry)) (now (list .entry)) (length (now (buffer .entry))) (length (now (positions .entry)))) (now (buffer .entry)) (now (buffer .exit)) (now (positions .entry)) (now (positions .exit)) r ⌝ }
+{
+    if (h.places <= SMALL) & (h.arcs <= SMALL_ARCS) & (h.transitions <= SMALL) {
+        return write_small(plan, h, criterion, list, buffer, positions);
+    }
+    if (h.places <= MIDDLE) & (h.arcs <= MIDDLE_ARCS) & (h.transitions <= MIDDLE) {
+        return write_middle(plan, h, criterion, list, buffer, positions);
+    }
+    write_large(plan, h, criterion, list, buffer, positions)
 }
 
 // How the list fares from the plan's marking. The marking that it ends with is not asked for.

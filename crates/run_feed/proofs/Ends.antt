@@ -17,12 +17,12 @@ use Rattle.net.proofs.Run.{drop-all, fed-is, run-places-rise, run-places-below,
 use Rattle.file.specs.Layout.{netFrom}
 use Rattle.file.specs.declared.Header.{Header}
 use Rattle.sets.specs.Member.{member}
-use Rattle.run_feed.specs.Back.{Known, Entered, Back}
+use Rattle.run_feed.specs.Back.{Known, Entered, endOf, Back}
 
 -- ---- at first
 
 module _ (s : List ℕ) (h : Header) (Q ts : List ℕ) (P₀ F₀ P F C L : List ℕ) (none : (p : ℕ) → member P₀ p ≡ false) (none-drawn : (t : ℕ) → getD F₀ t 0 ≡ 0) (none-chosen : (t : ℕ) → member C t ≡ false)
-    (none-last : (t : ℕ) → getD L t 0 ≡ 0) (e : Entered s h (λ k. among k Q) P₀ F₀ P F) where
+    (none-last : (t : ℕ) → getD L t 0 ≡ 0) (e : Entered s h (λ k. among k Q) L P₀ F₀ P F) where
   start : feed (netFrom s h) Q (length ts) (drop (length ts) ts) ≡ record { places = Q; chosen = []; positions = [] }
   unfolding feed
   start = ap (feed (netFrom s h) Q (length ts)) (drop-all ts)
@@ -31,12 +31,12 @@ module _ (s : List ℕ) (h : Header) (Q ts : List ℕ) (P₀ F₀ P F C L : List
   unfolding among upto
   begun long first-long last-long = record {
     within = omega arith;
-    counted = ap (λ (r : Feeding). length (r .positions)) (sym start);
+    ended = ap (λ (r : Feeding). endOf (r .positions)) (sym start);
     places-are = λ p. e .kept p ∙ ap (λ (b : Bool). b || among p Q) (none p) ∙ ap (λ (r : Feeding). among p (r .places)) (sym start);
     chosen-are = λ t. none-chosen t ∙ ap (λ (r : Feeding). among t (r .chosen)) (sym start);
     last-are = λ t. none-last t ∙ ap (λ (r : Feeding). upto (λ i. getD ts i 0) (r .positions) t) (sym start);
     raisers = e .raisers (record {
-      raise = λ t m. absurd (fails _ (ap (ltb 0) (none-drawn t)) m);
+      raise = λ t m. absurd (fails _ (ap (λ (n : ℕ). ltb 0 n || ltb 0 (getD L t 0)) (none-drawn t) ∙ ap (ltb 0) (none-last t)) m);
       there = λ t p m. absurd (fails _ (none p) m);
       starts = λ t m. absurd (fails _ (ap (ltb 0) (none-drawn t)) m);
     });
@@ -49,7 +49,7 @@ module _ (s : List ℕ) (h : Header) (Q ts : List ℕ) (P₀ F₀ P F C L : List
 
 -- ---- at last
 
-module _ (s : List ℕ) (h : Header) (Q : List ℕ) (known : Known h Q) (rise : Rising Q) (ts : List ℕ) (f : PlanFires (netFrom s h) ts) (count : ℕ) (P F C L : List ℕ) (x : Back s h Q ts 0 count P F C L) where
+module _ (s : List ℕ) (h : Header) (Q : List ℕ) (known : Known h Q) (rise : Rising Q) (ts : List ℕ) (f : PlanFires (netFrom s h) ts) (end : ℕ) (P F C L : List ℕ) (x : Back s h Q ts 0 end P F C L) where
   places-are : (p : ℕ) → member P p ≡ among p (fed (netFrom s h) Q ts .places)
   places-are p = x .places-are p ∙ ap (λ (r : Fed). among p (r .places)) (sym (fed-is (netFrom s h) Q known ts f))
 
@@ -86,5 +86,6 @@ module _ (s : List ℕ) (h : Header) (Q : List ℕ) (known : Known h Q) (rise : 
       ∙ selected-same (λ i. ltb i (upto (λ k. getD ts k 0) (fed N Q ts .positions) (getD ts i 0))) (λ i. ltb i (getD L (getD ts i 0) 0)) 0 (length ts)
       (λ i l u. ap (ltb i) (ap (λ (r : Fed). upto (λ k. getD ts k 0) (r .positions) (getD ts i 0)) (fed-is N Q known ts f) ∙ sym (x .last-are (getD ts i 0))))
 
-  pub finished-count : count ≡ length (fed (netFrom s h) Q ts .positions)
-  finished-count = x .counted ∙ ap (λ (r : Fed). length (r .positions)) (sym (fed-is (netFrom s h) Q known ts f))
+  -- the end is that of the chosen positions
+  pub finished-end : end ≡ endOf (fed (netFrom s h) Q ts .positions)
+  finished-end = x .ended ∙ ap (λ (r : Fed). endOf (r .positions)) (sym (fed-is (netFrom s h) Q known ts f))

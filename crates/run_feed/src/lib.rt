@@ -1,7 +1,6 @@
 // Back over a recorded run: which firings fed the places of the criterion (document 02, A1; source document 002, algorithm 2).
-// A transition that raises a place of W is drawn in: `first` gets one more than the arc with which its arcs start. So a firing is looked at once, by its transition's entry.
+// A transition that raises a place of W is drawn in, and waits for a firing of it: `first` gets one more than the arc with which its arcs start. When one is met it is chosen, and the entry is 0 again. So a firing is looked at once, by one entry, and most often nothing is to be done.
 ghost use mathlib.Core.Path.{_≡_};
-ghost use mathlib.Core.Bool.{not, _&&_};
 ghost use Prim.Native.Nat.{ℕ, _+_, _*_, _-_, _<_, _≤_};
 ghost use lib.Dec.{eqb};
 ghost use lib.ListN.{length, getD};
@@ -11,23 +10,39 @@ ghost use Rattle.file.specs.Facts.{Sound};
 ghost use Rattle.file.specs.Layout.{netFrom};
 ghost use Rattle.arcs_starts.specs.Table.{choose, Split};
 ghost use Rattle.cut_rows.specs.Rows.{Rows};
-ghost use Rattle.run_feed.specs.Back.{Known, RaisersAdded, Entered, Back};
+ghost use Rattle.run_feed.specs.Back.{Known, RaisersAdded, Entered, Met, Back};
 use file::Header;
 use file::arcs::arc;
 use tables::entry;
 use tables::wide;
 
+// The entry of a transition that is drawn in, whose arcs start before `from`: where a firing of it was chosen it waits no more.
+fn due(later: usize, from: usize) -> usize
+    ensures { λ r. ⌜ r ≡ choose (eqb later 0) from 0 ⌝ }
+{
+    if later == 0 { from } else { 0 }
+}
+
 // Draws in the transitions that raise the place p.
-fn add_raisers(file: &[u8], h: Header, head: &[u32], next: &[u32], p: usize, first: &mut [u16])
-    requires { ⌜ Sound (now file) h × Rows (now file) h (now head) (now next) × (p < h .places) × (h .transitions ≤ length (now first)) ⌝ }
-    ensures { λ _. ⌜ RaisersAdded (now (file .entry)) h p (now (first .entry)) (now (first .exit)) ⌝ }
+fn add_raisers(
+    file: &[u8],
+    h: Header,
+    head: &[u32],
+    next: &[u32],
+    last: &[u16],
+    p: usize,
+    first: &mut [u16],
+)
+    requires { ⌜ Sound (now file) h × Rows (now file) h (now head) (now next) × (p < h .places) × (h .transitions ≤ length (now last)) × (h .transitions ≤ length (now first)) ⌝ }
+    ensures { λ _. ⌜ RaisersAdded (now (file .entry)) h p (now (last .entry)) (now (first .entry)) (now (first .exit)) ⌝ }
 {
     let mut e = head[2 * p + 1] as usize;
     while e != 0 {
         let j = e % 65536 - 1;
         let a = arc(file, h.arcstart + 8 * j);
         let t = a.transition;
-        first[t] = (e / 65536) as u16;
+        let from = due(entry(last, t), e / 65536);
+        first[t] = from as u16;
         e = next[j] as usize;
     }
 }
@@ -38,18 +53,19 @@ fn enter(
     h: Header,
     head: &[u32],
     next: &[u32],
+    last: &[u16],
     p: usize,
     places: &mut [u64; 16],
     first: &mut [u16],
 )
-    requires { ⌜ Sound (now file) h × Rows (now file) h (now head) (now next) × (p < h .places) × (length (now places) ≡ 16) × (h .transitions ≤ length (now first)) ⌝ }
-    ensures { λ _. ⌜ Entered (now (file .entry)) h (λ k. eqb k p) (now (places .entry)) (now (first .entry)) (now (places .exit)) (now (first .exit)) ⌝ }
+    requires { ⌜ Sound (now file) h × Rows (now file) h (now head) (now next) × (p < h .places) × (length (now places) ≡ 16) × (h .transitions ≤ length (now last)) × (h .transitions ≤ length (now first)) ⌝ }
+    ensures { λ _. ⌜ Entered (now (file .entry)) h (λ k. eqb k p) (now (last .entry)) (now (places .entry)) (now (first .entry)) (now (places .exit)) (now (first .exit)) ⌝ }
 {
     if sets::contains(places, p) {
         return;
     }
     sets::insert(places, p);
-    add_raisers(file, h, head, next, p, first);
+    add_raisers(file, h, head, next, last, p, first);
 }
 
 // The input places of the transition t, whose arcs start with arc `from`, enter W.
@@ -58,14 +74,15 @@ fn enter_inputs(
     h: Header,
     head: &[u32],
     next: &[u32],
+    last: &[u16],
     t: usize,
     from: usize,
     places: &mut [u64; 16],
     first: &mut [u16],
 )
-    requires { ⌜ Sound (now file) h × Rows (now file) h (now head) (now next) × (length (now places) ≡ 16) × (h .transitions ≤ length (now first)) ⌝ }
+    requires { ⌜ Sound (now file) h × Rows (now file) h (now head) (now next) × (length (now places) ≡ 16) × (h .transitions ≤ length (now last)) × (h .transitions ≤ length (now first)) ⌝ }
     requires { ⌜ (t < h .transitions) × Split (now file) (h .arcstart) (h .arcs) (2 * t) from ⌝ }
-    ensures { λ _. ⌜ Entered (now (file .entry)) h (takesFrom (netFrom (now (file .entry)) h) t) (now (places .entry)) (now (first .entry)) (now (places .exit)) (now (first .exit)) ⌝ }
+    ensures { λ _. ⌜ Entered (now (file .entry)) h (takesFrom (netFrom (now (file .entry)) h) t) (now (last .entry)) (now (places .entry)) (now (first .entry)) (now (places .exit)) (now (first .exit)) ⌝ }
 {
     let start = h.arcstart;
     let arcs = h.arcs;
@@ -75,7 +92,7 @@ fn enter_inputs(
         if a.transition + a.direction * 65536 != t {
             return;
         }
-        enter(file, h, head, next, a.place, places, first);
+        enter(file, h, head, next, last, a.place, places, first);
         j += 1;
     }
 }
@@ -86,68 +103,75 @@ pub fn enter_criterion(
     h: Header,
     head: &[u32],
     next: &[u32],
+    last: &[u16],
     criterion: &[u16],
     places: &mut [u64; 16],
     first: &mut [u16],
 )
-    requires { ⌜ Sound (now file) h × Rows (now file) h (now head) (now next) × (length (now places) ≡ 16) × (h .transitions ≤ length (now first)) ⌝ }
+    requires { ⌜ Sound (now file) h × Rows (now file) h (now head) (now next) × (length (now places) ≡ 16) × (h .transitions ≤ length (now last)) × (h .transitions ≤ length (now first)) ⌝ }
     requires { ⌜ Known h (now criterion) ⌝ }
-    ensures { λ _. ⌜ Entered (now (file .entry)) h (λ k. among k (now (criterion .entry))) (now (places .entry)) (now (first .entry)) (now (places .exit)) (now (first .exit)) ⌝ }
+    ensures { λ _. ⌜ Entered (now (file .entry)) h (λ k. among k (now (criterion .entry))) (now (last .entry)) (now (places .entry)) (now (first .entry)) (now (places .exit)) (now (first .exit)) ⌝ }
 {
     let mut i: usize = 0;
     while i < criterion.len() {
-        enter(file, h, head, next, wide(criterion[i]), places, first);
+        enter(file, h, head, next, last, wide(criterion[i]), places, first);
         i += 1;
     }
 }
 
-// Is a transition chosen for the first time? It is drawn in, and no later firing of it was chosen.
-fn is_new(from: usize, later: usize) -> bool
-    ensures { λ r. ⌜ r ≡ not (eqb from 0) && eqb later 0 ⌝ }
+// Going back from firing k, one more than the first one met whose transition waits; 0 where there is none.
+fn met(list: &[u16], first: &[u16], k: usize) -> usize
+    requires { ⌜ (k ≤ length (now list)) × ((i : ℕ) → i < length (now list) → getD (now list) i 0 < length (now first)) ⌝ }
+    ensures { λ r. ⌜ Met (now (list .entry)) (now (first .entry)) k r ⌝ }
 {
-    (from != 0) & (later == 0)
+    let mut i = k;
+    while 0 < i {
+        let t = wide(list[i - 1]);
+        if entry(first, t) != 0 {
+            return i;
+        }
+        i -= 1;
+    }
+    0
 }
 
-// A firing counts where its transition is drawn in.
-fn share(from: usize) -> usize
-    ensures { λ r. ⌜ r ≡ choose (eqb from 0) 0 1 ⌝ }
+// The first chosen firing that is met is the last one.
+fn once(end: usize, k: usize) -> usize
+    ensures { λ r. ⌜ r ≡ choose (eqb end 0) k end ⌝ }
 {
-    if from == 0 { 0 } else { 1 }
+    if end == 0 { k } else { end }
 }
 
-// Goes back over the firing before k, which is of t: it is chosen where t raises a place of W. `last` gets one more than the last chosen firing of t.
-fn look(
+// Chooses the firing before k, whose transition waits.
+fn take_up(
     file: &[u8],
     h: Header,
     head: &[u32],
     next: &[u32],
     criterion: &[u16],
     list: &[u16],
-    t: usize,
     k: usize,
-    count: usize,
+    end: usize,
     places: &mut [u64; 16],
     first: &mut [u16],
     chosen: &mut [u64; 16],
     last: &mut [u16],
 ) -> usize
     requires { ⌜ Sound (now file) h × Rows (now file) h (now head) (now next) × Known h (now criterion) ⌝ }
-    requires { ⌜ (0 < k) × (length (now list) ≤ 65535) × (t ≡ getD (now list) (k - 1) 0) × (t < h .transitions) ⌝ }
-    requires { ⌜ Back (now file) h (now criterion) (now list) k count (now places) (now first) (now chosen) (now last) ⌝ }
+    requires { ⌜ (0 < k) × (length (now list) ≤ 65535) × (getD (now list) (k - 1) 0 < h .transitions) × (0 < getD (now first) (getD (now list) (k - 1) 0) 0) ⌝ }
+    requires { ⌜ Back (now file) h (now criterion) (now list) k end (now places) (now first) (now chosen) (now last) ⌝ }
     ensures { λ r. ⌜ Back (now (file .entry)) h (now (criterion .entry)) (now (list .entry)) (k - 1) (r) (now (places .exit)) (now (first .exit)) (now (chosen .exit)) (now (last .exit)) ⌝ }
 {
+    let t = wide(list[k - 1]);
     let from = entry(first, t);
-    let later = entry(last, t);
-    if is_new(from, later) {
-        sets::insert(chosen, t);
-        last[t] = k as u16;
-        enter_inputs(file, h, head, next, t, from - 1, places, first);
-        return count + 1;
-    }
-    count + share(from)
+    sets::insert(chosen, t);
+    last[t] = k as u16;
+    first[t] = 0;
+    enter_inputs(file, h, head, next, last, t, from - 1, places, first);
+    once(end, k)
 }
 
-// Goes back from the last firing, and counts the chosen ones.
+// Goes back from the last firing: W, the chosen transitions, their last chosen firings, and one more than the last chosen firing of all.
 pub fn back(
     file: &[u8],
     h: Header,
@@ -165,26 +189,24 @@ pub fn back(
     requires { ⌜ Back (now file) h (now criterion) (now list) (length (now list)) 0 (now places) (now first) (now chosen) (now last) ⌝ }
     ensures { λ r. ⌜ Back (now (file .entry)) h (now (criterion .entry)) (now (list .entry)) 0 (r) (now (places .exit)) (now (first .exit)) (now (chosen .exit)) (now (last .exit)) ⌝ }
 {
-    let mut count: usize = 0;
-    let mut k = list.len();
+    let mut end: usize = 0;
+    let mut k = met(list, first, list.len());
     while 0 < k {
-        let t = wide(list[k - 1]);
-        count = look(
+        end = take_up(
             file,
             h,
             head,
             next,
             criterion,
             list,
-            t,
             k,
-            count,
+            end,
             places,
             first,
             chosen,
             last,
         );
-        k -= 1;
+        k = met(list, first, k - 1);
     }
-    count
+    end
 }

@@ -21,7 +21,7 @@ abbrev entered-of : tie.After-slice-known7 → tie.After-enter-criterion
 entered-of c = c .before .before
 
 abbrev lent-of : tie.After-enter-criterion → tie.After-slice-known6
-lent-of c = c .before .before .before .before .before
+lent-of c = c .before .before .before .before .before .before
 
 abbrev ready-of : tie.After-back → tie.After-slice-known7
 ready-of c = c .before .before .before .before .before .before .before
@@ -34,9 +34,9 @@ index-requires c κs =
 
 enter-criterion-requires : tie.Need-enter-criterion-requires
 enter-criterion-requires c κs =
-    let indexed = indexed-of (c .before .before .before .before) in
+    let indexed = indexed-of (c .before .before .before .before .before) in
     let s = start-of indexed in
-    ((s .pre .0 .sound, indexed .index .ensures, length-replicate {A = ℕ} 16 0, s .pre .1 .0 .first-long), criterion-known _ (s .args .h) _ _ (s .pre .0))
+    ((s .pre .0 .sound, indexed .index .ensures, length-replicate {A = ℕ} 16 0, s .pre .1 .1 .long, s .pre .1 .0 .first-long), criterion-known _ (s .args .h) _ _ (s .pre .0))
 
 back-requires : tie.Need-back-requires
 back-requires c κs =

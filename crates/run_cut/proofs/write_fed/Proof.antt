@@ -1,24 +1,22 @@
 use borrow.Author.Needs.{needs}
-use Prim.Native.Nat.{ℕ}
-use native.Mathlib.Omega.{arith}
-use lib.ListN.{length-replicate}
-use Rattle.sets.proofs.Members.{zeros-at}
+use Rattle.run_cut.proofs.Tracing.{sized}
 use Rattle.run_cut.proofs.write_fed.Statement.{statement}
 use Rattle.run_cut.proofs.write_fed.Tie as tie
 
-slice-aggregate-fed : tie.Need-slice-aggregate-fed
-slice-aggregate-fed c = search needs
+-- ---- the states: the call, small, middle
 
-fed-requires : tie.Need-fed-requires
-fed-requires c κs =
-    let s = c .before .before .before .before .before .before in
-    (s .pre, record { long = omega (arith, s .pre .sound .placed .transitions, length-replicate {A = ℕ} 1024 0); none = zeros-at 1024 })
+abbrev call : tie.After-struct-known → tie.Start
+call c = c .before .before .before .before .before .before
 
-slice-aggregate-write : tie.Need-slice-aggregate-write
-slice-aggregate-write c = search needs
+abbrev asked : tie.Else1 → tie.After-struct-known
+asked c = c .before .before .before
 
-write-requires : tie.Need-write-requires
-write-requires c κs = search needs
+write-small-requires : tie.Need-write-small-requires
+write-small-requires c κs =
+    let small = c .before .before in
+    let s = call (small .before .before .before) in
+    let z = sized _ _ _ 16 64 (small .if1 .taken) in
+    (s .pre, z .0, z .1, z .2)
 
 same-length : tie.Need-same-length
 same-length c = search needs
@@ -29,14 +27,47 @@ same-length-2 c = search needs
 returns : tie.Need-returns
 returns c = search needs
 
+write-middle-requires : tie.Need-write-middle-requires
+write-middle-requires c κs =
+    let middle = c .before .before in
+    let s = call (asked (middle .before .before .before .before)) in
+    let z = sized _ _ _ 128 512 (middle .if2 .taken) in
+    (s .pre, z .0, z .1, z .2)
+
+same-length-3 : tie.Need-same-length-3
+same-length-3 c = search needs
+
+same-length-4 : tie.Need-same-length-4
+same-length-4 c = search needs
+
+returns-2 : tie.Need-returns-2
+returns-2 c = search needs
+
+write-large-requires : tie.Need-write-large-requires
+write-large-requires c κs = search needs
+
+same-length-5 : tie.Need-same-length-5
+same-length-5 c = search needs
+
+same-length-6 : tie.Need-same-length-6
+same-length-6 c = search needs
+
+returns-3 : tie.Need-returns-3
+returns-3 c = search needs
+
 pub write-fed-spec : {M : Type 1} → statement M
 write-fed-spec =
     tie.close
     (tie.spec
-    slice-aggregate-fed
-    fed-requires
-    slice-aggregate-write
-    write-requires
+    write-small-requires
     same-length
     same-length-2
-    returns)
+    returns
+    write-middle-requires
+    same-length-3
+    same-length-4
+    returns-2
+    write-large-requires
+    same-length-5
+    same-length-6
+    returns-3)

@@ -7,7 +7,7 @@ use Rattle.run_feed.proofs.enter.Tie as tie
 -- ---- the states: the call, the place asked for, the raisers added
 
 abbrev call : tie.After-contains → tie.Start
-call c = c .before .before .before .before .before .before
+call c = c .before .before .before .before .before .before .before
 
 abbrev asked : tie.After-insert → tie.After-contains
 asked c = c .before .before .before
@@ -18,7 +18,7 @@ contains-requires c κs = search needs
 returns : tie.Need-returns
 returns c =
     let s = call (c .before) in
-    entered-known _ (s .args .h) _ _ _ (s .pre .3) (sym (c .before .contains .ensures) ∙ c .if1 .taken)
+    entered-known _ (s .args .h) _ _ _ _ (s .pre .3) (sym (c .before .contains .ensures) ∙ c .if1 .taken)
 
 insert-requires : tie.Need-insert-requires
 insert-requires c κs = search needs
@@ -34,7 +34,7 @@ returns-2 c =
     let added = c .before .before in
     let inserted = added .before .before in
     let s = call (asked inserted) in
-    entered-new _ (s .args .h) _ _ _ _ _ (inserted .insert .ensures) (added .add-raisers .ensures)
+    entered-new _ (s .args .h) _ _ _ _ _ _ (inserted .insert .ensures) (added .add-raisers .ensures)
 
 pub enter-spec : {M : Type 1} → statement M
 enter-spec =

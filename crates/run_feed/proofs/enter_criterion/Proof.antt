@@ -10,10 +10,10 @@ use Rattle.run_feed.proofs.enter_criterion.Statement.{statement}
 use Rattle.run_feed.proofs.enter_criterion.Tie as tie
 
 abbrev Inv-loop : tie.InvT-loop
-Inv-loop file h head next criterion places₀ first₀ i₀ places first i = Entered file h (λ k. among k (take i criterion)) places₀ first₀ places first
+Inv-loop file h head next last criterion places₀ first₀ i₀ places first i = Entered file h (λ k. among k (take i criterion)) last places₀ first₀ places first
 
 abbrev μ-loop : tie.MeasureT-loop
-μ-loop file h head next criterion places₀ first₀ i₀ places first i = length criterion - i
+μ-loop file h head next last criterion places₀ first₀ i₀ places first i = length criterion - i
 
 -- ---- the states: the call, the head of a turn, the number read
 
@@ -21,7 +21,7 @@ abbrev Turn : Type 0
 Turn = tie.At-loop Inv-loop μ-loop
 
 abbrev call : Turn → tie.Start Inv-loop μ-loop
-call c = c .before .before .before .before .before .before
+call c = c .before .before .before .before .before .before .before
 
 abbrev Read : Type 0
 Read = tie.After-wide Inv-loop μ-loop
@@ -30,7 +30,7 @@ abbrev turn-of : Read → Turn
 turn-of c = c .before .before .before
 
 loop-holds : tie.Need-loop-holds Inv-loop μ-loop
-loop-holds c = let start = c .before .before .before .before .before in criterion-none _ (start .args .h) (start .args .criterion .now) _ _ (start .pre .0 .2)
+loop-holds c = let start = c .before .before .before .before .before .before in criterion-none _ (start .args .h) _ (start .args .criterion .now) _ _ (start .pre .0 .2)
 
 mul-wide : tie.Need-mul-wide Inv-loop μ-loop
 mul-wide c = search needs
@@ -51,7 +51,8 @@ enter-requires c κs =
       s .pre .0 .1,
       omega (arith, read .wide .ensures .0, s .pre .1 (getD Q (t .loop .i) 0) (among-at Q (t .loop .i) (read .before .before .loop-test .taken))),
       t .loop .inv .places-long,
-      omega (arith, s .pre .0 .3, t .loop .inv .first-long),
+      s .pre .0 .3,
+      omega (arith, s .pre .0 .4, t .loop .inv .first-long),
     )
 
 add-i : tie.Need-add-i Inv-loop μ-loop
@@ -66,13 +67,13 @@ loop-again c =
     let read = entered .before .before .before in
     let t = turn-of read in
     let s = call t in
-    criterion-more _ (s .args .h) _ _ _ _ _ _ (t .loop .inv) _ _ _ (read .before .before .loop-test .taken) (read .wide .ensures .0) (entered .enter .ensures)
+    criterion-more _ (s .args .h) _ _ _ _ _ _ _ (t .loop .inv) _ _ _ (read .before .before .loop-test .taken) (read .wide .ensures .0) (entered .enter .ensures)
 
 same-length : tie.Need-same-length Inv-loop μ-loop
 same-length c = c .before .loop .inv .first-long
 
 returns : tie.Need-returns Inv-loop μ-loop
-returns c = let s = call (c .before) in criterion-end _ (s .args .h) _ _ _ _ _ _ (c .before .loop .inv) (c .loop-test .left)
+returns c = let s = call (c .before) in criterion-end _ (s .args .h) _ _ _ _ _ _ _ (c .before .loop .inv) (c .loop-test .left)
 
 pub enter-criterion-spec : {M : Type 1} → statement M
 enter-criterion-spec =

@@ -10,10 +10,10 @@ use Rattle.run_feed.proofs.enter_inputs.Statement.{statement}
 use Rattle.run_feed.proofs.enter_inputs.Tie as tie
 
 abbrev Inv-loop : tie.InvT-loop
-Inv-loop file h head next t from places₀ first₀ start arcs j₀ places first j = InputsEntered file h from t j places₀ first₀ places first
+Inv-loop file h head next last t from places₀ first₀ start arcs j₀ places first j = InputsEntered file h last from t j places₀ first₀ places first
 
 abbrev μ-loop : tie.MeasureT-loop
-μ-loop file h head next t from places₀ first₀ start arcs j₀ places first j = arcs - j
+μ-loop file h head next last t from places₀ first₀ start arcs j₀ places first j = arcs - j
 
 -- ---- the states: the call, the head of a turn, its arc read, its place entered
 
@@ -21,7 +21,7 @@ abbrev Turn : Type 0
 Turn = tie.At-loop Inv-loop μ-loop
 
 abbrev call : Turn → tie.Start Inv-loop μ-loop
-call c = c .before .before .before .before .before
+call c = c .before .before .before .before .before .before
 
 abbrev Read : Type 0
 Read = tie.After-arc Inv-loop μ-loop
@@ -43,8 +43,8 @@ below c = let t = turn-of c in omega (arith, c .before .loop-test .taken, call t
 
 loop-holds : tie.Need-loop-holds Inv-loop μ-loop
 loop-holds c =
-    let start = c .before .before .before .before in
-    inputs-none _ (start .args .h) (start .pre .0 .0) _ _ (start .pre .1 .0) (start .pre .1 .1) _ _ (start .pre .0 .2)
+    let start = c .before .before .before .before .before in
+    inputs-none _ (start .args .h) _ (start .pre .0 .0) _ _ (start .pre .1 .0) (start .pre .1 .1) _ _ (start .pre .0 .2)
 
 mul-arc : tie.Need-mul-arc Inv-loop μ-loop
 mul-arc c = search needs
@@ -69,7 +69,7 @@ returns c =
     let read = c .before .before .before in
     let t = turn-of read in
     let s = call t in
-    inputs-stop _ (s .args .h) (s .pre .0 .0) _ _ (s .pre .1 .0) (s .pre .1 .1) _ _ _ _ _ (t .loop .inv) (below read) (λ e. c .if1 .taken (sum read ∙ e))
+    inputs-stop _ (s .args .h) _ (s .pre .0 .0) _ _ (s .pre .1 .0) (s .pre .1 .1) _ _ _ _ _ (t .loop .inv) (below read) (λ e. c .if1 .taken (sum read ∙ e))
 
 enter-requires : tie.Need-enter-requires Inv-loop μ-loop
 enter-requires c κs =
@@ -81,11 +81,15 @@ enter-requires c κs =
       s .pre .0 .1,
       omega (arith, ap (λ (a : Arc). a .place) (read .arc .ensures .0), good .place),
       t .loop .inv .entered .places-long,
-      omega (arith, s .pre .0 .3, t .loop .inv .entered .first-long),
+      s .pre .0 .3,
+      omega (arith, s .pre .0 .4, t .loop .inv .entered .first-long),
     )
 
 add-j : tie.Need-add-j Inv-loop μ-loop
-add-j c = search needs
+add-j c =
+    let entered = c .before .before in
+    let read = read-of (entered .before .before .before) in
+    omega (arith, below read, call (turn-of read) .pre .0 .0 .placed .arcs)
 
 loop-less : tie.Need-loop-less Inv-loop μ-loop
 loop-less c = search needs
@@ -97,7 +101,7 @@ loop-again c =
     let read = read-of else in
     let t = turn-of read in
     let s = call t in
-    inputs-more _ (s .args .h) (s .pre .0 .0) _ _ (s .pre .1 .0) (s .pre .1 .1) _ _ _ _ _ (t .loop .inv) (below read)
+    inputs-more _ (s .args .h) _ (s .pre .0 .0) _ _ (s .pre .1 .0) (s .pre .1 .1) _ _ _ _ _ (t .loop .inv) (below read)
     (sym (sum read) ∙ else .if1 .left) _ _ _ (ap (λ (a : Arc). a .place) (read .arc .ensures .0)) (entered .enter .ensures)
 
 same-length-2 : tie.Need-same-length-2 Inv-loop μ-loop
@@ -106,7 +110,7 @@ same-length-2 c = c .before .loop .inv .entered .first-long
 returns-2 : tie.Need-returns-2 Inv-loop μ-loop
 returns-2 c =
     let s = call (c .before) in
-    inputs-all _ (s .args .h) (s .pre .0 .0) _ _ (s .pre .1 .0) (s .pre .1 .1) _ _ _ _ _ (c .before .loop .inv) (omega (arith, c .loop-test .left))
+    inputs-all _ (s .args .h) _ (s .pre .0 .0) _ _ (s .pre .1 .0) (s .pre .1 .1) _ _ _ _ _ (c .before .loop .inv) (omega (arith, c .loop-test .left))
 
 pub enter-inputs-spec : {M : Type 1} → statement M
 enter-inputs-spec =
