@@ -6,8 +6,9 @@ use mathlib.Core.List.{List, [], _∷_, map}
 use lib.ListN.{length}
 use lib.Dec.{eqb, ltb, leb}
 use Rattle.file.specs.Word.{byteAt, le64}
-use Rattle.file.specs.Layout.{headerOf, inSlice, arcAt, netFrom, sliceFrom}
+use Rattle.file.specs.Layout.{placesLength, headerOf, inSlice, arcAt, netFrom, sliceFrom}
 use Rattle.file.specs.Refusal.{key, kindWrong, fileRefusal}
+use Rattle.net.specs.Net.{WithinCaps}
 use Rattle.net.specs.declared.Arc.{Arc}
 use Rattle.file.specs.declared.Due.{Due}
 use Rattle.file.specs.declared.Header.{Header}
@@ -23,10 +24,11 @@ pub record Counts (t : Trailer) : Type 0 where
 pub record Placed (n : ℕ) (h : Header) : Type 0 where
   pub short : n ≤ 65536
   pub kind : h .kind ≤ 1
+  pub editionSmall : h .edition ≤ 2
   pub places : h .places ≤ 1024
   pub transitions : h .transitions ≤ 1024
   pub arcs : h .arcs ≤ 4096
-  pub markingsFit : h .markstart + 4 * h .places ≤ h .arcstart
+  pub markingsFit : h .markstart + placesLength (h .edition) (h .places) ≡ h .arcstart
   pub arcsFit : h .arcstart + 8 * h .arcs ≡ h .originstart
   pub originsFit : h .originstart + inSlice (h .kind) (2 * h .places + 2 * h .transitions) + 16 ≡ n
 
@@ -79,9 +81,10 @@ abbrev pub RisingFrom : ℕ → List ℕ → Type 0
 RisingFrom least [] = Unit {0}
 RisingFrom least (x ∷ rest) = (least ≤ x) × RisingFrom (x + 1) rest
 
--- the parts lie inside, the arcs are in range and in order, the origins rise
+-- the parts lie inside, no marking is above its cap, the arcs are in range and in order, the origins rise
 pub record Sound (s : List ℕ) (h : Header) : Type 0 where
   pub placed : Placed (length s) h
+  pub caps : WithinCaps (netFrom s h) (netFrom s h .marking)
   pub arcs : InRange (h .places) (h .transitions) (netFrom s h .arcs)
   pub zeros : (i : ℕ) → i < h .arcs → byteAt s (h .arcstart + 8 * i + 3) ≡ 0
   pub order : OrderedFrom 0 (map key (netFrom s h .arcs))

@@ -1,17 +1,18 @@
 -- A net without caps: the firing rule, the growth of the cuts and the checker's rules are those without caps.
-use Prim.Native.Nat.{ℕ}
+use Prim.Native.Nat.{ℕ, _<_, _≤_}
 use mathlib.Core.Bool.{Bool, true, false, not, _&&_, _||_}
 use mathlib.Core.List.{List}
 use mathlib.Core.Path.{_≡_, refl, _∙_}
+use native.Mathlib.Omega.{arith}
 use lib.ListN.{length, getD}
 use lib.Dec.{T, eqb, ltb, not-T}
-use borrow.Author.Tests.{ltb-true, ltb-false}
-use Rattle.net.specs.Numbers.{among, position, selected}
-use Rattle.net.specs.Net.{Marking, Net, changes, takesFrom, addsTo, capped, Uncapped, WithinCaps, Supplied, Enabled, fire}
+use borrow.Author.Tests.{lt-ltb, ltb-true, ltb-false}
+use Rattle.net.specs.Numbers.{among, position, any, selected}
+use Rattle.net.specs.Net.{Marking, Net, changes, takesFrom, addsTo, capped, hasCaps, Uncapped, WithinCaps, Supplied, Enabled, fire}
 use Rattle.net.specs.Cut.{Growth, growth}
 use Rattle.net.specs.Slice.{Slice, keeping}
 use Rattle.net.specs.Checker.{Rule, lacksOutput, rule3, rule9, rule10, Holds}
-use Rattle.net.proofs.Numbers.{by-cases, fails, and-left, any-finds}
+use Rattle.net.proofs.Numbers.{by-cases, holds, is-true, fails, is-false, and-left, any-has, any-finds, below-passes, below-has}
 use Rattle.net.proofs.Markings.{below-at, below-off}
 
 or-none : (b : Bool) → b || false ≡ b
@@ -21,6 +22,32 @@ or-none false = refl
 and-all : (b : Bool) → b && true ≡ b
 and-all true = refl
 and-all false = refl
+
+-- whether some place has a cap
+module _ (N : Net) where
+  pub has-cap : (p : ℕ) → p < N .places → 0 < N .cap p → hasCaps N ≡ true
+  unfolding hasCaps capped
+  has-cap p l c =
+      let all = selected (λ p. true) 0 (N .places) in
+      is-true (any (capped N) all) (any-has (capped N) all p (below-has (λ p. true) (N .places) p l tt) (holds (ltb 0 (N .cap p)) (lt-ltb 0 (N .cap p) c)))
+
+  pub has-none : ((p : ℕ) → p < N .places → N .cap p ≡ 0) → hasCaps N ≡ false
+  unfolding hasCaps capped
+  has-none none =
+      let all = selected (λ p. true) 0 (N .places) in
+      is-false (any (capped N) all) (λ h.
+      let f = any-finds (capped N) all h in
+      let c = ltb-true 0 (N .cap (f .0)) (is-true (ltb 0 (N .cap (f .0))) (f .2)) in
+      omega (arith, none (f .0) (below-passes (λ p. true) (N .places) (f .0) (f .1) .0)))
+
+  -- of a net that has caps on its places only
+  pub none-capped : ((p : ℕ) → N .places ≤ p → N .cap p ≡ 0) → hasCaps N ≡ false → Uncapped N
+  unfolding Uncapped
+  none-capped off e p = by-cases (ltb p (N .places))
+      (λ l. by-cases (ltb 0 (N .cap p))
+      (λ c. absurd (fails (hasCaps N) e (holds (hasCaps N) (has-cap p (ltb-true p (N .places) l) (ltb-true 0 (N .cap p) c)))))
+      (λ c. omega (arith, ltb-false 0 (N .cap p) c)))
+      (λ l. off p (ltb-false p (N .places) l))
 
 -- how a cut grows without caps
 abbrev pub plain : Net → List ℕ → (ℕ → ℕ → Bool) → Growth

@@ -15,7 +15,7 @@ use Rattle.net.specs.Rakow.{Set, GenerateSlice, GenerateSafetySlice}
 use Rattle.net.specs.Conclusions.{SameVerdict, StuckForGood, SameKept, Unbroken}
 use Rattle.net.proofs.Conclusions.{same-verdict, short-for-good, full-for-good, same-kept, unbroken-accepted, broken-first}
 use Rattle.file.specs.Word.{Bytes}
-use Rattle.file.specs.Layout.{netOf, sliceOf}
+use Rattle.file.specs.Layout.{headerOf, netOf, sliceOf}
 use Rattle.file.specs.Refusal.{fileRefusal}
 use Rattle.file.specs.declared.Due.the-variants as due
 use Rattle.promise.specs.Calls.{safetyAnswer, safetyBuffer, branchingAnswer, checkRefusal, told, Checked, checked, checkedBytes, Accepts}
@@ -131,14 +131,17 @@ module _ (plan buffer : List ℕ) (b : Bytes plan) (read : fileRefusal due.Plan 
   abbrev E : EmptyCriterion plan
   E = empty-criterion plan b read
 
-  wrote : safetyBuffer plan [] buffer ≡ emptySlice
+  abbrev empty : List ℕ
+  empty = emptySlice (headerOf plan .edition)
+
+  wrote : safetyBuffer plan [] buffer ≡ empty
   unfolding emptySlice
-  wrote = E .safety-buffer buffer (omega (arith, sixteen)) ∙ ap (λ (l : List ℕ). emptySlice ++ l) (past-end buffer 16 (omega arith))
+  wrote = E .safety-buffer buffer (omega (arith, sixteen)) ∙ ap (λ (l : List ℕ). empty ++ l) (past-end buffer 16 (omega arith))
 
-  slice-read : fileRefusal due.Slice emptySlice ≡ 0
-  slice-read = check-passes plan emptySlice [] (exactly plan emptySlice [] .0 (E .accepted) .0) .0
+  slice-read : fileRefusal due.Slice empty ≡ 0
+  slice-read = check-passes plan empty [] (exactly plan empty [] .0 (E .accepted) .0) .0
 
-  no-shadow : (list : List ℕ) → shadowOf (netOf plan) (sliceOf emptySlice) list ≡ []
+  no-shadow : (list : List ℕ) → shadowOf (netOf plan) (sliceOf empty) list ≡ []
   unfolding shadowOf
   no-shadow list = E .shadow (firedPart (replay (netOf plan) list .answer) list)
 

@@ -3,7 +3,6 @@ use Prim.Native.Nat.{ℕ, zero, suc, _+_, _-_, _*_, _≤_, _<_}
 use mathlib.Core.Path.{_≡_}
 use mathlib.Core.List.{List, [], _∷_}
 use native.Mathlib.Omega.{arith}
-use native.Mathlib.Decide.{decLt}
 use lib.Dec.{ltb, leb, le→leb}
 use lib.IntN.{pos, negsuc, _-ℤ_}
 use lib.Signed.{_≤ℤ_, leZ-yes}
@@ -13,12 +12,11 @@ use Rattle.net.specs.Numbers.{any}
 use Rattle.net.specs.Net.{Net, Marking, weightOn, input, output, effect, fire, testFiring, replayFrom, replay}
 use Rattle.net.proofs.Numbers.{by-cases}
 use Rattle.net.proofs.Replay.{by-test}
-use Rattle.net.proofs.Markings.{below-at, below-off}
-use Rattle.file.specs.Word.{Bytes, le32}
+use Rattle.file.specs.Word.{Bytes}
 use Rattle.file.specs.Layout.{headerOf, netOf}
 use Rattle.file.specs.Refusal.{refuse, fileRefusal}
 use Rattle.file.specs.declared.Due.the-variants as due
-use Rattle.file.proofs.Bytes.{le32-lt}
+use Rattle.file.proofs.Caps.{marking-lt}
 use Rattle.file.proofs.Rows.{weight-le}
 use Rattle.file.proofs.Opening.{sound, refuse-0}
 use Rattle.promise.specs.Firing.{listRefusal}
@@ -55,16 +53,8 @@ replay-low N small i M (t ∷ ts) p =
     (λ q n e. rw (e, replayFrom) (omega arith))
     (λ q n e. rw (e, replayFrom) (omega arith))
 
--- "a marking 0 to 4,294,967,295"
-marking-low : (file : List ℕ) → Bytes file → (p : ℕ) → netOf file .marking p < 4294967296
-marking-low file b p = go (decLt p (headerOf file .places))
-  where
-    go : Dec (p < headerOf file .places) → netOf file .marking p < 4294967296
-    go (yes l) = omega (arith, below-at (headerOf file .places) (λ q. le32 file (headerOf file .markstart + 4 * q)) p l, le32-lt file b (headerOf file .markstart + 4 * p))
-    go (no l) = omega (arith, below-off (headerOf file .places) (λ q. le32 file (headerOf file .markstart + 4 * q)) p (omega (arith, l)))
-
 pub bounded : (file list : List ℕ) → Bytes file → fileRefusal due.Either file ≡ 0 → listRefusal (netOf file .transitions) list ≡ 0 → Bounded file list
 unfolding replay output listRefusal
 bounded file list b e l =
     let short = ltb-false 65535 (length list) (refuse-0 (ltb 65535 (length list)) 10 (refuse (any (λ t. leb (netOf file .transitions) t) list) 12 0) l .0) in
-    record { tokens-low = λ p. omega (arith, short, marking-low file b p, replay-low (netOf file) (sum-small file b e 1) 0 (netOf file .marking) list p) }
+    record { tokens-low = λ p. omega (arith, short, marking-lt file b (headerOf file) p, replay-low (netOf file) (sum-small file b e 1) 0 (netOf file .marking) list p) }

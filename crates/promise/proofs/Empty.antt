@@ -14,9 +14,10 @@ use Rattle.net.specs.Guarantee.{Contains}
 use Rattle.net.specs.declared.Arc.{Arc}
 use Rattle.file.specs.Word.{le16, le32, Bytes, bytes16, bytes32}
 use Rattle.file.specs.Layout.{trailerOf, headerOf, wordsFrom, netOf, sliceOf}
+use Rattle.file.proofs.Laws.{places-none}
 use Rattle.file.specs.Refusal.{fileRefusal}
 use Rattle.file.specs.Criterion.{placesRefusal, criterionRefusal, criterionOf}
-use Rattle.file.specs.Writing.{markingsBytes, arcsBytes, originsBytes, sliceBody, trailerBytes, sliceBytes}
+use Rattle.file.specs.Writing.{placesBytes, arcsBytes, originsBytes, sliceBody, trailerBytes, sliceBytes}
 use Rattle.file.specs.declared.Due.the-variants as due
 use Rattle.promise.specs.Calls.{cutOf, safetyFile, branchingFile, cutRefusal, writeRefusal, cutAnswer, written, safetyAnswer, safetyBuffer, branchingAnswer, branchingBuffer, Accepts}
 use Rattle.promise.specs.Promise.{emptySlice, EmptyCriterion}
@@ -63,9 +64,9 @@ unfolding restrict among
 no-arc [] = refl
 no-arc (a ∷ l) = no-arc l
 
-pub nothing-written : (N : Net) → sliceBytes (keeping N [] []) ≡ emptySlice
-unfolding keeping sliceBytes markingsBytes arcsBytes originsBytes sliceBody trailerBytes bytes16 bytes32 emptySlice
-nothing-written N = rw (no-arc (N .arcs)) refl
+pub nothing-written : (ed : ℕ) (N : Net) → sliceBytes ed (keeping N [] []) ≡ emptySlice ed
+unfolding keeping sliceBytes placesBytes arcsBytes originsBytes sliceBody trailerBytes bytes16 bytes32 emptySlice
+nothing-written ed N = rw (no-arc (N .arcs), places-none ed) refl
 
 -- the two cuts, and their files
 safety-slice : (plan : List ℕ) → cutOf safety plan [] ≡ keeping (netOf plan) [] []
@@ -76,13 +77,13 @@ branching-slice : (plan : List ℕ) → cutOf branching plan [] ≡ keeping (net
 unfolding cutOf branching
 branching-slice plan = nothing-kept (netOf plan) (λ p t. changes (netOf plan) t p)
 
-pub safety-file : (plan : List ℕ) → safetyFile plan [] ≡ emptySlice
+pub safety-file : (plan : List ℕ) → safetyFile plan [] ≡ emptySlice (headerOf plan .edition)
 unfolding safetyFile
-safety-file plan = ap sliceBytes (safety-slice plan) ∙ nothing-written (netOf plan)
+safety-file plan = ap (sliceBytes (headerOf plan .edition)) (safety-slice plan) ∙ nothing-written (headerOf plan .edition) (netOf plan)
 
-branching-file : (plan : List ℕ) → branchingFile plan [] ≡ emptySlice
+branching-file : (plan : List ℕ) → branchingFile plan [] ≡ emptySlice (headerOf plan .edition)
 unfolding branchingFile
-branching-file plan = ap sliceBytes (branching-slice plan) ∙ nothing-written (netOf plan)
+branching-file plan = ap (sliceBytes (headerOf plan .edition)) (branching-slice plan) ∙ nothing-written (headerOf plan .edition) (netOf plan)
 
 -- no transition is among no origins
 none-stays : (l : List ℕ) → strike [] l ≡ []
@@ -90,30 +91,33 @@ unfolding strike among
 none-stays [] = refl
 none-stays (t ∷ l) = none-stays l
 
-no-origin : sliceOf emptySlice .transitionOrigins ≡ []
+no-origin : (ed : ℕ) → sliceOf (emptySlice ed) .transitionOrigins ≡ []
 unfolding emptySlice trailerOf headerOf wordsFrom le16 le32
-no-origin = refl
+no-origin ed = refl
 
 module _ (plan : List ℕ) (bytes : Bytes plan) (read : fileRefusal due.Plan plan ≡ 0) where
   pub passes : cutRefusal plan [] ≡ 0
   unfolding cutRefusal criterionRefusal placesRefusal
   passes = rw read
 
-  pub fits : (room : ℕ) → 16 ≤ room → writeRefusal plan [] room emptySlice ≡ 0
+  abbrev empty : List ℕ
+  empty = emptySlice (headerOf plan .edition)
+
+  pub fits : (room : ℕ) → 16 ≤ room → writeRefusal plan [] room (emptySlice (headerOf plan .edition)) ≡ 0
   unfolding writeRefusal emptySlice
   fits room h = rw (passes, le-ltb room 16 h)
 
-  answer : (file : List ℕ) (S : Slice) → file ≡ emptySlice → S ≡ keeping (netOf plan) [] [] → (room : ℕ) → 16 ≤ room
+  answer : (file : List ℕ) (S : Slice) → file ≡ empty → S ≡ keeping (netOf plan) [] [] → (room : ℕ) → 16 ≤ room
       → cutAnswer (writeRefusal plan [] room file) (length file) S ≡ record { refused = false; refusal = 0; length = 16; places = 0; transitions = 0 }
   unfolding keeping emptySlice
   answer file S f s room h = rw (f, s, fits room h)
 
-  buffer : (file : List ℕ) → file ≡ emptySlice → (entry : List ℕ) → 16 ≤ length entry
-      → written (writeRefusal plan [] (length entry) file) file entry ≡ emptySlice ++ drop 16 entry
+  buffer : (file : List ℕ) → file ≡ empty → (entry : List ℕ) → 16 ≤ length entry
+      → written (writeRefusal plan [] (length entry) file) file entry ≡ empty ++ drop 16 entry
   unfolding emptySlice
   buffer file f entry h = rw (f, fits (length entry) h)
 
-  own-accepted : Accepts plan emptySlice []
+  own-accepted : Accepts plan empty []
   own-accepted = subst⁻¹ (λ (file : List ℕ). Accepts plan file []) (sym (safety-file plan)) (safety-cut-accepted plan [] bytes passes)
 
   pub empty-criterion : EmptyCriterion plan
@@ -123,8 +127,8 @@ module _ (plan : List ℕ) (bytes : Bytes plan) (read : fileRefusal due.Plan pla
     safety-buffer = λ entry h. buffer (safetyFile plan []) (safety-file plan) entry (omega (arith, h));
     branching-answer = λ room h. answer (branchingFile plan []) (cutOf branching plan []) (branching-file plan) (branching-slice plan) room (omega (arith, h));
     branching-buffer = λ entry h. buffer (branchingFile plan []) (branching-file plan) entry (omega (arith, h));
-    shadow = λ list. ap (λ (os : List ℕ). own os (strike os list)) no-origin ∙ ap (own []) (none-stays list);
+    shadow = λ list. ap (λ (os : List ℕ). own os (strike os list)) (no-origin (headerOf plan .edition)) ∙ ap (own []) (none-stays list);
     accepted = own-accepted;
-    accepted-bytes = even-bytes plan emptySlice [] refl ∙ own-accepted;
+    accepted-bytes = even-bytes plan empty [] refl ∙ own-accepted;
     smallest = λ slice a. subst⁻¹ (λ (file : List ℕ). Contains (sliceOf slice) (sliceOf file)) (sym (safety-file plan)) (contained plan [] bytes passes slice a);
   }

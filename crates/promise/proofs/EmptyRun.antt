@@ -7,19 +7,20 @@ use native.Mathlib.Omega.{arith}
 use lib.ListN.{length}
 use borrow.Author.Tests.{le-ltb}
 use Rattle.net.specs.Numbers.{among, any}
-use Rattle.net.specs.Net.{Net, fired, Replay, replay}
+use Rattle.net.specs.Net.{hasCaps, Net, fired, Replay, replay}
 use Rattle.net.specs.Slice.{keeping}
 use Rattle.net.specs.Guarantee.{PlanFires}
 use Rattle.net.specs.Run.{raised, Fed, goBack, fed, firedAt, runCut}
 use Rattle.net.proofs.Replay.{fires-replay}
 use Rattle.file.specs.Word.{Bytes}
-use Rattle.file.specs.Layout.{netOf}
+use Rattle.file.specs.Layout.{headerOf, netOf}
+use Rattle.file.specs.Criterion.{placesRefusal, criterionRefusal}
 use Rattle.file.specs.Refusal.{fileRefusal}
 use Rattle.file.specs.Writing.{sliceBytes}
 use Rattle.file.specs.declared.Due.the-variants as due
 use Rattle.promise.specs.Calls.{safetyBuffer}
 use Rattle.promise.specs.Firing.{listRefusal}
-use Rattle.promise.specs.RunCut.{runFile, runChosen, runWritten, runRoom, runOutcome, runAnswer, runBuffer, runPositions, RunForNothing}
+use Rattle.promise.specs.RunCut.{runFile, runChosen, runWritten, runRoom, runRefusal, runOutcome, runAnswer, runBuffer, runPositions, RunForNothing}
 use Rattle.promise.specs.Promise.{emptySlice}
 use Rattle.promise.proofs.Empty.{none-selected, nothing-written, safety-file, passes, fits}
 
@@ -37,27 +38,27 @@ unfolding runCut firedAt among
 nothing-kept N ts = rw (nothing-fed N ts, none-selected (λ t. false) 0 (N .transitions) (λ t. refl))
 
 module _ (plan list : List ℕ) where
-  empty-file : runFile plan [] list ≡ emptySlice
+  empty-file : runFile plan [] list ≡ emptySlice (headerOf plan .edition)
   unfolding runFile
-  empty-file = ap sliceBytes (nothing-kept (netOf plan) list) ∙ nothing-written (netOf plan)
+  empty-file = ap (sliceBytes (headerOf plan .edition)) (nothing-kept (netOf plan) list) ∙ nothing-written (headerOf plan .edition) (netOf plan)
 
   none-chosen : runChosen plan [] list ≡ []
   unfolding runChosen
   none-chosen = ap (λ (r : Fed). r .positions) (nothing-fed (netOf plan) list)
 
-  module _ (bytes : Bytes plan) (read : fileRefusal due.Plan plan ≡ 0) (known : listRefusal (netOf plan .transitions) list ≡ 0) (f : PlanFires (netOf plan) list)
+  module _ (bytes : Bytes plan) (read : fileRefusal due.Plan plan ≡ 0) (none : hasCaps (netOf plan) ≡ false) (known : listRefusal (netOf plan .transitions) list ≡ 0) (f : PlanFires (netOf plan) list)
       (buffer positions : List ℕ) (room : 16 ≤ length buffer) where
     fires : replay (netOf plan) list .answer ≡ fired
     unfolding replay PlanFires
     fires = ap (λ (r : Replay). r .answer) (fires-replay (netOf plan) 0 (netOf plan .marking) list f)
 
-    has-room : runRoom (netOf plan) [] list (length buffer) (length positions) ≡ 0
+    has-room : runRoom (headerOf plan .edition) (netOf plan) [] list (length buffer) (length positions) ≡ 0
     unfolding runRoom emptySlice
-    has-room = rw (nothing-kept (netOf plan) list, nothing-written (netOf plan), nothing-fed (netOf plan) list, le-ltb (length buffer) 16 room, le-ltb (length positions) 0 (omega arith))
+    has-room = rw (nothing-kept (netOf plan) list, nothing-written (headerOf plan .edition) (netOf plan), nothing-fed (netOf plan) list, le-ltb (length buffer) 16 room, le-ltb (length positions) 0 (omega arith))
 
     answer : runAnswer plan [] list (length buffer) (length positions) ≡ runWritten 16 0 0 0
-    unfolding runAnswer runOutcome keeping emptySlice
-    answer = rw (passes plan bytes read, known, fires, has-room, nothing-kept (netOf plan) list, nothing-written (netOf plan), nothing-fed (netOf plan) list)
+    unfolding runRefusal runAnswer runOutcome criterionRefusal placesRefusal keeping emptySlice
+    answer = rw (read, none, known, fires, has-room, nothing-kept (netOf plan) list, nothing-written (headerOf plan .edition) (netOf plan), nothing-fed (netOf plan) list)
 
     pub run-for-nothing : RunForNothing plan list buffer positions
     unfolding runBuffer runPositions safetyBuffer

@@ -9,9 +9,9 @@ use Rattle.net.specs.Together.{allowed, fewest, together, remainder}
 use Rattle.net.specs.Checker.{breaks, breaker, sameArc, sameArcs, lacksInput, lacksOutput, rule1, rule2, rule3, rule4, rule5, rule6, rule7, rule8, rule9, rule10, rules, verdictFrom, verdict}
 use Rattle.file.specs.Word.{le16, le32, bytes16, bytes32}
 use Rattle.file.specs.Layout.{trailerOf, headerOf, arcsFrom, wordsFrom}
-use Rattle.file.specs.Refusal.{trailerRefusal, arcsRefusal, tableRefusal, originsRefusal, bodyRefusal, fileRefusal}
+use Rattle.file.specs.Refusal.{trailerRefusal, capsRefusal, arcsRefusal, tableRefusal, originsRefusal, linksRefusal, bodyRefusal, fileRefusal}
 use Rattle.file.specs.Criterion.{placesRefusal, criterionRefusal, criterionOf, criterionBytesRefusal}
-use Rattle.file.specs.Writing.{markingsBytes, arcBytes, arcsBytes, originsBytes, sliceBody, trailerBytes, sliceBytes}
+use Rattle.file.specs.Writing.{placesBytes, arcBytes, arcsBytes, originsBytes, sliceBody, trailerBytes, sliceBytes}
 use Rattle.promise.specs.Calls.{cutOf, safetyFile, branchingFile, cutRefusal, writeRefusal, safetyAnswer, checkRefusal, checked, checkedBytes}
 use Rattle.promise.specs.Firing.{effectRefusal, effectAnswer, listRefusal, replayRefusal, replayAnswer, replayMarking, before, runIn, arcRun}
 use Rattle.promise.specs.Shadow.{shadowOf, lentRefusal, shadowRefusal, shadowAnswer, shadowMarking, shadowOutput}
@@ -20,7 +20,7 @@ use Rattle.promise.specs.Promise.{emptySlice}
 use Rattle.promise.specs.Example.{smallPlan, onePlace, onePlaceCut, parallelPlan, Starred, Noted, Followed, ForNoPlace, Parallels, TakenTogether, withCaps, oneCap, twoCaps, loopNet, overNet, Capped}
 
 pub starred : Starred
-unfolding among position any selected first below weightOn input output effect changes raises takesFrom addsTo capped fire shortPlace fullPlace testInputs testCaps testFiring replayFrom replay tokens growth safety branching drawnBy grown rounds keptPlaces keptTransitions strike own project renumber restrict arcsOf sliceRun planRun placeOf transitionOf keeping cut breaks breaker sameArc sameArcs lacksInput lacksOutput rule1 rule2 rule3 rule4 rule5 rule6 rule7 rule8 rule9 rule10 rules verdictFrom verdict le16 le32 bytes16 bytes32 trailerOf headerOf arcsFrom wordsFrom trailerRefusal arcsRefusal tableRefusal originsRefusal bodyRefusal fileRefusal placesRefusal criterionRefusal markingsBytes arcBytes arcsBytes originsBytes sliceBody trailerBytes sliceBytes cutOf safetyFile branchingFile checkRefusal checked smallPlan effectRefusal effectAnswer listRefusal replayRefusal replayAnswer replayMarking shadowOf lentRefusal shadowRefusal shadowAnswer shadowMarking shadowOutput
+unfolding among position any selected first below weightOn input output effect changes raises takesFrom addsTo capped fire shortPlace fullPlace testInputs testCaps testFiring replayFrom replay tokens growth safety branching drawnBy grown rounds keptPlaces keptTransitions strike own project renumber restrict arcsOf sliceRun planRun placeOf transitionOf keeping cut breaks breaker sameArc sameArcs lacksInput lacksOutput rule1 rule2 rule3 rule4 rule5 rule6 rule7 rule8 rule9 rule10 rules verdictFrom verdict le16 le32 bytes16 bytes32 trailerOf headerOf arcsFrom wordsFrom trailerRefusal arcsRefusal tableRefusal originsRefusal linksRefusal capsRefusal bodyRefusal fileRefusal placesRefusal criterionRefusal placesBytes arcBytes arcsBytes originsBytes sliceBody trailerBytes sliceBytes cutOf safetyFile branchingFile checkRefusal checked smallPlan effectRefusal effectAnswer listRefusal replayRefusal replayAnswer replayMarking shadowOf lentRefusal shadowRefusal shadowAnswer shadowMarking shadowOutput
 starred = record {
   file = (refl, refl);
   fires = record { answer = refl; marking = refl };
@@ -36,7 +36,7 @@ starred = record {
 }
 
 pub noted : Noted
-unfolding among position any selected first below weightOn input output effect changes raises takesFrom addsTo capped fire shortPlace fullPlace testInputs testCaps testFiring replayFrom replay tokens growth safety branching drawnBy grown rounds keptPlaces keptTransitions strike own project renumber restrict arcsOf sliceRun planRun placeOf transitionOf keeping cut breaks breaker sameArc sameArcs lacksInput lacksOutput rule1 rule2 rule3 rule4 rule5 rule6 rule7 rule8 rule9 rule10 rules verdictFrom verdict le16 le32 bytes16 bytes32 trailerOf headerOf arcsFrom wordsFrom trailerRefusal arcsRefusal tableRefusal originsRefusal bodyRefusal fileRefusal placesRefusal criterionRefusal markingsBytes arcBytes arcsBytes originsBytes sliceBody trailerBytes sliceBytes cutOf safetyFile branchingFile checkRefusal checked smallPlan onePlace onePlaceCut effectRefusal effectAnswer listRefusal replayRefusal replayAnswer replayMarking shadowOf lentRefusal shadowRefusal shadowAnswer shadowMarking shadowOutput after planTokens sliceTokens cutRefusal writeRefusal safetyAnswer criterionOf criterionBytesRefusal checkedBytes before runIn arcRun
+unfolding among position any selected first below weightOn input output effect changes raises takesFrom addsTo capped fire shortPlace fullPlace testInputs testCaps testFiring replayFrom replay tokens growth safety branching drawnBy grown rounds keptPlaces keptTransitions strike own project renumber restrict arcsOf sliceRun planRun placeOf transitionOf keeping cut breaks breaker sameArc sameArcs lacksInput lacksOutput rule1 rule2 rule3 rule4 rule5 rule6 rule7 rule8 rule9 rule10 rules verdictFrom verdict le16 le32 bytes16 bytes32 trailerOf headerOf arcsFrom wordsFrom trailerRefusal arcsRefusal tableRefusal originsRefusal linksRefusal capsRefusal bodyRefusal fileRefusal placesRefusal criterionRefusal placesBytes arcBytes arcsBytes originsBytes sliceBody trailerBytes sliceBytes cutOf safetyFile branchingFile checkRefusal checked smallPlan onePlace onePlaceCut effectRefusal effectAnswer listRefusal replayRefusal replayAnswer replayMarking shadowOf lentRefusal shadowRefusal shadowAnswer shadowMarking shadowOutput after planTokens sliceTokens cutRefusal writeRefusal safetyAnswer criterionOf criterionBytesRefusal checkedBytes before runIn arcRun
 noted = record {
   one-place = refl;
   too-short = refl;
@@ -66,7 +66,7 @@ noted = record {
 }
 
 pub followed : Followed
-unfolding among position any selected first below weightOn input output effect changes raises takesFrom addsTo capped fire shortPlace fullPlace testInputs testCaps testFiring replayFrom replay tokens growth safety branching drawnBy grown rounds keptPlaces keptTransitions strike own project renumber restrict arcsOf sliceRun planRun placeOf transitionOf keeping cut breaks breaker sameArc sameArcs lacksInput lacksOutput rule1 rule2 rule3 rule4 rule5 rule6 rule7 rule8 rule9 rule10 rules verdictFrom verdict le16 le32 bytes16 bytes32 trailerOf headerOf arcsFrom wordsFrom trailerRefusal arcsRefusal tableRefusal originsRefusal bodyRefusal fileRefusal placesRefusal criterionRefusal markingsBytes arcBytes arcsBytes originsBytes sliceBody trailerBytes sliceBytes cutOf safetyFile branchingFile checkRefusal checked smallPlan onePlace onePlaceCut effectRefusal effectAnswer listRefusal replayRefusal replayAnswer replayMarking shadowOf lentRefusal shadowRefusal shadowAnswer shadowMarking shadowOutput after planTokens sliceTokens cutRefusal writeRefusal safetyAnswer criterionOf criterionBytesRefusal checkedBytes before runIn arcRun
+unfolding among position any selected first below weightOn input output effect changes raises takesFrom addsTo capped fire shortPlace fullPlace testInputs testCaps testFiring replayFrom replay tokens growth safety branching drawnBy grown rounds keptPlaces keptTransitions strike own project renumber restrict arcsOf sliceRun planRun placeOf transitionOf keeping cut breaks breaker sameArc sameArcs lacksInput lacksOutput rule1 rule2 rule3 rule4 rule5 rule6 rule7 rule8 rule9 rule10 rules verdictFrom verdict le16 le32 bytes16 bytes32 trailerOf headerOf arcsFrom wordsFrom trailerRefusal arcsRefusal tableRefusal originsRefusal linksRefusal capsRefusal bodyRefusal fileRefusal placesRefusal criterionRefusal placesBytes arcBytes arcsBytes originsBytes sliceBody trailerBytes sliceBytes cutOf safetyFile branchingFile checkRefusal checked smallPlan onePlace onePlaceCut effectRefusal effectAnswer listRefusal replayRefusal replayAnswer replayMarking shadowOf lentRefusal shadowRefusal shadowAnswer shadowMarking shadowOutput after planTokens sliceTokens cutRefusal writeRefusal safetyAnswer criterionOf criterionBytesRefusal checkedBytes before runIn arcRun
 followed = record {
   fires = record { answer = refl; marking = refl; output = refl };
   sticks = record { answer = refl; marking = refl; output = refl };
@@ -83,7 +83,7 @@ followed = record {
 }
 
 pub for-no-place : ForNoPlace
-unfolding among position any selected first below weightOn input output effect changes raises takesFrom addsTo capped fire shortPlace fullPlace testInputs testCaps testFiring replayFrom replay tokens growth safety branching drawnBy grown rounds keptPlaces keptTransitions strike own project renumber restrict arcsOf sliceRun planRun placeOf transitionOf keeping cut breaks breaker sameArc sameArcs lacksInput lacksOutput rule1 rule2 rule3 rule4 rule5 rule6 rule7 rule8 rule9 rule10 rules verdictFrom verdict le16 le32 bytes16 bytes32 trailerOf headerOf arcsFrom wordsFrom trailerRefusal arcsRefusal tableRefusal originsRefusal bodyRefusal fileRefusal placesRefusal criterionRefusal markingsBytes arcBytes arcsBytes originsBytes sliceBody trailerBytes sliceBytes cutOf safetyFile branchingFile checkRefusal checked smallPlan onePlace onePlaceCut effectRefusal effectAnswer listRefusal replayRefusal replayAnswer replayMarking shadowOf lentRefusal shadowRefusal shadowAnswer shadowMarking shadowOutput after planTokens sliceTokens cutRefusal writeRefusal safetyAnswer criterionOf criterionBytesRefusal checkedBytes before runIn arcRun emptySlice
+unfolding among position any selected first below weightOn input output effect changes raises takesFrom addsTo capped fire shortPlace fullPlace testInputs testCaps testFiring replayFrom replay tokens growth safety branching drawnBy grown rounds keptPlaces keptTransitions strike own project renumber restrict arcsOf sliceRun planRun placeOf transitionOf keeping cut breaks breaker sameArc sameArcs lacksInput lacksOutput rule1 rule2 rule3 rule4 rule5 rule6 rule7 rule8 rule9 rule10 rules verdictFrom verdict le16 le32 bytes16 bytes32 trailerOf headerOf arcsFrom wordsFrom trailerRefusal arcsRefusal tableRefusal originsRefusal linksRefusal capsRefusal bodyRefusal fileRefusal placesRefusal criterionRefusal placesBytes arcBytes arcsBytes originsBytes sliceBody trailerBytes sliceBytes cutOf safetyFile branchingFile checkRefusal checked smallPlan onePlace onePlaceCut effectRefusal effectAnswer listRefusal replayRefusal replayAnswer replayMarking shadowOf lentRefusal shadowRefusal shadowAnswer shadowMarking shadowOutput after planTokens sliceTokens cutRefusal writeRefusal safetyAnswer criterionOf criterionBytesRefusal checkedBytes before runIn arcRun emptySlice
 for-no-place = record {
   safety-cut = refl;
   branching-cut = refl;
@@ -110,7 +110,7 @@ for-no-place = record {
 }
 
 pub parallels : Parallels
-unfolding among position any selected first below weightOn input output effect changes raises takesFrom addsTo capped fire shortPlace fullPlace testInputs testCaps testFiring replayFrom replay tokens growth safety branching drawnBy grown rounds keptPlaces keptTransitions strike own project renumber restrict arcsOf sliceRun planRun placeOf transitionOf keeping cut breaks breaker sameArc sameArcs lacksInput lacksOutput rule1 rule2 rule3 rule4 rule5 rule6 rule7 rule8 rule9 rule10 rules verdictFrom verdict le16 le32 bytes16 bytes32 trailerOf headerOf arcsFrom wordsFrom trailerRefusal arcsRefusal tableRefusal originsRefusal bodyRefusal fileRefusal placesRefusal criterionRefusal markingsBytes arcBytes arcsBytes originsBytes sliceBody trailerBytes sliceBytes cutOf safetyFile branchingFile checkRefusal checked smallPlan onePlace onePlaceCut effectRefusal effectAnswer listRefusal replayRefusal replayAnswer replayMarking shadowOf lentRefusal shadowRefusal shadowAnswer shadowMarking shadowOutput after planTokens sliceTokens cutRefusal writeRefusal safetyAnswer criterionOf criterionBytesRefusal checkedBytes before runIn arcRun parallelPlan
+unfolding among position any selected first below weightOn input output effect changes raises takesFrom addsTo capped fire shortPlace fullPlace testInputs testCaps testFiring replayFrom replay tokens growth safety branching drawnBy grown rounds keptPlaces keptTransitions strike own project renumber restrict arcsOf sliceRun planRun placeOf transitionOf keeping cut breaks breaker sameArc sameArcs lacksInput lacksOutput rule1 rule2 rule3 rule4 rule5 rule6 rule7 rule8 rule9 rule10 rules verdictFrom verdict le16 le32 bytes16 bytes32 trailerOf headerOf arcsFrom wordsFrom trailerRefusal arcsRefusal tableRefusal originsRefusal linksRefusal capsRefusal bodyRefusal fileRefusal placesRefusal criterionRefusal placesBytes arcBytes arcsBytes originsBytes sliceBody trailerBytes sliceBytes cutOf safetyFile branchingFile checkRefusal checked smallPlan onePlace onePlaceCut effectRefusal effectAnswer listRefusal replayRefusal replayAnswer replayMarking shadowOf lentRefusal shadowRefusal shadowAnswer shadowMarking shadowOutput after planTokens sliceTokens cutRefusal writeRefusal safetyAnswer criterionOf criterionBytesRefusal checkedBytes before runIn arcRun parallelPlan
 parallels = record {
   file = (refl, refl);
   takes-two = refl;
@@ -123,7 +123,7 @@ parallels = record {
 }
 
 pub taken-together : TakenTogether
-unfolding selected below weightOn input takesFrom tokens allowed fewest together remainder le16 le32 trailerOf headerOf arcsFrom trailerRefusal arcsRefusal tableRefusal originsRefusal bodyRefusal fileRefusal smallPlan parallelPlan emptySlice togetherRefusal togetherAnswer togetherRest
+unfolding selected below weightOn input takesFrom tokens allowed fewest together remainder le16 le32 trailerOf headerOf arcsFrom trailerRefusal arcsRefusal tableRefusal originsRefusal linksRefusal capsRefusal bodyRefusal fileRefusal smallPlan parallelPlan emptySlice togetherRefusal togetherAnswer togetherRest
 taken-together = record {
   fewest = record { answer = refl; rest = refl };
   first-fewest = record { answer = refl; rest = refl };
@@ -142,7 +142,7 @@ taken-together = record {
 }
 
 pub with-caps : Capped
-unfolding among position any selected first below weightOn input output effect changes raises takesFrom addsTo capped fire shortPlace fullPlace testInputs testCaps testFiring replayFrom replay tokens growth safety branching drawnBy grown rounds keptPlaces keptTransitions strike own project renumber restrict arcsOf sliceRun planRun placeOf transitionOf keeping cut breaks breaker sameArc sameArcs lacksInput lacksOutput rule1 rule2 rule3 rule4 rule5 rule6 rule7 rule8 rule9 rule10 rules verdictFrom verdict le16 le32 bytes16 bytes32 trailerOf headerOf arcsFrom wordsFrom trailerRefusal arcsRefusal tableRefusal originsRefusal bodyRefusal fileRefusal placesRefusal criterionRefusal markingsBytes arcBytes arcsBytes originsBytes sliceBody trailerBytes sliceBytes cutOf safetyFile branchingFile checkRefusal checked smallPlan effectRefusal effectAnswer listRefusal replayRefusal replayAnswer replayMarking shadowOf lentRefusal shadowRefusal shadowAnswer shadowMarking shadowOutput withCaps oneCap twoCaps loopNet overNet allowed fewest together
+unfolding among position any selected first below weightOn input output effect changes raises takesFrom addsTo capped fire shortPlace fullPlace testInputs testCaps testFiring replayFrom replay tokens growth safety branching drawnBy grown rounds keptPlaces keptTransitions strike own project renumber restrict arcsOf sliceRun planRun placeOf transitionOf keeping cut breaks breaker sameArc sameArcs lacksInput lacksOutput rule1 rule2 rule3 rule4 rule5 rule6 rule7 rule8 rule9 rule10 rules verdictFrom verdict le16 le32 bytes16 bytes32 trailerOf headerOf arcsFrom wordsFrom trailerRefusal arcsRefusal tableRefusal originsRefusal linksRefusal capsRefusal bodyRefusal fileRefusal placesRefusal criterionRefusal placesBytes arcBytes arcsBytes originsBytes sliceBody trailerBytes sliceBytes cutOf safetyFile branchingFile checkRefusal checked smallPlan effectRefusal effectAnswer listRefusal replayRefusal replayAnswer replayMarking shadowOf lentRefusal shadowRefusal shadowAnswer shadowMarking shadowOutput withCaps oneCap twoCaps loopNet overNet allowed fewest together
 with-caps = record {
   fourth-full = refl;
   before = refl;

@@ -142,33 +142,33 @@ pub record Followed : Type 0 where
 -- an empty criterion (document 02, A7)
 pub record ForNoPlace : Type 0 where
   -- "the slice with no places and no transitions, from both cuts, 16 bytes long"; with 15 bytes lent, 13
-  pub safety-cut : safetyFile smallPlan [] ≡ emptySlice
-  pub branching-cut : branchingFile smallPlan [] ≡ emptySlice
+  pub safety-cut : safetyFile smallPlan [] ≡ emptySlice 1
+  pub branching-cut : branchingFile smallPlan [] ≡ emptySlice 1
   pub answer : safetyAnswer smallPlan [] 16 ≡ record { refused = false; refusal = 0; length = 16; places = 0; transitions = 0 }
   pub no-room : safetyAnswer smallPlan [] 15 ≡ record { refused = true; refusal = 13; length = 0; places = 0; transitions = 0 }
   -- accepted for no place, by no bytes too, and not for place 2; "9 now only for an odd byte count"
-  pub its-own : checked smallPlan emptySlice [] ≡ record { refused = false; code = 0; number = 0 }
-  pub no-bytes : checkedBytes smallPlan emptySlice [] ≡ 0
-  pub one-byte : checkedBytes smallPlan emptySlice (0 ∷ []) ≡ 9
-  pub another : checked smallPlan emptySlice (2 ∷ []) ≡ record { refused = false; code = 105; number = 2 }
+  pub its-own : checked smallPlan (emptySlice 1) [] ≡ record { refused = false; code = 0; number = 0 }
+  pub no-bytes : checkedBytes smallPlan (emptySlice 1) [] ≡ 0
+  pub one-byte : checkedBytes smallPlan (emptySlice 1) (0 ∷ []) ≡ 9
+  pub another : checked smallPlan (emptySlice 1) (2 ∷ []) ≡ record { refused = false; code = 105; number = 2 }
   -- "4 lets an empty slice pass, an empty plan not"; a slice is no plan still
-  pub passes : (fileRefusal due.Slice emptySlice ≡ 0) × (fileRefusal due.Either emptySlice ≡ 0)
-  pub empty-plan : (fileRefusal due.Plan (set emptySlice 10 0) ≡ 4) × (fileRefusal due.Either (set emptySlice 10 0) ≡ 4)
-  pub no-plan : fileRefusal due.Plan emptySlice ≡ 3
+  pub passes : (fileRefusal due.Slice (emptySlice 1) ≡ 0) × (fileRefusal due.Either (emptySlice 1) ≡ 0)
+  pub empty-plan : (fileRefusal due.Plan (set (emptySlice 1) 10 0) ≡ 4) × (fileRefusal due.Either (set (emptySlice 1) 10 0) ≡ 4)
+  pub no-plan : fileRefusal due.Plan (emptySlice 1) ≡ 3
   -- replayed, asked for an effect and for arcs, followed in
-  pub fires : replayAnswer emptySlice [] 0 ≡ record { refused = false; refusal = 0; stuck = false; full = false; index = 0; place = 0; amount = 0 }
-  pub no-number : replayAnswer emptySlice (0 ∷ []) 0 .refusal ≡ 12
-  pub no-effect : effectAnswer emptySlice 0 0 ≡ record { refused = true; refusal = 10; effect = pos 0 }
-  pub no-run : arcRun smallPlan emptySlice true 0 ≡ []
-  pub no-shadow : shadowAnswer smallPlan emptySlice (0 ∷ 3 ∷ []) 5 0 ≡ firing 0
+  pub fires : replayAnswer (emptySlice 1) [] 0 ≡ record { refused = false; refusal = 0; stuck = false; full = false; index = 0; place = 0; amount = 0 }
+  pub no-number : replayAnswer (emptySlice 1) (0 ∷ []) 0 .refusal ≡ 12
+  pub no-effect : effectAnswer (emptySlice 1) 0 0 ≡ record { refused = true; refusal = 10; effect = pos 0 }
+  pub no-run : arcRun smallPlan (emptySlice 1) true 0 ≡ []
+  pub no-shadow : shadowAnswer smallPlan (emptySlice 1) (0 ∷ 3 ∷ []) 5 0 ≡ firing 0
   -- a larger slice may be accepted for no place, but rules 1 to 4, 7 and 8 bind: place 0 has 2 tokens and not 3; transition 0 takes from place 0; it raises place 2
   pub larger : checked smallPlan (safetyFile smallPlan (2 ∷ [])) [] .code ≡ 0
   pub other-marking : checked smallPlan onePlaceCut [] ≡ record { refused = false; code = 103; number = 0 }
-  pub no-input : checked smallPlan (sliceBytes (keeping (netOf smallPlan) [] (0 ∷ []))) [] ≡ record { refused = false; code = 107; number = 0 }
-  pub no-raiser : checked smallPlan (sliceBytes (keeping (netOf smallPlan) (2 ∷ []) [])) [] ≡ record { refused = false; code = 108; number = 0 }
+  pub no-input : checked smallPlan (sliceBytes 1 (keeping (netOf smallPlan) [] (0 ∷ []))) [] ≡ record { refused = false; code = 107; number = 0 }
+  pub no-raiser : checked smallPlan (sliceBytes 1 (keeping (netOf smallPlan) (2 ∷ []) [])) [] ≡ record { refused = false; code = 108; number = 0 }
   -- rule 6 is about Q alone: transition 0 lowers place 0, and none raises it
-  pub may-lower : checked smallPlan (sliceBytes (keeping (netOf smallPlan) (0 ∷ []) [])) [] .code ≡ 0
-  pub no-changer : checked smallPlan (sliceBytes (keeping (netOf smallPlan) (0 ∷ []) [])) (0 ∷ []) ≡ record { refused = false; code = 106; number = 0 }
+  pub may-lower : checked smallPlan (sliceBytes 1 (keeping (netOf smallPlan) (0 ∷ []) [])) [] .code ≡ 0
+  pub no-changer : checked smallPlan (sliceBytes 1 (keeping (netOf smallPlan) (0 ∷ []) [])) (0 ∷ []) ≡ record { refused = false; code = 106; number = 0 }
 
 -- the small plan with the input of transition 2 as two arcs of weight 1: body length 100, 10 arcs
 unfoldable pub parallelPlan : List ℕ
@@ -204,7 +204,7 @@ pub record TakenTogether : Type 0 where
   pub no-inputs : togetherAnswer (set smallPlan 86 1) 3 (2 ∷ 1 ∷ 0 ∷ 5 ∷ 0 ∷ []) 5 ≡ record { refused = false; refusal = 0; unlimited = true; times = 0 }
   pub same : togetherRest (set smallPlan 86 1) 3 (2 ∷ 1 ∷ 0 ∷ 5 ∷ 0 ∷ []) (9 ∷ 9 ∷ 9 ∷ 9 ∷ 9 ∷ 7 ∷ []) ≡ 2 ∷ 1 ∷ 0 ∷ 5 ∷ 0 ∷ 7 ∷ []
   -- the plan, then 12; "15: .. after the transition number, before the buffer", also for a longer marking; 13
-  pub no-plan : togetherAnswer emptySlice 9 [] 0 ≡ record { refused = true; refusal = 3; unlimited = false; times = 0 }
+  pub no-plan : togetherAnswer (emptySlice 1) 9 [] 0 ≡ record { refused = true; refusal = 3; unlimited = false; times = 0 }
   pub no-transition : togetherAnswer smallPlan 4 [] 0 ≡ record { refused = true; refusal = 12; unlimited = false; times = 0 }
   pub four-entries : togetherAnswer smallPlan 3 (2 ∷ 1 ∷ 0 ∷ 0 ∷ []) 0 ≡ record { refused = true; refusal = 15; unlimited = false; times = 0 }
   pub six-entries : togetherAnswer smallPlan 3 (2 ∷ 1 ∷ 0 ∷ 0 ∷ 0 ∷ 0 ∷ []) 6 ≡ record { refused = true; refusal = 15; unlimited = false; times = 0 }

@@ -8,3 +8,4 @@ pub mod Together
 pub mod Promise
 pub mod Example
 pub mod RunExample
+pub mod FullExample

@@ -6,20 +6,21 @@ use mathlib.Core.Path.{_≡_}
 use lib.ListN.{length, take, getD}
 use lib.Dec.{T, ltb}
 use Rattle.net.specs.Numbers.{among, Rising}
-use Rattle.net.specs.Net.{Net, Answer, fired, short, full, replay, StuckAt, ShortAt}
+use Rattle.net.specs.Net.{Net, hasCaps, Answer, fired, short, full, replay, StuckAt, ShortAt}
 use Rattle.net.specs.Slice.{HasPlace}
 use Rattle.net.specs.Guarantee.{planTokens, SliceFires, sliceTokens}
 use Rattle.net.specs.Run.{fed, firedAt, runCut}
-use Rattle.file.specs.Layout.{netOf, sliceOf}
-use Rattle.file.specs.Refusal.{refuse, fileRefusal}
+use Rattle.file.specs.Layout.{headerOf, netOf, sliceOf}
+use Rattle.file.specs.Refusal.{refuse, orElse, fileRefusal}
+use Rattle.file.specs.Criterion.{criterionRefusal}
 use Rattle.file.specs.Writing.{sliceBytes}
 use Rattle.file.specs.declared.Due.the-variants as due
-use Rattle.promise.specs.Calls.{cutRefusal, written, safetyBuffer}
+use Rattle.promise.specs.Calls.{written, safetyBuffer}
 use Rattle.promise.specs.Firing.{listRefusal}
 
--- the slice file: "A slice written by a cut has no note"
+-- the slice file: "A slice written by a cut has no note"; "a slice keeps its plan's edition"
 unfoldable pub runFile : List ℕ → List ℕ → List ℕ → List ℕ
-runFile plan Q list = sliceBytes (runCut (netOf plan) Q list)
+runFile plan Q list = sliceBytes (headerOf plan .edition) (runCut (netOf plan) Q list)
 
 -- "The chosen positions, from 0 and rising"
 unfoldable pub runChosen : List ℕ → List ℕ → List ℕ → List ℕ
@@ -59,20 +60,24 @@ stuckOr (short i p n) a = runStuck i p n
 stuckOr (full i p n) a = runStuck i p n
 
 -- "13, which is tested for the slice file and then for the positions": the buffer has `room` bytes, the second list `entries`
-unfoldable pub runRoom : Net → List ℕ → List ℕ → ℕ → ℕ → ℕ
-runRoom N Q list room entries = refuse (ltb room (length (sliceBytes (runCut N Q list)))) 13 (refuse (ltb entries (length (fed N Q list .positions))) 13 0)
+unfoldable pub runRoom : ℕ → Net → List ℕ → List ℕ → ℕ → ℕ → ℕ
+runRoom edition N Q list room entries = refuse (ltb room (length (sliceBytes edition (runCut N Q list)))) 13 (refuse (ltb entries (length (fed N Q list .positions))) 13 0)
 
 -- the answer where the plan, Q and the list are not turned back: 14 "after the list, before 13"
-unfoldable pub runOutcome : Net → List ℕ → List ℕ → ℕ → ℕ → RunAnswer
-runOutcome N Q list room entries =
+unfoldable pub runOutcome : ℕ → Net → List ℕ → List ℕ → ℕ → ℕ → RunAnswer
+runOutcome edition N Q list room entries =
     let S = runCut N Q list in
-    stuckOr (replay N list .answer) (runOr (runRoom N Q list room entries)
-    (runWritten (length (sliceBytes S)) (S .net .places) (S .net .transitions) (length (fed N Q list .positions))))
+    stuckOr (replay N list .answer) (runOr (runRoom edition N Q list room entries)
+    (runWritten (length (sliceBytes edition S)) (S .net .places) (S .net .transitions) (length (fed N Q list .positions))))
+
+-- 17: "a plan with a cap above 0 handed to the run cut, checked after the file", and so before Q
+unfoldable pub runRefusal : List ℕ → List ℕ → ℕ
+runRefusal plan Q = orElse (fileRefusal due.Plan plan) (refuse (hasCaps (netOf plan)) 17 (criterionRefusal (netOf plan .places) Q))
 
 -- the answer of the run cut: the plan's refusal, that of Q and that of the list come first
 unfoldable pub runAnswer : List ℕ → List ℕ → List ℕ → ℕ → ℕ → RunAnswer
 runAnswer plan Q list room entries =
-    runOr (cutRefusal plan Q) (runOr (listRefusal (netOf plan .transitions) list) (runOutcome (netOf plan) Q list room entries))
+    runOr (runRefusal plan Q) (runOr (listRefusal (netOf plan .transitions) list) (runOutcome (headerOf plan .edition) (netOf plan) Q list room entries))
 
 -- the buffer after it: as it was where the call is refused, for whatever reason
 unfoldable pub runBuffer : List ℕ → List ℕ → List ℕ → List ℕ → ℕ → List ℕ
@@ -90,6 +95,7 @@ pub record Feeds (plan Q list file positions : List ℕ) : Type 0 where
   pub chosen : positions ≡ fed (netOf plan) Q list .positions
   pub read : fileRefusal due.Slice file ≡ 0
   pub same : sliceOf file ≡ runCut (netOf plan) Q list
+  pub edition : headerOf file .edition ≡ headerOf plan .edition
   -- W starts as Q
   pub criterion : (q : ℕ) → T (among q Q) → HasPlace (sliceOf file) q
   -- "Fired in order from the slice's marking, the chosen positions all fire"

@@ -30,7 +30,7 @@ pub record SmallRuns : Type 0 where
   pub empty-list : Written smallPlan (2 ∷ 4 ∷ []) [] (runWritten 28 2 0 0) (9 ∷ 9 ∷ 9 ∷ 9 ∷ 9 ∷ [])
   -- "The run cut with empty Q likewise, with no position chosen"
   pub no-place : Written smallPlan [] (3 ∷ 0 ∷ 1 ∷ []) (runWritten 16 0 0 0) (9 ∷ 9 ∷ 9 ∷ 9 ∷ 9 ∷ [])
-  pub empty-slice : runFile smallPlan [] (3 ∷ 0 ∷ 1 ∷ []) ≡ emptySlice
+  pub empty-slice : runFile smallPlan [] (3 ∷ 0 ∷ 1 ∷ []) ≡ emptySlice 1
   -- "raised the marking": transition 0 takes a token of place 1 and gives it back
   pub given-back : Written (set smallPlan 40 1) (1 ∷ []) (0 ∷ []) (runWritten 22 1 0 0) (9 ∷ 9 ∷ 9 ∷ 9 ∷ 9 ∷ [])
   -- "in and out are sums": transition 2 takes two tokens of place 3 by two arcs, and gives two back by one
@@ -63,7 +63,7 @@ againFile = runFile againPlan (2 ∷ []) (0 ∷ 1 ∷ 2 ∷ 0 ∷ [])
 
 -- "Document 002 claims this for all firings of kept transitions": of every run, the list without the transitions that are missing from the slice fires there
 unfoldable pub Printed : Type 0
-Printed = (plan Q list : List ℕ) → runAnswer plan Q list 40976 65535 .refusal ≡ 0 → SliceFires (sliceOf (runFile plan Q list)) (struck (sliceOf (runFile plan Q list)) list)
+Printed = (plan Q list : List ℕ) → runAnswer plan Q list 45072 65535 .refusal ≡ 0 → SliceFires (sliceOf (runFile plan Q list)) (struck (sliceOf (runFile plan Q list)) list)
 
 -- "that can fail when a kept transition fires again unchosen"
 pub record Again : Type 0 where
