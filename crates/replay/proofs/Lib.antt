@@ -1,5 +1,3 @@
-pub mod Firing
-pub mod Short
 pub mod Listing
 pub mod Underway
 pub mod Loading

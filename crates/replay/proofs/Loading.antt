@@ -1,5 +1,5 @@
 -- The initial marking, written entry by entry.
-use Prim.Native.Nat.{ℕ, _+_, _*_, _^_, _<_, _≤_}
+use Prim.Native.Nat.{ℕ, _+_, _*_, _<_, _≤_}
 use mathlib.Core.Path.{_≡_, refl, ap, _∙_, fun-ext}
 use mathlib.Core.List.{List}
 use native.Mathlib.Decide.{decLt}
@@ -8,15 +8,16 @@ use borrow.Author.Count.{below-none, below-more}
 use lib.ListN.{length, getD, set, length-set, List·getD-eq-default}
 use lib.Seq.{getD-set-same, getD-set-other}
 use Rattle.net.specs.Net.{Marking, Replay, tokens, replay, replayFrom}
-use Rattle.net.proofs.Markings.{below-at, below-off, tokens-are}
-use Rattle.file.specs.Word.{Bytes, le32}
-use Rattle.file.specs.Layout.{netFrom}
+use Rattle.net.proofs.Markings.{below-off, tokens-are}
+use Rattle.file.specs.Word.{Bytes}
+use Rattle.file.specs.Layout.{markingAt, netFrom}
 use Rattle.file.specs.declared.Header.{Header}
-use Rattle.file.proofs.Bytes.{le32-lt}
+use Rattle.file.proofs.Caps.{marking-lt}
 use Rattle.promise.specs.Firing.{ReplayAnswer, replayTold}
 use Rattle.arcs_starts.specs.Table.{Split}
 use Rattle.inputs_lists.proofs.Passing.{list-short, list-known}
 use Rattle.replay_steps.specs.Steps.{held, Ready, Holds, Listed}
+use Rattle.replay_steps.proofs.Underway.{held-within}
 use Rattle.replay.specs.Steps.{Passed}
 
 pub record Loaded (s : List ℕ) (h : Header) (m₀ m : List ℕ) (n : ℕ) : Type 0 where
@@ -47,16 +48,8 @@ module _ {s : List ℕ} {h : Header} {m₀ : List ℕ} where
             omega (
               arith,
               List·getD-eq-default m 0 {n = p} (omega (arith, u, d .long, d .places)),
-              below-off (h .places) (λ q. le32 s (h .markstart + 4 * q)) p (omega (arith, u)),
+              below-off (h .places) (markingAt s h) p (omega (arith, u)),
             )
-
--- "a marking 0 to 4,294,967,295"
-marking-low : (s : List ℕ) (h : Header) → Bytes s → (p : ℕ) → netFrom s h .marking p < 2 ^ 32
-marking-low s h b p = go (decLt p (h .places))
-  where
-    go : Dec (p < h .places) → netFrom s h .marking p < 2 ^ 32
-    go (yes l) = omega (arith, below-at (h .places) (λ q. le32 s (h .markstart + 4 * q)) p l, le32-lt s b (h .markstart + 4 * p))
-    go (no l) = omega (arith, below-off (h .places) (λ q. le32 s (h .markstart + 4 * q)) p (omega (arith, l)))
 
 -- "starts at the initial marking"
 from-initial : (s : List ℕ) (h : Header) {m₀ m : List ℕ} → Holds m₀ m (netFrom s h .marking) → (ts : List ℕ) → replayFrom (netFrom s h) 0 (held m) ts ≡ replay (netFrom s h) ts
@@ -64,11 +57,12 @@ unfolding replay
 from-initial s h e ts = ap (λ (M : Marking). replayFrom (netFrom s h) 0 M ts) (fun-ext (e .at))
 
 module _ {s : List ℕ} {h : Header} {ts m₀ m : List ℕ} (passed : Passed s h ts m₀) (loaded : Holds m₀ m (netFrom s h .marking)) where
-  pub listed : Bytes s → Listed h ts m
+  pub listed : Bytes s → Listed s h ts m
   listed b = record {
     short = list-short (h .transitions) ts (passed .list);
     known = list-known (h .transitions) ts (passed .list);
-    low = λ p. omega (arith, loaded .at p, marking-low s h b p);
+    low = λ p. omega (arith, loaded .at p, marking-lt s b h p);
+    caps = held-within (netFrom s h) (netFrom s h .marking) (passed .sound .caps) loaded;
   }
 
   pub ready : Bytes s → {table : List ℕ} → 2 * h .transitions < length table → ((k : ℕ) → k ≤ 2 * h .transitions → Split s (h .arcstart) (h .arcs) k (getD table k 0)) → Ready s h table m

@@ -1,25 +1,28 @@
 -- How a replay goes on, and how it ends: all fired, or stuck at a firing.
-use Prim.Native.Nat.{ℕ, _+_, _-_, _<_, _≤_}
-use mathlib.Core.Path.{_≡_, refl, ap, sym, _∙_}
+use Prim.Native.Nat.{ℕ, _+_, _-_, _^_, _<_, _≤_}
+use mathlib.Core.Path.{_≡_, refl, ap, sym, subst, subst⁻¹, _∙_}
 use mathlib.Core.List.{List}
 use native.Mathlib.Omega.{arith}
 use lib.ListN.{length, getD}
-use Rattle.net.specs.Net.{Answer, Replay, fire, replayFrom}
+use Rattle.net.specs.Net.{Answer, Replay, Supplied, fire, replayFrom}
+use Rattle.net.proofs.Uncapped.{uncapped-enabled}
+use Rattle.file.specs.Word.{Bytes}
 use Rattle.file.specs.Layout.{netFrom}
+use Rattle.file.specs.Facts.{Sound}
 use Rattle.file.specs.declared.Header.{Header}
 use Rattle.promise.specs.Firing.{replayTold}
-use Rattle.replay_steps.specs.Steps.{held, Ready, Holds, Underway}
-use Rattle.replay_steps.proofs.Underway.{known, fired-on, replay-end, replay-stuck}
+use Rattle.replay_steps.specs.Steps.{held, Plain, Holds, Underway}
+use Rattle.replay_steps.proofs.Underway.{known, fired-on, replay-end, replay-short, replay-full}
+use Rattle.replay_firing.specs.Short.{needAt}
+use Rattle.replay_firing.specs.Firing.{Testable, Firable, Tried}
+use Rattle.replay_firing.specs.declared.Test.{Test}
+use Rattle.replay_firing.specs.declared.Test.the-variants.{Passes}
+use Rattle.replay_firing.specs.declared.Test.the-variants as test
+use Rattle.replay_firing.proofs.Short.{Covered, Weighed, supplied}
 use Rattle.replay.specs.Told.{outcomeNumbers}
-use Rattle.replay.specs.Steps.{needAt, Firable}
+use Rattle.replay.specs.Steps.{Ended}
 use Rattle.replay.specs.declared.Outcome.{Outcome}
-use Rattle.replay.specs.declared.Outcome.the-variants.{Fired, Stuck}
-use Rattle.replay.proofs.Short.{Covered, Weighed, enabled}
-
--- the outcome and the marking m are those of the replay of the list from m₀
-abbrev pub Ended : List ℕ → Header → List ℕ → List ℕ → List ℕ → Outcome → Type 0
-Ended s h ts m₀ m o =
-    (outcomeNumbers o ≡ replayTold (replayFrom (netFrom s h) 0 (held m₀) ts .answer)) × Holds m₀ m (replayFrom (netFrom s h) 0 (held m₀) ts .marking)
+use Rattle.replay.specs.declared.Outcome.the-variants.{Fired, Short, Full}
 
 module _ {s : List ℕ} {h : Header} {ts m₀ m : List ℕ} {k : ℕ} (u : Underway s h ts m₀ m k) where
   ended : {a : Answer} (o : Outcome) → replayFrom (netFrom s h) 0 (held m₀) ts ≡ record { answer = a; marking = held m } → outcomeNumbers o ≡ replayTold a → Ended s h ts m₀ m o
@@ -30,17 +33,43 @@ module _ {s : List ℕ} {h : Header} {ts m₀ m : List ℕ} {k : ℕ} (u : Under
   pub ended-fired : length ts ≤ k → Ended s h ts m₀ m Fired
   ended-fired l = ended Fired (sym (u .same) ∙ replay-end (netFrom s h) ts k (held m) l) refl
 
-  module _ (l : k < length ts) {from middle : ℕ} where
+  low : (p : ℕ) → getD m p 0 < 2 ^ 62
+  low p = omega (arith, u .low p, u .within, u .listed .short)
+
+  module _ (l : k < length ts) where
     -- input arc j wants more than its place p has
-    pub ended-stuck : {j p n : ℕ} → Weighed s h (getD ts k 0) from middle m j p n → getD m p 0 < n → {amount : ℕ} → amount ≡ needAt s h j - getD m p 0 → Ended s h ts m₀ m (Stuck k p amount)
-    ended-stuck {j} {p} w g e =
-        ended (Stuck k p _) (sym (u .same) ∙ replay-stuck (netFrom s h) ts k (held m) l p (needAt s h j - getD m p 0) (w .short g))
-        (ap (λ (n : ℕ). outcomeNumbers (Stuck k p n)) e)
+    pub ended-short : {from middle j p n : ℕ} → Weighed s h (getD ts k 0) from middle m j p n → getD m p 0 < n → {amount : ℕ} → amount ≡ needAt s h j - getD m p 0 → Ended s h ts m₀ m (Short k p amount)
+    ended-short {from} {middle} {j} {p} w g e =
+        ended (Short k p _) (sym (u .same) ∙ replay-short (netFrom s h) ts k (held m) l p (needAt s h j - getD m p 0) (w .short g))
+        (ap (λ (n : ℕ). outcomeNumbers (Short k p n)) e)
 
     -- every input arc was looked at
-    module _ {j last need : ℕ} (c : Covered s h (getD ts k 0) from middle m j last need) (all : middle ≤ j) where
+    module _ {from middle j last need : ℕ} (c : Covered s h (getD ts k 0) from middle m j last need) (all : middle ≤ j) where
       pub firable : Firable s h (getD ts k 0) m
-      firable = record { known = known u l; enabled = enabled c all; low = λ p. omega (arith, u .low p, u .within, u .listed .short) }
+      firable = record { known = known u l; supplied = supplied c all; low = low; caps = u .caps }
 
-      pub fired-next : {table m₁ m′ : List ℕ} → Ready s h table m₁ → Holds m m′ (fire (netFrom s h) (getD ts k 0) (held m)) → Underway s h ts m₀ m′ (k + 1)
-      fired-next r f = fired-on u l (r .sound) (r .bytes) (enabled c all) f
+      pub fired-plain : {table m₁ m′ : List ℕ} → Plain s h table m₁ → Holds m m′ (fire (netFrom s h) (getD ts k 0) (held m)) → Underway s h ts m₀ m′ (k + 1)
+      fired-plain r f =
+          let able = uncapped-enabled (netFrom s h) (r .uncapped) (getD ts k 0) (held m) (unfold Supplied in λ p u. supplied c all p) in
+          fired-on u l (r .ready .sound) (r .ready .bytes) able f
+
+    -- the firing is tried, for any net
+    pub testable : Testable s h (getD ts k 0) m
+    testable = record { known = known u l; low = low; caps = u .caps }
+
+    module _ {t : Test} {m′ : List ℕ} (x : Tried (netFrom s h) (getD ts k 0) m m′ t) where
+      pub fired-next : t ≡ Passes → Sound s h → Bytes s → Underway s h ts m₀ m′ (k + 1)
+      fired-next e w b = let y = subst (Tried (netFrom s h) (getD ts k 0) m m′) e x in fired-on u l w b (y .0) (y .1)
+
+      -- the marking is the one before
+      pub tried-short : {p n : ℕ} → t ≡ test.Short p n → Ended s h ts m₀ m′ (Short k p n)
+      tried-short {p} {n} e =
+          let y = subst (Tried (netFrom s h) (getD ts k 0) m m′) e x in
+          subst⁻¹ (λ (m₁ : List ℕ). Ended s h ts m₀ m₁ (Short k p n)) (y .1)
+          (ended (Short k p n) (sym (u .same) ∙ replay-short (netFrom s h) ts k (held m) l p n (y .0)) refl)
+
+      pub tried-full : {p n : ℕ} → t ≡ test.Full p n → Ended s h ts m₀ m′ (Full k p n)
+      tried-full {p} {n} e =
+          let y = subst (Tried (netFrom s h) (getD ts k 0) m m′) e x in
+          subst⁻¹ (λ (m₁ : List ℕ). Ended s h ts m₀ m₁ (Full k p n)) (y .1)
+          (ended (Full k p n) (sym (u .same) ∙ replay-full (netFrom s h) ts k (held m) l p n (y .0)) refl)

@@ -1,40 +1,24 @@
--- What the steps of a replay ask and ensure: a shortage, one firing.
-use Prim.Native.Nat.{ℕ, _+_, _*_, _^_, _≤_, _<_}
+-- What a replay asks of its file, list and marking, and how it ends.
+use Prim.Native.Nat.{ℕ}
 use mathlib.Core.List.{List}
 use mathlib.Core.Path.{_≡_}
-use lib.ListN.{length, getD}
-use Rattle.net.specs.Net.{input, weightOn}
-use Rattle.net.specs.declared.Arc.{Arc}
-use Rattle.file.specs.Layout.{arcAt, arcsFrom, netFrom}
+use lib.ListN.{length}
+use Rattle.net.specs.Net.{replayFrom}
+use Rattle.file.specs.Layout.{netFrom}
 use Rattle.file.specs.Facts.{Sound}
 use Rattle.file.specs.declared.Header.{Header}
-use Rattle.promise.specs.Firing.{listRefusal}
-
--- arc j of the file
-abbrev pub arcOn : List ℕ → Header → ℕ → Arc
-arcOn s h j = arcAt s (h .arcstart + 8 * j)
-
--- in(p,t), at the place and the transition of arc j: the sum over all arcs that join them so
-abbrev pub needAt : List ℕ → Header → ℕ → ℕ
-needAt s h j = input (netFrom s h) (arcOn s h j .place) (arcOn s h j .transition)
-
--- the place of input arc j holds `count`, and the arcs up to j take `need`, more than that
-pub record Lacking (s : List ℕ) (h : Header) (j need count : ℕ) : Type 0 where
-  pub sound : Sound s h
-  pub known : j < h .arcs
-  pub input : arcOn s h j .direction ≡ 0
-  pub so-far : need ≡ weightOn 0 (arcOn s h j .place) (arcOn s h j .transition) (arcsFrom s (h .arcstart) (j + 1))
-  pub low : need ≤ 268435456
-  pub over : count < need
-
--- t is a transition, and is enabled at m
-pub record Firable (s : List ℕ) (h : Header) (t : ℕ) (m : List ℕ) : Type 0 where
-  pub known : t < h .transitions
-  pub enabled : (p : ℕ) → input (netFrom s h) p t ≤ getD m p 0
-  pub low : (p : ℕ) → getD m p 0 < 2 ^ 62
+use Rattle.promise.specs.Firing.{replayTold, listRefusal}
+use Rattle.replay_steps.specs.Steps.{held, Holds}
+use Rattle.replay.specs.Told.{outcomeNumbers}
+use Rattle.replay.specs.declared.Outcome.{Outcome}
 
 -- the file was read, the list is not refused, and m has an entry for each place
 pub record Passed (s : List ℕ) (h : Header) (ts m : List ℕ) : Type 0 where
   pub sound : Sound s h
   pub list : listRefusal (h .transitions) ts ≡ 0
   pub places : length m ≡ h .places
+
+-- the outcome and the marking m are those of the replay of the list from m₀
+abbrev pub Ended : List ℕ → Header → List ℕ → List ℕ → List ℕ → Outcome → Type 0
+Ended s h ts m₀ m o =
+    (outcomeNumbers o ≡ replayTold (replayFrom (netFrom s h) 0 (held m₀) ts .answer)) × Holds m₀ m (replayFrom (netFrom s h) 0 (held m₀) ts .marking)

@@ -8,12 +8,13 @@ use Rattle.file.specs.Refusal.{refuse, orElse}
 use Rattle.file.specs.declared.Header.{Header}
 use Rattle.promise.specs.Firing.{ReplayAnswer, listRefusal}
 use Rattle.replay.specs.declared.Outcome.{Outcome}
-use Rattle.replay.specs.declared.Outcome.the-variants.{Fired, Stuck, Refused}
+use Rattle.replay.specs.declared.Outcome.the-variants.{Fired, Short, Full, Refused}
 
 -- document 01's number and values for each outcome
 abbrev pub outcomeNumbers : Outcome → ReplayAnswer
 outcomeNumbers Fired = record { refused = false; refusal = 0; stuck = false; full = false; index = 0; place = 0; amount = 0 }
-outcomeNumbers (Stuck i p n) = record { refused = false; refusal = 0; stuck = true; full = false; index = i; place = p; amount = n }
+outcomeNumbers (Short i p n) = record { refused = false; refusal = 0; stuck = true; full = false; index = i; place = p; amount = n }
+outcomeNumbers (Full i p n) = record { refused = false; refusal = 0; stuck = true; full = true; index = i; place = p; amount = n }
 outcomeNumbers (Refused n) = record { refused = true; refusal = n; stuck = false; full = false; index = 0; place = 0; amount = 0 }
 
 -- no two outcomes have the same numbers: an equation of numbers is one of outcomes

@@ -6,7 +6,8 @@ use native.Mathlib.Omega.{arith}
 use native.Mathlib.Decide.{decLt}
 use lib.ListN.{length, getD, List·getD-eq-default}
 use lib.Seq.{ext-getD}
-use Rattle.net.specs.Net.{input, output, fire}
+use Rattle.net.specs.Net.{Supplied, input, output, fire}
+use Rattle.net.proofs.Uncapped.{uncapped-enabled}
 use Rattle.file.specs.Layout.{arcAt, netFrom}
 use Rattle.file.specs.declared.Header.{Header}
 use Rattle.arcs_starts.specs.Table.{slotAt, Split}
@@ -15,7 +16,7 @@ use Rattle.arcs_column.proofs.Arcs.{none-past}
 use Rattle.file.proofs.Rows.{good-at}
 use Rattle.arcs_column.proofs.Stretch.{Stretch, rises, own, sums, small}
 use Rattle.arcs_column.proofs.Ways.{sum-quiet, sum-rises}
-use Rattle.replay_steps.specs.Steps.{Ready, Underway}
+use Rattle.replay_steps.specs.Steps.{held, Ready, Plain, Underway}
 use Rattle.replay_fast.specs.Moves.{liftAt, MovesOf, Movable, Moved, Whole, Shifted}
 use Rattle.replay_steps.proofs.Underway.{fired-on}
 
@@ -26,10 +27,13 @@ pub record Step (s : List ℕ) (h : Header) (places changes ts was is : List ℕ
   pub undone : (is′ is″ : List ℕ) (v : ℕ) → Shifted s h from to is is′ v → Moved 1 0 s h from to is′ is″ → Underway s h ts was is″ k
   pub fired : (is′ : List ℕ) (v : ℕ) → Shifted s h from to is is′ v → v < 9223372036854775808 → Underway s h ts was is′ (k + 1)
 
-module _ {s : List ℕ} {h : Header} {table places changes ts was is : List ℕ} {k : ℕ} (r : Ready s h table was) (mv : MovesOf s h places changes) (x : Underway s h ts was is k) where
+module _ {s : List ℕ} {h : Header} {table places changes ts was is : List ℕ} {k : ℕ} (plain : Plain s h table was) (mv : MovesOf s h places changes) (x : Underway s h ts was is k) where
   module _ (l : k < length ts) {from to : ℕ} (e : from ≡ getD table (2 * getD ts k 0) 0) (f : to ≡ getD table (2 * getD ts k 0 + 2) 0) where
     abbrev t : ℕ
     t = getD ts k 0
+
+    abbrev r : Ready s h table was
+    r = plain .ready
 
     abbrev start : ℕ
     start = h .arcstart
@@ -67,14 +71,14 @@ module _ {s : List ℕ} {h : Header} {table places changes ts was is : List ℕ}
     }
 
     -- between two firings the entries are the tokens
-    plain : (p : ℕ) → getD is p 0 < 140737488355328
-    plain p = omega (arith, x .low p, x .within, x .listed .short)
+    low : (p : ℕ) → getD is p 0 < 140737488355328
+    low p = omega (arith, x .low p, x .within, x .listed .short)
 
     whole : Whole is
-    whole p u = omega (arith, plain p)
+    whole p u = omega (arith, low p)
 
     can-shift : Movable s h places changes from to is
-    can-shift = movable is (x .long) (λ p u. omega (arith, plain p)) (λ p u. omega (arith, plain p)) (λ p. omega (arith, plain p))
+    can-shift = movable is (x .long) (λ p u. omega (arith, low p)) (λ p u. omega (arith, low p)) (λ p. omega (arith, low p))
 
     module _ {is′ : List ℕ} {v : ℕ} (y : Shifted s h from to is is′ v) where
       can-back : Movable s h places changes from to is′
@@ -82,17 +86,17 @@ module _ {s : List ℕ} {h : Header} {table places changes ts was is : List ℕ}
           movable is′ (y .moved .long ∙ (x .long))
           (λ p u.
           let w : p < length is = omega (arith, y .moved .long) in
-          omega (arith, y .moved .at p w, plain p, sums run 0 p, small run 0 p, sum-rises 1 s start p from to (rises run)))
+          omega (arith, y .moved .at p w, low p, sums run 0 p, small run 0 p, sum-rises 1 s start p from to (rises run)))
           (λ p u.
           let w : p < length is = omega (arith, y .moved .long) in
-          omega (arith, y .moved .at p w, plain p, sums run 1 p, small run 1 p, sum-rises 0 s start p from to (rises run)))
+          omega (arith, y .moved .at p w, low p, sums run 1 p, small run 1 p, sum-rises 0 s start p from to (rises run)))
           (y .moved .fits)
 
       -- what was moved back is as it was
       undone : {is″ : List ℕ} → Moved 1 0 s h from to is′ is″ → Underway s h ts was is″ k
       undone {is″} z =
           subst (λ (m : List ℕ). Underway s h ts was m k)
-          (sym (ext-getD 0 is″ is long (λ p u. omega (arith, at p (omega (arith, long, u)), z .fits p, plain p)))) x
+          (sym (ext-getD 0 is″ is long (λ p u. omega (arith, at p (omega (arith, long, u)), z .fits p, low p)))) x
         where
           long : length is″ ≡ length is
           long = z .long ∙ y .moved .long
@@ -107,7 +111,7 @@ module _ {s : List ℕ} {h : Header} {table places changes ts was is : List ℕ}
         enabled p = go (decLt p (length is))
           where
             go : Dec (p < length is) → input (netFrom s h) p (getD ts k 0) ≤ getD is p 0
-            go (yes u) = omega (arith, y .enough n whole p u, sums run 0 p, plain p)
+            go (yes u) = omega (arith, y .enough n whole p u, sums run 0 p, low p)
             go (no u) = omega (arith, none-past s h (r .sound) 0 p t (omega (arith, u, x .long, r .places)))
 
         fired-at : (p : ℕ) → getD is′ p 0 ≡ getD is p 0 - input (netFrom s h) p (getD ts k 0) + output (netFrom s h) p (getD ts k 0)
@@ -115,7 +119,7 @@ module _ {s : List ℕ} {h : Header} {table places changes ts was is : List ℕ}
         fired-at p = go (decLt p (length is))
           where
             go : Dec (p < length is) → getD is′ p 0 ≡ getD is p 0 - input (netFrom s h) p (getD ts k 0) + output (netFrom s h) p (getD ts k 0)
-            go (yes u) = omega (arith, y .enough n whole p u, y .moved .at p u, sums run 0 p, sums run 1 p, plain p, y .moved .fits p)
+            go (yes u) = omega (arith, y .enough n whole p u, y .moved .at p u, sums run 0 p, sums run 1 p, low p, y .moved .fits p)
             go (no u) =
                 omega (
                   arith,
@@ -126,7 +130,9 @@ module _ {s : List ℕ} {h : Header} {table places changes ts was is : List ℕ}
 
         next : Underway s h ts was is′ (k + 1)
         unfolding fire
-        next = fired-on x l (r .sound) (r .bytes) enabled (record { long = y .moved .long; at = fired-at })
+        next =
+            let able = uncapped-enabled (netFrom s h) (plain .uncapped) (getD ts k 0) (held is) (unfold Supplied in λ p u. enabled p) in
+            fired-on x l (r .sound) (r .bytes) able (record { long = y .moved .long; at = fired-at })
 
     pub step : Step s h places changes ts was is k from to
     step = record { shifting = can-shift; undoing = λ is′ v y. can-back y; undone = λ is′ is″ v y z. undone y z; fired = λ is′ v y n. next y n }

@@ -1,7 +1,7 @@
 // A quick way through the firings of a list. Two tables say for each arc which place it is at and what it adds to it,
 // and sums wrap meanwhile, so that a place that would be short shows in bit 63.
 ghost use mathlib.Core.Path.{_≡_};
-ghost use Rattle.replay_steps.specs.Steps.{Ready, Listed, Underway};
+ghost use Rattle.replay_steps.specs.Steps.{Plain, Listed, Underway};
 ghost use Rattle.replay_fast.specs.Moves.{changeOf, Weighs, Signed, Readable, MovesOf, Movable, Shifted, Moved};
 use file::Header;
 use file::arcs::arc;
@@ -102,8 +102,8 @@ fn march(
     list: &[u16],
     marking: &mut [u64],
 ) -> usize
-    requires { ⌜ Ready (now file) h (now table) (now marking) ⌝ }
-    requires { ⌜ Listed h (now list) (now marking) ⌝ }
+    requires { ⌜ Plain (now file) h (now table) (now marking) ⌝ }
+    requires { ⌜ Listed (now file) h (now list) (now marking) ⌝ }
     requires { ⌜ MovesOf (now file) h (now places) (now changes) ⌝ }
     ensures { λ r. ⌜ Underway (now (file .entry)) h (now (list .entry)) (now (marking .entry)) (now (marking .exit)) r ⌝ }
 {
@@ -122,10 +122,10 @@ fn march(
     k
 }
 
-// Fires the listed transitions in turn, and answers how many. It stops where one is not enabled; a short list it leaves alone.
+// Fires the listed transitions of a net without caps in turn, and answers how many. It stops where one is not enabled; a short list it leaves alone.
 pub fn ahead(file: &[u8], h: Header, table: &[u16], list: &[u16], marking: &mut [u64]) -> usize
-    requires { ⌜ Ready (now file) h (now table) (now marking) ⌝ }
-    requires { ⌜ Listed h (now list) (now marking) ⌝ }
+    requires { ⌜ Plain (now file) h (now table) (now marking) ⌝ }
+    requires { ⌜ Listed (now file) h (now list) (now marking) ⌝ }
     ensures { λ r. ⌜ Underway (now (file .entry)) h (now (list .entry)) (now (marking .entry)) (now (marking .exit)) r ⌝ }
 {
     if list.len() < 64 {

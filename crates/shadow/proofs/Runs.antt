@@ -30,7 +30,7 @@ use Rattle.replay.specs.declared.Outcome.the-variants as outcome
 use Rattle.replay.proofs.Listing.{list-passes, room-enough}
 use Rattle.shadow.specs.Told.{shadowNumbers, firedOf, withCount, castBy, dueOf, firedProjection, Given, Casts, Follows}
 use Rattle.shadow.specs.declared.Shadow.{Shadow}
-use Rattle.shadow.specs.declared.Shadow.the-variants.{Fired, Stuck, Refused}
+use Rattle.shadow.specs.declared.Shadow.the-variants.{Fired, Short, Full, Refused}
 
 -- ---- the answer that an outcome tells
 
@@ -39,14 +39,23 @@ told-fired fired e = refl
 told-fired (short i p n) e = differ (ap (λ (x : ReplayAnswer). x .stuck) e)
 told-fired (full i p n) e = differ (ap (λ (x : ReplayAnswer). x .stuck) e)
 
-told-stuck : (i p n : ℕ) (a : Answer) → outcomeNumbers (outcome.Stuck i p n) ≡ replayTold a → a ≡ short i p n
-told-stuck i p n fired e = differ (sym (ap (λ (x : ReplayAnswer). x .stuck) e))
-told-stuck i p n (short j q m) e =
+told-short : (i p n : ℕ) (a : Answer) → outcomeNumbers (outcome.Short i p n) ≡ replayTold a → a ≡ short i p n
+told-short i p n fired e = differ (sym (ap (λ (x : ReplayAnswer). x .stuck) e))
+told-short i p n (short j q m) e =
     let j≡ : i ≡ j = ap (λ (x : ReplayAnswer). x .index) e in
     let q≡ : p ≡ q = ap (λ (x : ReplayAnswer). x .place) e in
     let m≡ : n ≡ m = ap (λ (x : ReplayAnswer). x .amount) e in
     sym (λ x. short (j≡ x) (q≡ x) (m≡ x))
-told-stuck i p n (full j q m) e = differ (ap (λ (x : ReplayAnswer). x .full) e)
+told-short i p n (full j q m) e = differ (ap (λ (x : ReplayAnswer). x .full) e)
+
+told-full : (i p n : ℕ) (a : Answer) → outcomeNumbers (outcome.Full i p n) ≡ replayTold a → a ≡ full i p n
+told-full i p n fired e = differ (sym (ap (λ (x : ReplayAnswer). x .stuck) e))
+told-full i p n (short j q m) e = differ (sym (ap (λ (x : ReplayAnswer). x .full) e))
+told-full i p n (full j q m) e =
+    let j≡ : i ≡ j = ap (λ (x : ReplayAnswer). x .index) e in
+    let q≡ : p ≡ q = ap (λ (x : ReplayAnswer). x .place) e in
+    let m≡ : n ≡ m = ap (λ (x : ReplayAnswer). x .amount) e in
+    sym (λ x. full (j≡ x) (q≡ x) (m≡ x))
 
 not-told : {A : Type 0} (n : ℕ) (a : Answer) → outcomeNumbers (outcome.Refused n) ≡ replayTold a → A
 not-told n fired e = differ (sym (ap (λ (x : ReplayAnswer). x .refused) e))
@@ -68,22 +77,32 @@ part-listed : (T′ : ℕ) (list : List ℕ) (n : ℕ) → listRefusal T′ list
 part-listed T′ list n e l = record { part = l; short = omega (arith, l, list-short T′ list e); known = λ i h. list-known T′ list e i (omega (arith, h, l)) }
 
 module _ (N : Net) (list : List ℕ) where
-  stuck-inside : (i p n : ℕ) → listRefusal (N .transitions) list ≡ 0 → replay N list .answer ≡ short i p n → i < length list
+  -- what the answer means, for a list that is not refused
+  means : (a : Answer) → listRefusal (N .transitions) list ≡ 0 → replay N list .answer ≡ a → Meaning N 0 (N .marking) list a (replay N list .marking)
   unfolding replay
-  stuck-inside i p n passes same =
-      let r = replayFrom N 0 (N .marking) list in
-      let m : Meaning N 0 (N .marking) list (short i p n) (r .marking) = subst (λ (x : Answer). Meaning N 0 (N .marking) list x (r .marking)) same (replay-means N 0 (N .marking) list (known-among (N .transitions) list passes)) in
-      omega (arith, m .1, m .2 .inside)
+  means a passes same =
+      let M = replayFrom N 0 (N .marking) list .marking in
+      subst (λ (x : Answer). Meaning N 0 (N .marking) list x M) same (replay-means N 0 (N .marking) list (known-among (N .transitions) list passes))
+
+  short-inside : (i p n : ℕ) → listRefusal (N .transitions) list ≡ 0 → replay N list .answer ≡ short i p n → i < length list
+  short-inside i p n passes same = let m = means (short i p n) passes same in omega (arith, m .1, m .2 .inside)
+
+  full-inside : (i p n : ℕ) → listRefusal (N .transitions) list ≡ 0 → replay N list .answer ≡ full i p n → i < length list
+  full-inside i p n passes same = let m = means (full i p n) passes same in omega (arith, m .1, m .2 .inside)
 
   part-by : (k : ℕ) (o : Outcome) → outcomeNumbers o ≡ replayOr k (replay N list .answer) → (k ≡ 0 → listRefusal (N .transitions) list ≡ 0)
       → Part (N .transitions) list (firedOf o (length list))
   part-by zero outcome.Fired e z = part-listed (N .transitions) list (length list) (z refl) (omega arith)
-  part-by zero (outcome.Stuck i p n) e z =
-      let l = stuck-inside i p n (z refl) (told-stuck i p n (replay N list .answer) e) in
+  part-by zero (outcome.Short i p n) e z =
+      let l = short-inside i p n (z refl) (told-short i p n (replay N list .answer) e) in
+      part-listed (N .transitions) list i (z refl) (omega (arith, l))
+  part-by zero (outcome.Full i p n) e z =
+      let l = full-inside i p n (z refl) (told-full i p n (replay N list .answer) e) in
       part-listed (N .transitions) list i (z refl) (omega (arith, l))
   part-by zero (outcome.Refused n) e z = not-told n (replay N list .answer) e
   part-by (suc k) outcome.Fired e z = differ (ap (λ (x : ReplayAnswer). x .refused) e)
-  part-by (suc k) (outcome.Stuck i p n) e z = differ (ap (λ (x : ReplayAnswer). x .refused) e)
+  part-by (suc k) (outcome.Short i p n) e z = differ (ap (λ (x : ReplayAnswer). x .refused) e)
+  part-by (suc k) (outcome.Full i p n) e z = differ (ap (λ (x : ReplayAnswer). x .refused) e)
   part-by (suc k) (outcome.Refused n) e z = part-none (N .transitions) list
 
 -- what is projected, by the replay's contract
@@ -123,7 +142,8 @@ module _ (N : Net) (S : Slice) (list : List ℕ) where
   projected : (o : Outcome) → outcomeNumbers o ≡ replayTold answer → firedProjection S o list ≡ P
   unfolding shadowOf
   projected outcome.Fired e = ap (project S) (take-length list) ∙ sym (ap (λ (a : Answer). project S (firedPart a list)) (told-fired answer e))
-  projected (outcome.Stuck i p n) e = sym (ap (λ (a : Answer). project S (firedPart a list)) (told-stuck i p n answer e))
+  projected (outcome.Short i p n) e = sym (ap (λ (a : Answer). project S (firedPart a list)) (told-short i p n answer e))
+  projected (outcome.Full i p n) e = sym (ap (λ (a : Answer). project S (firedPart a list)) (told-full i p n answer e))
   projected (outcome.Refused n) e = not-told n answer e
 
   nothing-projected : (n : ℕ) → firedProjection S (outcome.Refused n) list ≡ []
@@ -133,7 +153,8 @@ module _ (N : Net) (S : Slice) (list : List ℕ) where
   counted : (b : Bool) (o : Outcome) (n : ℕ) → outcomeNumbers o ≡ replayTold answer → shadowNumbers (castBy b o n) ≡ shadowOr (refuse b 13 0) answer n
   counted true o n e = refl
   counted false outcome.Fired n e = ap (λ (x : ReplayAnswer). record { run = x; count = n }) e
-  counted false (outcome.Stuck i p m) n e = ap (λ (x : ReplayAnswer). record { run = x; count = n }) e
+  counted false (outcome.Short i p m) n e = ap (λ (x : ReplayAnswer). record { run = x; count = n }) e
+  counted false (outcome.Full i p m) n e = ap (λ (x : ReplayAnswer). record { run = x; count = n }) e
   counted false (outcome.Refused k) n e = not-told k answer e
 
   -- 13 of an output list
@@ -150,7 +171,8 @@ module _ (N : Net) (S : Slice) (list : List ℕ) where
       let x : Casts P out out′ o r = subst (λ (l : List ℕ). Casts l out out′ o r) (projected o e) c in
       record { told = ap shadowNumbers (x .answer) ∙ counted (ltb (length out) (length P)) o (length P) e; output = x .output }
   cast-told (suc k) outcome.Fired out out′ r e c = differ (ap (λ (x : ReplayAnswer). x .refused) e)
-  cast-told (suc k) (outcome.Stuck i p n) out out′ r e c = differ (ap (λ (x : ReplayAnswer). x .refused) e)
+  cast-told (suc k) (outcome.Short i p n) out out′ r e c = differ (ap (λ (x : ReplayAnswer). x .refused) e)
+  cast-told (suc k) (outcome.Full i p n) out out′ r e c = differ (ap (λ (x : ReplayAnswer). x .refused) e)
   cast-told (suc k) (outcome.Refused n) out out′ r e c =
       let x : Casts [] out out′ (outcome.Refused n) r = subst (λ (l : List ℕ). Casts l out out′ (outcome.Refused n) r) (nothing-projected n) c in
       let room : ltb (length out) 0 ≡ false = le-ltb (length out) 0 (omega arith) in
@@ -173,17 +195,20 @@ stays (suc k) c l m h = refl
 
 due-all : (r : Shadow) (a : Answer) (n places : ℕ) → shadowNumbers r ≡ shadowOr 0 a n → dueOf r places ≡ places
 due-all (Fired x) a n places e = refl
-due-all (Stuck i p m x) a n places e = refl
+due-all (Short i p m x) a n places e = refl
+due-all (Full i p m x) a n places e = refl
 due-all (Refused x) a n places e = not-told x a (ap (λ (y : ShadowAnswer). y .run) e)
 
 due-none : (r : Shadow) (a : Answer) (k n places : ℕ) → shadowNumbers r ≡ shadowOr (suc k) a n → dueOf r places ≡ 0
 due-none (Fired x) a k n places e = differ (ap (λ (y : ShadowAnswer). y .run .refused) e)
-due-none (Stuck i p m x) a k n places e = differ (ap (λ (y : ShadowAnswer). y .run .refused) e)
+due-none (Short i p m x) a k n places e = differ (ap (λ (y : ShadowAnswer). y .run .refused) e)
+due-none (Full i p m x) a k n places e = differ (ap (λ (y : ShadowAnswer). y .run .refused) e)
 due-none (Refused x) a k n places e = refl
 
 pub due-few : (r : Shadow) (places : ℕ) → dueOf r places ≤ places
 due-few (Fired x) places = omega arith
-due-few (Stuck i p m x) places = omega arith
+due-few (Short i p m x) places = omega arith
+due-few (Full i p m x) places = omega arith
 due-few (Refused x) places = omega arith
 
 -- a list is as long as before where what is written fits

@@ -5,7 +5,7 @@ use mathlib.Core.List.{List}
 use mathlib.Core.Path.{_≡_}
 use lib.ListN.{length, take, getD}
 use lib.Dec.{ltb}
-use Rattle.net.specs.Net.{Net, fired, short, replay, tokens}
+use Rattle.net.specs.Net.{Net, fired, short, full, replay, tokens}
 use Rattle.net.specs.Slice.{Slice, project}
 use Rattle.file.specs.Facts.{Sound}
 use Rattle.file.specs.Refusal.{refuse}
@@ -17,12 +17,13 @@ use Rattle.projection.specs.Choice.{Reached}
 use Rattle.replay.specs.declared.Outcome.{Outcome}
 use Rattle.replay.specs.declared.Outcome.the-variants as outcome
 use Rattle.shadow.specs.declared.Shadow.{Shadow}
-use Rattle.shadow.specs.declared.Shadow.the-variants.{Fired, Stuck, Refused}
+use Rattle.shadow.specs.declared.Shadow.the-variants.{Fired, Short, Full, Refused}
 
 -- the numbers of each case
 abbrev pub shadowNumbers : Shadow → ShadowAnswer
 shadowNumbers (Fired n) = record { run = replayTold fired; count = n }
-shadowNumbers (Stuck i p m n) = record { run = replayTold (short i p m); count = n }
+shadowNumbers (Short i p m n) = record { run = replayTold (short i p m); count = n }
+shadowNumbers (Full i p m n) = record { run = replayTold (full i p m); count = n }
 shadowNumbers (Refused n) = record { run = record { refused = true; refusal = n; stuck = false; full = false; index = 0; place = 0; amount = 0 }; count = 0 }
 
 -- no two answers have the same numbers: an equation of numbers is one of answers
@@ -32,13 +33,15 @@ ToldApart = (a b : Shadow) → shadowNumbers a ≡ shadowNumbers b → a ≡ b
 -- how many of a list's `whole` transitions a replay fired
 abbrev pub firedOf : Outcome → ℕ → ℕ
 firedOf outcome.Fired whole = whole
-firedOf (outcome.Stuck i p m) whole = i
+firedOf (outcome.Short i p m) whole = i
+firedOf (outcome.Full i p m) whole = i
 firedOf (outcome.Refused n) whole = 0
 
 -- a replay's outcome, with the count of what was projected
 abbrev pub withCount : Outcome → ℕ → Shadow
 withCount outcome.Fired n = Fired n
-withCount (outcome.Stuck i p m) n = Stuck i p m n
+withCount (outcome.Short i p m) n = Short i p m n
+withCount (outcome.Full i p m) n = Full i p m n
 withCount (outcome.Refused k) n = Refused k
 
 -- 13 where the output list is too short, else that
@@ -53,7 +56,8 @@ firedProjection S o list = project S (take (firedOf o (length list)) list)
 -- how many entries of the marking are written, of a plan with so many places
 abbrev pub dueOf : Shadow → ℕ → ℕ
 dueOf (Fired n) places = places
-dueOf (Stuck i p m n) places = places
+dueOf (Short i p m n) places = places
+dueOf (Full i p m n) places = places
 dueOf (Refused n) places = 0
 
 -- what the replay fired is a part of the list, and the table reaches its numbers

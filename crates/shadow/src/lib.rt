@@ -15,11 +15,12 @@ use tables::LARGE;
 use tables::MIDDLE;
 use tables::SMALL;
 
-// How a run ends, with the count of its firings that the slice has: all fired; stuck, at an index of the list, a place
-// and the tokens missing there, with the count of those before; or refused.
+// How a run ends, with the count of its firings that the slice has: all fired; stuck, at an index of the list and a place, short
+// of so many tokens, or full by so many above its cap, with the count of those before; or refused.
 pub enum Shadow {
     Fired(u32),
-    Stuck(u32, u32, u32, u32),
+    Short(u32, u32, u32, u32),
+    Full(u32, u32, u32, u32),
     Refused(u32),
 }
 
@@ -29,7 +30,8 @@ fn fired(o: Outcome, whole: usize) -> usize
 {
     match o {
         Outcome::Fired => whole,
-        Outcome::Stuck(i, _, _) => i as usize,
+        Outcome::Short(i, _, _) => i as usize,
+        Outcome::Full(i, _, _) => i as usize,
         Outcome::Refused(_) => 0,
     }
 }
@@ -40,7 +42,8 @@ fn with_count(o: Outcome, count: u32) -> Shadow
 {
     match o {
         Outcome::Fired => Shadow::Fired(count),
-        Outcome::Stuck(i, p, n) => Shadow::Stuck(i, p, n, count),
+        Outcome::Short(i, p, n) => Shadow::Short(i, p, n, count),
+        Outcome::Full(i, p, n) => Shadow::Full(i, p, n, count),
         Outcome::Refused(n) => Shadow::Refused(n),
     }
 }
@@ -103,7 +106,8 @@ fn due(r: Shadow, places: usize) -> usize
 {
     match r {
         Shadow::Fired(_) => places,
-        Shadow::Stuck(_, _, _, _) => places,
+        Shadow::Short(_, _, _, _) => places,
+        Shadow::Full(_, _, _, _) => places,
         Shadow::Refused(_) => 0,
     }
 }

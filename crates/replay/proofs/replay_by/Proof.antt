@@ -15,9 +15,9 @@ starts-requires c κs =
 load-requires : tie.Need-load-requires
 load-requires c κs = search needs
 
-run-requires : tie.Need-run-requires
+run-either-requires : tie.Need-run-either-requires
 unfolding Bytes
-run-requires c κs =
+run-either-requires c κs =
     let load = c .before .before .before .before in
     let starts = load .before .before .before .before in
     let known = starts .before .before .before .before .before in
@@ -38,9 +38,9 @@ returns c =
     let load = run .before .before .before .before .before in
     let starts = load .before .before .before .before in
     let s = starts .before .before .before .before .before .before in
-    ended (s .pre .0) (load .load .ensures) (run .run .ensures)
+    ended (s .pre .0) (load .load .ensures) (run .run-either .ensures)
 
 pub replay-by-spec : {M : Type 1} → statement M
 replay-by-spec =
     tie.close
-    (tie.spec starts-requires load-requires run-requires same-length same-length-2 returns)
+    (tie.spec starts-requires load-requires run-either-requires same-length same-length-2 returns)

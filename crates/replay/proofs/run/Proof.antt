@@ -6,9 +6,9 @@ use lib.ListN.{length, getD}
 use mathlib.Core.List.{List}
 use Rattle.replay_steps.specs.Steps.{Underway}
 use Rattle.replay_steps.proofs.Underway.{Tabulated, tabulated, ready-still}
-use Rattle.replay.proofs.Firing.{arcs-fit, split-by}
-use Rattle.replay.proofs.Short.{Covered, Weighed, covered-none, weigh, known}
-use Rattle.replay.proofs.Underway.{ended-fired, ended-stuck, firable, fired-next}
+use Rattle.replay_firing.proofs.Firing.{arcs-fit, split-by}
+use Rattle.replay_firing.proofs.Short.{Covered, Weighed, covered-none, weigh, known}
+use Rattle.replay.proofs.Underway.{ended-fired, ended-short, firable, fired-plain}
 use borrow.Author.Needs.{needs}
 use Rattle.replay.proofs.run.Statement.{statement}
 use Rattle.replay.proofs.run.Tie as tie
@@ -45,7 +45,7 @@ here c = c .firings .inv (call c .args .marking .now) (c .before .before .before
 
 -- the transition listed at k, in the table
 listed : (c : tie.After-shared-slice-known4 Inv-loop μ-loop Inv-firings μ-firings) → let s = call (c .before .before) in Tabulated (s .args .h) (s .args .table .now) (s .args .list .now) (c .before .before .firings .k)
-listed c = tabulated (here (c .before .before)) (c .before .if1 .left) (call (c .before .before) .pre .0)
+listed c = tabulated (here (c .before .before)) (c .before .if1 .left) (call (c .before .before) .pre .0 .ready)
 
 -- the place of input arc j, and what the arcs up to it take from there
 weighed : (c : tie.After-add-up Inv-loop μ-loop Inv-firings μ-firings) → let x = c .before .before .before .before in let f = firing x in let s = call f in
@@ -94,7 +94,7 @@ entry-requires-2 c κs = omega (arith, listed (c .before) .known, listed (c .bef
 loop-holds : tie.Need-loop-holds Inv-loop μ-loop Inv-firings μ-firings
 loop-holds c =
     let f = c .before .before .before .before in
-    let ready = call f .pre .0 in
+    let ready = call f .pre .0 .ready in
     let t = getD (call f .args .list .now) (f .firings .k) 0 in
     let l = listed (c .before .before) .known in
     covered-none (ready .sound) (split-by ready (2 * t) (omega arith) (c .before .entry .ensures .0)) (split-by ready (2 * t + 1) (omega arith) (c .entry2 .ensures .0))
@@ -125,7 +125,7 @@ mul-count c = omega (arith, c .before .arc .ensures .1 .place)
 slice-read-count : tie.Need-slice-read-count Inv-loop μ-loop Inv-firings μ-firings
 slice-read-count c =
     let f = firing (c .before .before .before .before .before) in
-    omega (arith, weighed (c .before) .place, here f .long, call f .pre .0 .places)
+    omega (arith, weighed (c .before) .place, here f .long, call f .pre .0 .ready .places)
 
 -- ---- a place that is short
 
@@ -161,7 +161,7 @@ fire-requires : tie.Need-fire-requires Inv-loop μ-loop Inv-firings μ-firings
 fire-requires c κs =
     let x = c .before .before in
     let f = firing x in
-    (ready-still (here f) (call f .pre .0), firable (here f) (x .before .before .before .before .if1 .left) (x .loop .inv) (c .before .loop-test .left))
+    (ready-still (here f) (call f .pre .0 .ready), firable (here f) (x .before .before .before .before .if1 .left) (x .loop .inv) (c .before .loop-test .left))
 
 add-k : tie.Need-add-k Inv-loop μ-loop Inv-firings μ-firings
 add-k c =
@@ -177,7 +177,7 @@ firings-again : tie.Need-firings-again Inv-loop μ-loop Inv-firings μ-firings
 firings-again c = λ m u.
     let x = c .before .before .before .before .before in
     let f = firing x in
-    fired-next (f .firings .inv m u) (x .before .before .before .before .if1 .left) (x .loop .inv) (c .before .before .before .before .loop-test .left) (call f .pre .0) (c .before .before .fire .ensures)
+    fired-plain (f .firings .inv m u) (x .before .before .before .before .if1 .left) (x .loop .inv) (c .before .before .before .before .loop-test .left) (call f .pre .0) (c .before .before .fire .ensures)
 
 -- ---- the ends
 
@@ -193,7 +193,7 @@ same-length-2 c = here (firing (c .before .before .before .before .before .befor
 returns-2 : tie.Need-returns-2 Inv-loop μ-loop Inv-firings μ-firings
 returns-2 c =
     let x = c .before .before .before .before .before .before .before in
-    ended-stuck (here (firing x)) (x .before .before .before .before .if1 .left) (weighed (c .before .before .before)) (c .before .if2 .taken) (c .missing .ensures)
+    ended-short (here (firing x)) (x .before .before .before .before .if1 .left) (weighed (c .before .before .before)) (c .before .if2 .taken) (c .missing .ensures)
 
 pub run-spec : {M : Type 1} → statement M
 run-spec =

@@ -25,7 +25,7 @@ call c = c .before .before .before .before .before .before .before
 
 -- the transition listed at k, in the table
 listed : (c : tie.After-shared-slice-known6 Inv-loop μ-loop) → let s = call (c .before .before) in Tabulated (s .args .h) (s .args .table .now) (s .args .list .now) (c .before .before .loop .k)
-listed c = tabulated (c .before .before .loop .inv) (c .before .loop-test .taken) (call (c .before .before) .pre .0)
+listed c = tabulated (c .before .before .loop .inv) (c .before .loop-test .taken) (call (c .before .before) .pre .0 .ready)
 
 -- its firing, by the arcs that the table tells
 step-at : (c : tie.After-entry2 Inv-loop μ-loop) → let x = c .before .before .before .before in let s = call x in

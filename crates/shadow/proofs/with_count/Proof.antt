@@ -15,6 +15,9 @@ enum-known-o c = search needs
 enum-known-o-2 : tie.Need-enum-known-o-2
 enum-known-o-2 c = search needs
 
+enum-known-o-3 : tie.Need-enum-known-o-3
+enum-known-o-3 c = search needs
+
 returns : tie.Need-returns
 returns c = ap (λ (o : Outcome). withCount o (c .before .before .args .count)) (sym (c .enum-told .given .1))
 
@@ -24,6 +27,9 @@ returns-2 c = ap (λ (o : Outcome). withCount o (c .before .before .before .args
 returns-3 : tie.Need-returns-3
 returns-3 c = ap (λ (o : Outcome). withCount o (c .before .before .before .args .count)) (sym (c .before .o2 .given .1))
 
+returns-4 : tie.Need-returns-4
+returns-4 c = ap (λ (o : Outcome). withCount o (c .before .before .before .args .count)) (sym (c .before .o3 .given .1))
+
 pub with-count-spec : {M : Type 1} → statement M
 with-count-spec =
-    tie.close (tie.spec enum-told enum-known-o enum-known-o-2 returns returns-2 returns-3)
+    tie.close (tie.spec enum-told enum-known-o enum-known-o-2 enum-known-o-3 returns returns-2 returns-3 returns-4)

@@ -16,7 +16,7 @@ use Rattle.file.specs.declared.Header.{Header}
 use Rattle.file.proofs.Rows.{key-le, weight-none, good-at}
 use Rattle.arcs_starts.specs.Table.{slotAt, choose, Split}
 use Rattle.replay_steps.specs.Steps.{held}
-use Rattle.replay.specs.Steps.{arcOn, needAt, Lacking}
+use Rattle.replay_firing.specs.Short.{arcOn, needAt, Lacking}
 use Rattle.arcs_column.proofs.Shares.{share-is, share-unless, sum-next, sum-same, sum-more}
 use Rattle.arcs_groups.specs.Groups.{GroupEnd, runWeight}
 use Rattle.arcs_groups.proofs.Groups.{run-adds, none-after}
@@ -204,9 +204,9 @@ module _ {s : List ℕ} {h : Header} {t from middle : ℕ} {m : List ℕ} where
           (λ v f. record { place = place-known; covers = covered-next n f v; lacks = lacking n f v; short = short-here n f v })
           w e
 
-    pub enabled : middle ≤ j → (p : ℕ) → input (netFrom s h) p t ≤ getD m p 0
+    pub supplied : middle ≤ j → (p : ℕ) → input (netFrom s h) p t ≤ getD m p 0
     unfolding input slotAt
-    enabled l p = omega (
+    supplied l p = omega (
       arith,
       c .enough p,
       sum-same 0 p t s (h .arcstart) j (h .arcs) (c .within) (λ i a b. share-unless 0 p t (arcOn s h i) (λ e d g. omega (arith, c .second .above i (omega arith) b))),

@@ -1,10 +1,10 @@
 use mathlib.Core.Path.{ap}
 use native.Mathlib.Omega.{arith}
 use Rattle.net.specs.declared.Arc.{Arc}
-use Rattle.replay.proofs.Short.{whole}
+use Rattle.replay_firing.proofs.Short.{whole}
 use borrow.Author.Needs.{needs}
-use Rattle.replay.proofs.missing.Statement.{statement}
-use Rattle.replay.proofs.missing.Tie as tie
+use Rattle.replay_firing.proofs.missing.Statement.{statement}
+use Rattle.replay_firing.proofs.missing.Tie as tie
 
 mul-arc : tie.Need-mul-arc
 mul-arc c = search needs

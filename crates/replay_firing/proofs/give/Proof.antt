@@ -6,8 +6,8 @@ use Rattle.net.specs.declared.Arc.{Arc}
 use Rattle.arcs_column.specs.Gain.{Gives}
 use Rattle.arcs_column.proofs.Sums.{fits, gives-more}
 use borrow.Author.Needs.{needs}
-use Rattle.replay.proofs.give.Statement.{statement}
-use Rattle.replay.proofs.give.Tie as tie
+use Rattle.replay_firing.proofs.give.Statement.{statement}
+use Rattle.replay_firing.proofs.give.Tie as tie
 
 abbrev Inv-loop : tie.InvT-loop
 Inv-loop file start from to marking₀ j₀ marking j = (from ≤ j) × (j ≤ to) × Gives file start from j marking₀ marking

@@ -6,8 +6,8 @@ use Rattle.net.specs.declared.Arc.{Arc}
 use Rattle.arcs_column.specs.Gain.{Takes}
 use Rattle.arcs_column.proofs.Sums.{enough, takes-more}
 use borrow.Author.Needs.{needs}
-use Rattle.replay.proofs.take.Statement.{statement}
-use Rattle.replay.proofs.take.Tie as tie
+use Rattle.replay_firing.proofs.take.Statement.{statement}
+use Rattle.replay_firing.proofs.take.Tie as tie
 
 abbrev Inv-loop : tie.InvT-loop
 Inv-loop file start from to marking₀ j₀ marking j = (from ≤ j) × (j ≤ to) × Takes file start from j marking₀ marking

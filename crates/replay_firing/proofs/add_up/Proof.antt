@@ -1,7 +1,7 @@
 use borrow.Author.Needs.{needs}
 use borrow.Author.Tests.{eq-eqb, ne-eqb}
-use Rattle.replay.proofs.add_up.Statement.{statement}
-use Rattle.replay.proofs.add_up.Tie as tie
+use Rattle.replay_firing.proofs.add_up.Statement.{statement}
+use Rattle.replay_firing.proofs.add_up.Tie as tie
 
 add-result : tie.Need-add-result
 add-result c = search needs

@@ -1,0 +1,43 @@
+use mathlib.Core.Path.{sym, _∙_}
+use Rattle.file.proofs.Caps.{none-capped}
+use borrow.Author.Needs.{needs}
+use Rattle.replay.proofs.run_either.Statement.{statement}
+use Rattle.replay.proofs.run_either.Tie as tie
+
+has-caps-requires : tie.Need-has-caps-requires
+has-caps-requires c κs = search needs
+
+run-capped-requires : tie.Need-run-capped-requires
+run-capped-requires c κs = search needs
+
+same-length : tie.Need-same-length
+same-length c = search needs
+
+returns : tie.Need-returns
+returns c = search needs
+
+-- no place has a cap
+run-requires : tie.Need-run-requires
+run-requires c κs =
+    let known = c .before .before in
+    let s = known .before .before .before .before .before in
+    let none = none-capped (s .args .file .now) (s .args .h) (sym (known .has-caps .ensures) ∙ c .before .if1 .left) in
+    (record { ready = s .pre .0; uncapped = none }, s .pre .1)
+
+same-length-2 : tie.Need-same-length-2
+same-length-2 c = search needs
+
+returns-2 : tie.Need-returns-2
+returns-2 c = search needs
+
+pub run-either-spec : {M : Type 1} → statement M
+run-either-spec =
+    tie.close
+    (tie.spec
+    has-caps-requires
+    run-capped-requires
+    same-length
+    returns
+    run-requires
+    same-length-2
+    returns-2)

@@ -1,0 +1,4 @@
+pub mod Firing
+pub mod Short
+pub mod Caps
+pub mod Trying
