@@ -19,17 +19,17 @@ use Rattle.cut_search.specs.Search
 
 -- ---- places kept
 
-places-none : (new : ℕ → Bool) (marks : ℕ) (places : List ℕ) → length places ≡ 16 → ((k : ℕ) → new k ≡ false) → PlacesKept new marks marks places places
+pub places-none : (new : ℕ → Bool) (marks : ℕ) (places : List ℕ) → length places ≡ 16 → ((k : ℕ) → new k ≡ false) → PlacesKept new marks marks places places
 places-none new marks places w e = record {
   kept = λ k. sym (ap (λ (b : Bool). member places k || b) (e k) ∙ or-false (member places k));
   long = w;
   marked = λ gone m. m;
 }
 
-places-as : (new new′ : ℕ → Bool) (m m′ : ℕ) (P P′ : List ℕ) → PlacesKept new m m′ P P′ → ((k : ℕ) → new k ≡ new′ k) → PlacesKept new′ m m′ P P′
+pub places-as : (new new′ : ℕ → Bool) (m m′ : ℕ) (P P′ : List ℕ) → PlacesKept new m m′ P P′ → ((k : ℕ) → new k ≡ new′ k) → PlacesKept new′ m m′ P P′
 places-as new new′ m m′ P P′ x e = record { kept = λ k. x .kept k ∙ ap (λ (b : Bool). member P k || b) (e k); long = x .long; marked = x .marked }
 
-places-join : (a b : ℕ → Bool) (m m′ m″ : ℕ) (P P′ P″ : List ℕ) → PlacesKept a m m′ P P′ → PlacesKept b m′ m″ P′ P″ → PlacesKept (λ k. a k || b k) m m″ P P″
+pub places-join : (a b : ℕ → Bool) (m m′ m″ : ℕ) (P P′ P″ : List ℕ) → PlacesKept a m m′ P P′ → PlacesKept b m′ m″ P′ P″ → PlacesKept (λ k. a k || b k) m m″ P P″
 places-join a b m m′ m″ P P′ P″ x y = record {
   kept = λ k. y .kept k ∙ ap (λ (c : Bool). c || b k) (x .kept k) ∙ or-assoc (member P k) (a k) (b k);
   long = y .long;
@@ -67,13 +67,13 @@ module _ (s : List ℕ) (h : Header) (sound : Sound s h) (from t : ℕ) (tl : t 
 
 -- ---- a transition kept, u, which the code has as t
 
-module _ (takes : ℕ → ℕ → Bool) (t u : ℕ) (same : t ≡ u) (marks : ℕ) (places transitions : List ℕ) where
+module _ (needs : ℕ → ℕ → Bool) (t u : ℕ) (same : t ≡ u) (marks : ℕ) (places transitions : List ℕ) where
   -- it was kept before
-  pub transition-known : member transitions t ≡ true → Search.Sets places transitions → Search.TransitionKept (takes u) u marks marks places transitions places transitions
+  pub transition-known : member transitions t ≡ true → Search.Sets places transitions → Search.TransitionKept (needs u) u marks marks places transitions places transitions
   transition-known e w = record {
     members = λ k. has k (eqb k u) refl;
     long = w .transitions-long;
-    inputs = places-none _ marks places (w .places-long) (λ k. ap (λ (b : Bool). not b && takes u k) here);
+    needed = places-none _ marks places (w .places-long) (λ k. ap (λ (b : Bool). not b && needs u k) here);
   }
     where
       here : member transitions u ≡ true
@@ -85,9 +85,9 @@ module _ (takes : ℕ → ℕ → Bool) (t u : ℕ) (same : t ≡ u) (marks : �
 
   -- it is new
   pub transition-new : (marks′ : ℕ) (places′ transitions′ : List ℕ) → member transitions t ≡ false → Inserted t transitions transitions′
-      → PlacesKept (takes t) marks marks′ places places′ → Search.TransitionKept (takes u) u marks marks′ places transitions places′ transitions′
+      → PlacesKept (needs t) marks marks′ places places′ → Search.TransitionKept (needs u) u marks marks′ places transitions places′ transitions′
   transition-new marks′ places′ transitions′ e x y = record {
     members = λ k. x .members k ∙ ap (λ (v : ℕ). member transitions k || eqb k v) same;
     long = x .long;
-    inputs = places-as (takes t) _ marks marks′ places places′ y (λ k. ap (λ (v : ℕ). takes v k) same ∙ sym (ap (λ (b : Bool). not b && takes u k) (ap (member transitions) (sym same) ∙ e)));
+    needed = places-as (needs t) _ marks marks′ places places′ y (λ k. ap (λ (v : ℕ). needs v k) same ∙ sym (ap (λ (b : Bool). not b && needs u k) (ap (member transitions) (sym same) ∙ e)));
   }

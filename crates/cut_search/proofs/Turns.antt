@@ -8,7 +8,6 @@ use native.Mathlib.Decide.{decLt}
 use lib.Dec.{T, eqb, eqb→eq}
 use lib.ListN.{getD}
 use borrow.Author.Tests.{eq-eqb, eqb-true, eqb-false}
-use Rattle.net.specs.Net.{takesFrom}
 use Rattle.net.specs.Cut.{Growth, needed, KeptTransition, drawn}
 use Rattle.net.proofs.Numbers.{by-cases, by-or, holds, fails, not-not, and-left, and-right, and-both, or-left, or-right}
 use Rattle.net.proofs.Worklist.{Searching}
@@ -21,10 +20,10 @@ use Rattle.file.proofs.Rows.{good-at}
 use Rattle.sets_pending.specs.Growing.{waits}
 use Rattle.arcs_column.specs.Ways.{transitionAt, directionAt, placeAt}
 use Rattle.cut_rows.specs.Rows.{moves, Last, Rows}
-use Rattle.cut_rows.proofs.Inputs.{takes-inside}
 use Rattle.cut_rows.proofs.Row
 use Rattle.cut_rows.proofs.Row.{first-below, first-same, first-split, row-ended}
 use Rattle.cut_search.specs.Search
+use Rattle.cut_search.proofs.Needed.{needs-inside}
 
 -- ---- the search, while the rows of the place f are followed in any order
 
@@ -157,7 +156,7 @@ module _ (s : List ℕ) (h : Header) (sound : Sound s h) (next : List ℕ) (next
     row-less = Row.row-less s h d p e (x .upto) (x .within) (x .last) more next (nexts .nexts)
 
     module _ (m′ : ℕ) (P′ R′ : List ℕ)
-        (y : Search.TransitionKept (takesFrom (netFrom s h) (transitionAt s (h .arcstart) (e / 65536 - 1))) (transitionAt s (h .arcstart) (e / 65536 - 1)) m m′ P R P′ R′) where
+        (y : Search.TransitionKept (Search.needsOf (netFrom s h) (transitionAt s (h .arcstart) (e / 65536 - 1))) (transitionAt s (h .arcstart) (e / 65536 - 1)) m m′ P R P′ R′) where
       abbrev t : ℕ
       t = transitionAt s (h .arcstart) (e / 65536 - 1)
 
@@ -165,16 +164,16 @@ module _ (s : List ℕ) (h : Header) (sound : Sound s h) (next : List ℕ) (next
       t-same = first-same s h sound (e % 65536 - 1) (e / 65536 - 1) row-below row-first
 
       new : ℕ → Bool
-      new k = not (member R t) && takesFrom (netFrom s h) t k
+      new k = not (member R t) && Search.needsOf (netFrom s h) t k
 
       step : Search.Grown h m m′ P R P′ R′
       unfolding new
       step = record {
-        sets = record { places-long = y .inputs .long; transitions-long = y .long };
-        more-places = λ k u. subst T (sym (y .inputs .kept k)) (or-left (member P k) (new k) u);
+        sets = record { places-long = y .needed .long; transitions-long = y .long };
+        more-places = λ k u. subst T (sym (y .needed .kept k)) (or-left (member P k) (new k) u);
         more-transitions = λ k u. subst T (sym (y .members k)) (or-left (member R k) (eqb k t) u);
-        inside = λ i k u. by-or (member P k) (new k) (subst T (y .inputs .kept k) u) (i k) (λ n. takes-inside s h sound t k (and-right (not (member R t)) (takesFrom (netFrom s h) t k) n));
-        marked = y .inputs .marked;
+        inside = λ i k u. by-or (member P k) (new k) (subst T (y .needed .kept k) u) (i k) (λ n. needs-inside s h sound t k (and-right (not (member R t)) (Search.needsOf (netFrom s h) t k) n));
+        marked = y .needed .marked;
       }
 
       drawn-in : (G : Growth) (all : Bool) (both : List ℕ) → Search.Grows G s h all both → T (G .draws p t) → (gone : ℕ → Bool) → ((k : ℕ) → T (gone k) → T (member P k)) → T (member P p)
@@ -182,9 +181,9 @@ module _ (s : List ℕ) (h : Header) (sound : Sound s h) (next : List ℕ) (next
       unfolding new
       drawn-in G all both g draws gone part kept at =
           search-draw G (member P) (waits P gone) (member R) p at t (omega (arith, g .transitions, good-at s h sound (e / 65536 - 1) row-from .transition)) kept draws
-          (λ q u. omega (arith, g .places, takes-inside s h sound t q (subst T (g .needs t q) u)))
-          (member P′) (waits P′ gone) (member R′) new (λ q. ap (λ (b : Bool). not (member R t) && b) (sym (g .needs t q))) (y .members) (y .inputs .kept)
-          (λ q. ap (λ (b : Bool). b && not (gone q)) (y .inputs .kept q) ∙ waits-more (member P q) (new q) (gone q) (part q))
+          (λ q u. omega (arith, g .places, needs-inside s h sound t q (subst T (g .needs t q) u)))
+          (member P′) (waits P′ gone) (member R′) new (λ q. ap (λ (b : Bool). not (member R t) && b) (sym (g .needs t q))) (y .members) (y .needed .kept)
+          (λ q. ap (λ (b : Bool). b && not (gone q)) (y .needed .kept q) ∙ waits-more (member P q) (new q) (gone q) (part q))
 
       pub following-more : Following s h d p (getD next (e % 65536 - 1) 0) marks m′ places transitions P′ R′
       following-more = record {
@@ -219,18 +218,18 @@ module _ (s : List ℕ) (h : Header) (head next : List ℕ) (rows : Rows s h hea
   pub nexts-of : Search.Nexts s h next
   nexts-of = record { long = rows .next-long; nexts = rows .nexts }
 
+  -- each entry of head starts a row
+  pub row-at : (i : ℕ) → i < 2 * h .places → Search.Row s h (getD head i 0)
+  row-at i l =
+      let e : 2 * (i / 2) + i % 2 ≡ i = omega arith in
+      record { direction = i % 2; place = i / 2; way = omega arith; last = subst (λ (j : ℕ). Last s h (h .arcs) (i % 2) (i / 2) (getD head j 0)) e (rows .heads (i % 2) (i / 2) (omega arith) (omega arith)) }
+
   module _ (p : ℕ) (l : p < h .places) where
     pub lowers : Last s h (h .arcs) 0 p (getD head (2 * p) 0)
     lowers = let e : 2 * p + 0 ≡ 2 * p = omega arith in subst (λ (i : ℕ). Last s h (h .arcs) 0 p (getD head i 0)) e (rows .heads 0 p (omega arith) l)
 
     pub raises : Last s h (h .arcs) 1 p (getD head (2 * p + 1) 0)
     raises = rows .heads 1 p (omega arith) l
-
-    pub row-lowers : Search.Row s h (getD head (2 * p) 0)
-    row-lowers = record { direction = 0; place = p; way = omega arith; last = lowers }
-
-    pub row-raises : Search.Row s h (getD head (2 * p + 1) 0)
-    row-raises = record { direction = 1; place = p; way = omega arith; last = raises }
 
 -- where b, the transitions that lower p are kept
 pub record Halfway (s : List ℕ) (h : Header) (b : Bool) (p marks marks′ : ℕ) (places transitions places′ transitions′ : List ℕ) : Type 0 where
@@ -266,21 +265,21 @@ module _ (s : List ℕ) (h : Header) (b : Bool) (p marks : ℕ) (places transiti
 
 module _ (s : List ℕ) (h : Header) (all : Bool) (both : List ℕ) (p : ℕ) where
   abbrev lower : ℕ → Bool
-  lower t = (all || member both p) && moves (netFrom s h) 0 p t
+  lower t = Search.drawsBoth (netFrom s h) all both p && moves (netFrom s h) 0 p t
 
   abbrev raise : ℕ → Bool
   raise t = moves (netFrom s h) 1 p t
 
   -- both rows that count are followed
-  pub turned : (marks m m′ : ℕ) (places transitions P R P′ R′ : List ℕ) → Halfway s h (all || member both p) p marks m places transitions P R → Search.Followed s h 1 p m m′ P R P′ R′
+  pub turned : (marks m m′ : ℕ) (places transitions P R P′ R′ : List ℕ) → Halfway s h (Search.drawsBoth (netFrom s h) all both p) p marks m places transitions P R → Search.Followed s h 1 p m m′ P R P′ R′
       → Search.Turned s h all both p marks m′ places transitions P′ R′
   turned marks m m′ places transitions P R P′ R′ x y = record {
     grown = grown-join h marks m m′ places transitions P R P′ R′ (x .grown) (y .grown);
     search = λ G g gone part kept at.
         search-turned G (member P′) (waits P′ gone) (member R′) p
         (y .search G all both g (λ t u. subst T (sym (g .draws p t)) (or-right (lower t) (raise t) u)) gone (λ k u. x .grown .more-places k (part k u)) (x .grown .more-places p kept)
-        (x .search G all both g (λ c t u. subst T (sym (g .draws p t)) (or-left (lower t) (raise t) (and-both (all || member both p) (moves (netFrom s h) 0 p t) c u))) gone part kept at))
+        (x .search G all both g (λ c t u. subst T (sym (g .draws p t)) (or-left (lower t) (raise t) (and-both (Search.drawsBoth (netFrom s h) all both p) (moves (netFrom s h) 0 p t) c u))) gone part kept at))
         (λ t l d. by-or (lower t) (raise t) (subst T (g .draws p t) d)
-        (λ u. y .grown .more-transitions t (x .met (and-left (all || member both p) (moves (netFrom s h) 0 p t) u) t (and-right (all || member both p) (moves (netFrom s h) 0 p t) u)))
+        (λ u. y .grown .more-transitions t (x .met (and-left (Search.drawsBoth (netFrom s h) all both p) (moves (netFrom s h) 0 p t) u) t (and-right (Search.drawsBoth (netFrom s h) all both p) (moves (netFrom s h) 0 p t) u)))
         (λ u. y .met t u));
   }

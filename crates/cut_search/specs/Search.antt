@@ -6,7 +6,8 @@ use mathlib.Core.Logic.{_⊎_}
 use mathlib.Core.Path.{_≡_}
 use lib.Dec.{T, eqb}
 use lib.ListN.{length, getD}
-use Rattle.net.specs.Net.{takesFrom}
+use Rattle.net.specs.Net.{Net, takesFrom, addsTo, capped}
+use Rattle.net.specs.declared.Arc.{Arc}
 use Rattle.net.specs.Cut.{Growth}
 use Rattle.net.proofs.Worklist.{Searching}
 use Rattle.file.specs.Layout.{netFrom}
@@ -22,18 +23,30 @@ pub record Sets (places transitions : List ℕ) : Type 0 where
   pub places-long : length places ≡ 16
   pub transitions-long : length transitions ≡ 16
 
--- the file is that of the growth G: a place draws in what raises it, and what lowers it too where it is one of `both` or `all` are
+-- t needs p: "keep the input places of kept transitions", and "capped places with out above 0 from a kept transition"
+abbrev pub needsOf : Net → ℕ → ℕ → Bool
+needsOf N t p = takesFrom N t p || capped N p && addsTo N t p
+
+-- the same by one arc: it takes from its place, or its place has a cap
+abbrev pub needsPlace : Net → Arc → Bool
+needsPlace N a = eqb (a .direction) 0 || capped N (a .place)
+
+-- p draws in what lowers it too, and not only what raises it: all do, p is one of `both`, or p has a cap
+abbrev pub drawsBoth : Net → Bool → List ℕ → ℕ → Bool
+drawsBoth N all both p = (all || member both p) || capped N p
+
+-- the file is that of the growth G
 pub record Grows (G : Growth) (s : List ℕ) (h : Header) (all : Bool) (both : List ℕ) : Type 0 where
   pub places : G .places ≡ h .places
   pub transitions : G .transitions ≡ h .transitions
-  pub needs : (t p : ℕ) → G .needs t p ≡ takesFrom (netFrom s h) t p
-  pub draws : (p t : ℕ) → G .draws p t ≡ (all || member both p) && moves (netFrom s h) 0 p t || moves (netFrom s h) 1 p t
+  pub needs : (t p : ℕ) → G .needs t p ≡ needsOf (netFrom s h) t p
+  pub draws : (p t : ℕ) → G .draws p t ≡ drawsBoth (netFrom s h) all both p && moves (netFrom s h) 0 p t || moves (netFrom s h) 1 p t
 
--- t is kept, and if it is new its input places are
-pub record TransitionKept (takes : ℕ → Bool) (t marks marks′ : ℕ) (places transitions places′ transitions′ : List ℕ) : Type 0 where
+-- t is kept, and if it is new the places that it needs are
+pub record TransitionKept (needs : ℕ → Bool) (t marks marks′ : ℕ) (places transitions places′ transitions′ : List ℕ) : Type 0 where
   pub members : (k : ℕ) → member transitions′ k ≡ member transitions k || eqb k t
   pub long : length transitions′ ≡ 16
-  pub inputs : PlacesKept (λ k. not (member transitions t) && takes k) marks marks′ places places′
+  pub needed : PlacesKept (λ k. not (member transitions t) && needs k) marks marks′ places places′
 
 -- next leads from a group of a row to the one before it
 pub record Nexts (s : List ℕ) (h : Header) (next : List ℕ) : Type 0 where

@@ -7,10 +7,10 @@ use Rattle.cut_search.proofs.follow.Statement.{statement}
 use Rattle.cut_search.proofs.follow.Tie as tie
 
 abbrev Inv-loop : tie.InvT-loop
-Inv-loop file h next row marks places₀ transitions₀ m₀ e₀ places transitions m e = (d p : ℕ) → d ≤ 1 → Last file h (h .arcs) d p row → Following file h d p e marks m places₀ transitions₀ places transitions
+Inv-loop file h next row capped marks places₀ transitions₀ m₀ e₀ places transitions m e = (d p : ℕ) → d ≤ 1 → Last file h (h .arcs) d p row → Following file h d p e marks m places₀ transitions₀ places transitions
 
 abbrev μ-loop : tie.MeasureT-loop
-μ-loop file h next row marks places₀ transitions₀ m₀ e₀ places transitions m e = e % 65536
+μ-loop file h next row capped marks places₀ transitions₀ m₀ e₀ places transitions m e = e % 65536
 
 -- the row that was asked for
 along : (c : tie.At-loop Inv-loop μ-loop) → let start = c .before .before .before in
@@ -18,7 +18,7 @@ along : (c : tie.At-loop Inv-loop μ-loop) → let start = c .before .before .be
 along c = let row = c .before .before .before .pre .2 in c .loop .inv (row .direction) (row .place) (row .way) (row .last)
 
 loop-holds : tie.Need-loop-holds Inv-loop μ-loop
-loop-holds c = let start = c .before .before in λ d p way last. following-none _ (start .args .h) d p _ _ _ _ (start .pre .3) last
+loop-holds c = let start = c .before .before in λ d p way last. following-none _ (start .args .h) d p _ _ _ _ (start .pre .4) last
 
 sub-keep-transition : tie.Need-sub-keep-transition Inv-loop μ-loop
 sub-keep-transition c =
@@ -32,7 +32,7 @@ keep-transition-requires c κs =
     let start = c .before .before .before .before .before .before in
     let x = along (c .before .before .before) in
     let n = c .before .before .loop-test .taken in
-    ((start .pre .0, row-from _ (start .args .h) (start .pre .0) _ (start .pre .1) _ _ _ _ _ _ _ _ _ x n, row-split _ (start .args .h) (start .pre .0) _ (start .pre .1) _ _ _ _ _ _ _ _ _ x n), x .grown .sets)
+    ((start .pre .0, row-from _ (start .args .h) (start .pre .0) _ (start .pre .1) _ _ _ _ _ _ _ _ _ x n, row-split _ (start .args .h) (start .pre .0) _ (start .pre .1) _ _ _ _ _ _ _ _ _ x n), (start .pre .3, x .grown .sets))
 
 sub-e : tie.Need-sub-e Inv-loop μ-loop
 sub-e c =

@@ -1,24 +1,34 @@
 use borrow.Author.Needs.{needs}
 use Prim.Native.Nat.{ℕ, _*_, _<_}
+use mathlib.Core.Bool.{false}
+use mathlib.Core.List.{List}
 use mathlib.Core.Path.{_≡_, sym, ap, _∙_, subst}
 use native.Mathlib.Omega.{arith}
-use Rattle.net.specs.Net.{takesFrom}
+use lib.Dec.{eqb}
+use lib.ListN.{length}
 use Rattle.net.specs.declared.Arc.{Arc}
 use Rattle.file.specs.Layout.{netFrom}
+use Rattle.file.specs.Facts.{Sound}
 use Rattle.arcs_starts.specs.Table.{Split}
 use Rattle.file.proofs.Rows.{good-at}
+use Rattle.sets_pending.specs.Growing.{PlacesKept}
 use Rattle.arcs_column.specs.Ways.{transitionAt}
-use Rattle.cut_search.proofs.Steps.{transition-known, transition-new}
+use Rattle.cut_search.specs.Search.{needsOf, TransitionKept}
+use Rattle.cut_search.proofs.Steps.{transition-known, transition-new, places-as}
+use Rattle.cut_search.proofs.Needed.{needs-inputs}
 use Rattle.cut_search.proofs.keep_transition.Statement.{statement}
 use Rattle.cut_search.proofs.keep_transition.Tie as tie
 
--- ---- the states: the call, the arc read, whether its transition is kept known
+-- ---- the states: the call, the arc read, whether its transition is kept known, the transition put in
 
 abbrev call : tie.After-arc → tie.Start
 call c = c .before .before .before
 
 abbrev read : tie.After-contains → tie.After-arc
 read c = c .before .before
+
+abbrev asked : tie.After-insert → tie.After-contains
+asked c = c .before .before .before
 
 mul-arc : tie.Need-mul-arc
 mul-arc c = search needs
@@ -46,29 +56,49 @@ returns : tie.Need-returns
 returns c =
     let a = read (c .before) in
     let s = call a in
-    transition-known (takesFrom (netFrom (s .args .file .now) (s .args .h))) _ _ (same a) _ _ _ (sym (c .before .contains .ensures) ∙ c .if1 .taken) (s .pre .1)
+    transition-known (needsOf (netFrom (s .args .file .now) (s .args .h))) _ _ (same a) _ _ _ (sym (c .before .contains .ensures) ∙ c .if1 .taken) (s .pre .1 .1)
 
 insert-requires : tie.Need-insert-requires
 insert-requires c κs =
     let a = read (c .before .before) in
-    (few a, call a .pre .1 .transitions-long)
+    (omega (arith, few a), call a .pre .1 .1 .transitions-long)
 
-keep-inputs-requires : tie.Need-keep-inputs-requires
-keep-inputs-requires c κs =
-    let a = read (c .before .before .before .before) in
+-- what both ways of keeping places ask
+asks : (c : tie.After-insert) → let s = call (read (asked c)) in let t = read (asked c) .arc .result .transition in
+    Sound (s .args .file .now) (s .args .h) × (t < s .args .h .transitions) × Split (s .args .file .now) (s .args .h .arcstart) (s .args .h .arcs) (2 * t) (s .args .from) × (length (s .args .places .now) ≡ 16)
+asks c =
+    let a = read (asked c) in
     let s = call a in (
       s .pre .0 .0,
       inside a,
       subst (λ (t : ℕ). Split (s .args .file .now) (s .args .h .arcstart) (s .args .h .arcs) (2 * t) (s .args .from)) (sym (same a)) (s .pre .0 .2),
-      s .pre .1 .places-long,
+      s .pre .1 .1 .places-long,
     )
 
-returns-2 : tie.Need-returns-2
-returns-2 c =
-    let new = c .before .before .before .before in
-    let a = read (new .before) in
+-- the transition is new, and the places that it needs are kept
+new : (c : tie.After-insert) (m : ℕ) (P : List ℕ) → let a = read (asked c) in let s = call a in let N = netFrom (s .args .file .now) (s .args .h) in let u = transitionAt (s .args .file .now) (s .args .h .arcstart) (s .args .from) in
+    PlacesKept (needsOf N (a .arc .result .transition)) (s .args .marks) m (s .args .places .now) P
+    → TransitionKept (needsOf N u) u (s .args .marks) m (s .args .places .now) (s .args .transitions .now) P (c .insert .last .0)
+new c m P kept =
+    let a = read (asked c) in
     let s = call a in
-    transition-new (takesFrom (netFrom (s .args .file .now) (s .args .h))) _ _ (same a) _ _ _ _ _ _ (sym (new .before .contains .ensures) ∙ new .if1 .left) (c .before .before .insert .ensures) (c .keep-inputs .ensures)
+    transition-new (needsOf (netFrom (s .args .file .now) (s .args .h))) _ _ (same a) _ _ _ _ _ _ (sym (asked c .contains .ensures) ∙ c .before .before .if1 .left) (c .insert .ensures) kept
+
+keep-needed-requires : tie.Need-keep-needed-requires
+keep-needed-requires c κs = asks (c .before .before)
+
+returns-2 : tie.Need-returns-2
+returns-2 c = new (c .before .before .before) _ _ (c .keep-needed .ensures)
+
+keep-inputs-requires : tie.Need-keep-inputs-requires
+keep-inputs-requires c κs = asks (c .before .before)
+
+returns-3 : tie.Need-returns-3
+returns-3 c =
+    let put = c .before .before .before in
+    let s = call (read (asked put)) in
+    let other : eqb (s .args .h .edition) 2 ≡ false = sym (s .pre .1 .0) ∙ c .before .before .if2 .left in
+    new put _ _ (places-as _ _ _ _ _ _ (c .keep-inputs .ensures) (needs-inputs (s .args .file .now) (s .args .h) other _))
 
 pub keep-transition-spec : {M : Type 1} → statement M
 keep-transition-spec =
@@ -80,5 +110,7 @@ keep-transition-spec =
     contains-requires
     returns
     insert-requires
+    keep-needed-requires
+    returns-2
     keep-inputs-requires
-    returns-2)
+    returns-3)

@@ -1,5 +1,6 @@
 use borrow.Author.Needs.{needs}
 use mathlib.Core.Path.{subst}
+use native.Mathlib.Omega.{arith}
 use Rattle.sets.specs.Member.{member}
 use Rattle.sets.specs.Lowest.{IsLowest}
 use Rattle.sets.specs.declared.Found.the-variants.{At}
@@ -44,7 +45,7 @@ returns c =
 insert-requires : tie.Need-insert-requires
 insert-requires c κs =
     let place = c .before .before in
-    (found place .0, call (search-of place) .pre .1 .long)
+    (omega (arith, found place .0), call (search-of place) .pre .1 .long)
 
 turn-requires : tie.Need-turn-requires
 turn-requires c κs =

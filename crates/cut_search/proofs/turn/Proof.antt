@@ -1,80 +1,30 @@
-use borrow.Author.Needs.{needs}
-use mathlib.Core.Bool.{Bool, _||_}
-use mathlib.Core.Path.{sym, ap, _∙_}
-use mathlib.Core.Logic.{⊎-elim}
-use native.Mathlib.Omega.{arith}
-use Rattle.sets.specs.Member.{member}
-use Rattle.cut_search.proofs.Turns.{Halfway, halfway-followed, halfway-none, turned, nexts-of, lowers, raises, row-lowers, row-raises}
+use mathlib.Core.Path.{_≡_, sym}
+use borrow.Author.Tests.{eq-eqb, ne-eqb}
 use Rattle.cut_search.proofs.turn.Statement.{statement}
 use Rattle.cut_search.proofs.turn.Tie as tie
 
-abbrev call : tie.Joined1 → tie.Start
-call c = c .before .before .before .before .before
+abbrev call : tie.After-struct-known → tie.Start
+call c = c .before .before .before .before
 
-contains-requires : tie.Need-contains-requires
-contains-requires c κs = search needs
-
-mul-follow : tie.Need-mul-follow
-mul-follow c = search needs
-
-mul-follow-2 : tie.Need-mul-follow-2
-mul-follow-2 c = search needs
-
-shared-slice-read-follow : tie.Need-shared-slice-read-follow
-shared-slice-read-follow c = search needs
-
-follow-requires : tie.Need-follow-requires
-follow-requires c κs =
-    let s = c .before .before .before .before .before .before .before .before in
-    (s .pre .0, nexts-of _ (s .args .h) _ _ (s .pre .1), row-lowers _ (s .args .h) _ _ (s .pre .1) _ (s .pre .2), s .pre .3)
-
--- after the row that lowers p, or without it
-halfway : (c : tie.Joined1) → let s = call c in
-    Halfway (s .args .file .now) (s .args .h) (s .args .all || member (s .args .both .now) (s .args .p)) (s .args .p) (s .args .marks) (c .if1 .m) (s .args .places .now) (s .args .transitions .now) (c .if1 .places) (c .if1 .transitions)
-halfway c =
-    let s = call c in
-    let is = ap (λ (b : Bool). s .args .all || b) (sym (c .before .contains .ensures)) in
-    ⊎-elim
-    (λ w. halfway-followed _ (s .args .h) _ _ _ _ _ (is ∙ w .0 .taken) _ _ _ _ _ _ (w .4 .ensures 0 (s .args .p) (omega arith) (lowers _ (s .args .h) _ _ (s .pre .1) _ (s .pre .2))) (w .5) (w .6) (w .7))
-    (λ w. halfway-none _ (s .args .h) _ _ _ _ _ (is ∙ w .0 .left) (s .pre .3) _ _ _ (w .1) (w .2) (w .3))
-    (c .if1 .came)
-
-mul-follow-3 : tie.Need-mul-follow-3
-mul-follow-3 c = search needs
-
-add-follow : tie.Need-add-follow
-add-follow c = search needs
-
-mul-follow-4 : tie.Need-mul-follow-4
-mul-follow-4 c = search needs
-
-shared-slice-read-follow-2 : tie.Need-shared-slice-read-follow-2
-shared-slice-read-follow-2 c = search needs
-
-follow-requires-2 : tie.Need-follow-requires-2
-follow-requires-2 c κs =
-    let joined = c .before .before .before in
-    let s = call joined in
-    (s .pre .0, nexts-of _ (s .args .h) _ _ (s .pre .1), row-raises _ (s .args .h) _ _ (s .pre .1) _ (s .pre .2), halfway joined .grown .sets)
+follow-rows-requires : tie.Need-follow-rows-requires
+follow-rows-requires c κs =
+    let tested = c .before .before in
+    let s = call (tested .before) in
+    let two : s .args .h .edition ≡ 2 = tested .if1 .taken in
+    (s .pre .0, s .pre .1, s .pre .2, sym (eq-eqb _ _ two), s .pre .3)
 
 returns : tie.Need-returns
-returns c =
-    let joined = c .before .before .before .before in
-    let s = call joined in
-    turned _ (s .args .h) _ _ _ _ _ _ _ _ _ _ _ _ (halfway joined) (c .follow2 .ensures 1 (s .args .p) (omega arith) (raises _ (s .args .h) _ _ (s .pre .1) _ (s .pre .2)))
+returns c = c .follow-rows .ensures
+
+follow-rows-requires-2 : tie.Need-follow-rows-requires-2
+follow-rows-requires-2 c κs =
+    let tested = c .before .before in
+    let s = call (tested .before) in
+    let other : s .args .h .edition ≡ 2 → ⊥ = tested .if1 .left in
+    (s .pre .0, s .pre .1, s .pre .2, sym (ne-eqb _ _ other), s .pre .3)
+
+returns-2 : tie.Need-returns-2
+returns-2 c = c .follow-rows2 .ensures
 
 pub turn-spec : {M : Type 1} → statement M
-turn-spec =
-    tie.close
-    (tie.spec
-    contains-requires
-    mul-follow
-    mul-follow-2
-    shared-slice-read-follow
-    follow-requires
-    mul-follow-3
-    add-follow
-    mul-follow-4
-    shared-slice-read-follow-2
-    follow-requires-2
-    returns)
+turn-spec = tie.close (tie.spec follow-rows-requires returns follow-rows-requires-2 returns-2)
