@@ -36,7 +36,7 @@ pub fn check(plan: &[u8], slice: &[u8], criterion: &[u16]) -> Verdict
     checker::judge(plan, p, slice, s, criterion)
 }
 
-// The same with the criterion as 2 bytes a place, low byte first: 0 accepted, 1 to 13 a refusal, 100 plus the rule otherwise.
+// The same with the criterion as 2 bytes a place, low byte first: 0 accepted, below 100 a refusal, 100 plus the rule otherwise.
 pub fn check_bytes(plan: &[u8], slice: &[u8], q: &[u8]) -> u32
     ensures answer { λ r. ⌜ r ≡ checkedBytes (now (plan .entry)) (now (slice .entry)) (now (q .entry)) ⌝ }
     ensures guarantee { λ r. ⌜ (r ≡ 0 → Guarantee (netOf (now (plan .entry))) (sliceOf (now (slice .entry))) (criterionOf (now (q .entry)))) ⌝ }

@@ -7,20 +7,20 @@ use native.Mathlib.Omega.{arith}
 use native.Mathlib.Nat.{div-div-eq-div-mul}
 use lib.ListN.{getD}
 use Rattle.net.specs.Numbers.{among, position}
-use Rattle.net.specs.Net.{Net}
+use Rattle.net.specs.Net.{Net, capped}
 use Rattle.net.specs.Slice.{renumber}
 use Rattle.net.specs.declared.Arc.{Arc}
 use Rattle.net.proofs.Numbers.{by-cases, holds, position-lt}
-use Rattle.file.specs.Layout.{sliceFrom}
+use Rattle.file.specs.Layout.{netFrom, sliceFrom}
 use Rattle.file.specs.Facts.{ArcGood, arcOf}
 use Rattle.file.specs.declared.Header.{Header}
 use Rattle.file.proofs.Rows.{length-words}
 use Rattle.file.proofs.Words.{field-transition, field-direction, field-place, field-weight}
-use Rattle.check_fast.specs.Entries.{leftPlace, leftTransition, numbered, flagged, marked}
-use Rattle.check_fast.specs.Pass.{Ready, joinedOf, keptOf, oddOf, dueOf, Fine}
+use Rattle.check_fast.specs.Entries.{leftPlace, leftCapped, leftTransition, numbered, flagged, marked, either}
+use Rattle.check_fast.specs.Pass.{watched, Ready, joinedOf, keptOf, oddOf, dueOf, Fine}
 use Rattle.check_fast.proofs.Sums.{Flags, flags-at, below, few-flags, many-flags, even-flags, Alike, own-is}
 
-numbered-in : (unit : ℕ) (os : List ℕ) (rest x : ℕ) → among x os ≡ true → numbered unit os rest x ≡ unit * (1024 + position x os - x)
+pub numbered-in : (unit : ℕ) (os : List ℕ) (rest x : ℕ) → among x os ≡ true → numbered unit os rest x ≡ unit * (1024 + position x os - x)
 unfolding numbered
 numbered-in unit os rest x e = rw (e, numbered)
 
@@ -28,15 +28,15 @@ pub numbered-out : (unit : ℕ) (os : List ℕ) (rest x : ℕ) → among x os �
 unfolding numbered
 numbered-out unit os rest x e = rw (e, numbered)
 
-marked-in : (Q : List ℕ) (v x : ℕ) → among x Q ≡ true → marked Q v x ≡ flagged v
+pub marked-in : (Q : List ℕ) (v x : ℕ) → among x Q ≡ true → marked Q v x ≡ flagged v
 unfolding marked
 marked-in Q v x e = rw (e, marked)
 
-marked-out : (Q : List ℕ) (v x : ℕ) → among x Q ≡ false → marked Q v x ≡ v
+pub marked-out : (Q : List ℕ) (v x : ℕ) → among x Q ≡ false → marked Q v x ≡ v
 unfolding marked
 marked-out Q v x e = rw (e, marked)
 
-flagged-whole : (m : ℕ) → flagged (4294967296 * m) ≡ 4294967296 * m + 131072
+pub flagged-whole : (m : ℕ) → flagged (4294967296 * m) ≡ 4294967296 * m + 131072
 flagged-whole m = omega arith
 
 pub apart : {A : Type 0} {b : Bool} → b ≡ true → b ≡ false → A
@@ -57,17 +57,19 @@ whole w =
     parts w a b c e h i j k = omega arith
 
 -- z by the ends of the arc w
-pub data Ends (ps ts Q : List ℕ) (w z : ℕ) : Type 0 where
+pub data Ends (N : Net) (ps ts Q : List ℕ) (w z : ℕ) : Type 0 where
   both : (q : ℕ) → q ≤ 1 → among (arcOf w .place) ps ≡ true → among (arcOf w .transition) ts ≡ true
-      → Flags (1024 + position (arcOf w .transition) ts) (spare w) (1024 + position (arcOf w .place) ps) (arcOf w .weight) (arcOf w .direction + 2 * q) z → Ends ps ts Q w z
+      → Flags (1024 + position (arcOf w .transition) ts) (spare w) (1024 + position (arcOf w .place) ps) (arcOf w .weight) (arcOf w .direction + 2 * q) z → Ends N ps ts Q w z
   at-place : among (arcOf w .place) ps ≡ true → among (arcOf w .transition) ts ≡ false → among (arcOf w .place) Q ≡ false
-      → Flags (1024 + arcOf w .transition) (spare w) (1024 + position (arcOf w .place) ps) (arcOf w .weight) (arcOf w .direction + 7) z → Ends ps ts Q w z
+      → Flags (1024 + arcOf w .transition) (spare w) (1024 + position (arcOf w .place) ps) (arcOf w .weight) (arcOf w .direction + 7) z → Ends N ps ts Q w z
   at-asked : among (arcOf w .place) ps ≡ true → among (arcOf w .transition) ts ≡ false → among (arcOf w .place) Q ≡ true
-      → Flags (1024 + arcOf w .transition) (spare w) (1024 + position (arcOf w .place) ps) (arcOf w .weight) (arcOf w .direction + 9) z → Ends ps ts Q w z
-  at-transition : among (arcOf w .place) ps ≡ false → among (arcOf w .transition) ts ≡ true
-      → Flags (1024 + position (arcOf w .transition) ts) (spare w) (1024 + arcOf w .place) (arcOf w .weight) (arcOf w .direction + 15) z → Ends ps ts Q w z
-  neither : among (arcOf w .place) ps ≡ false → among (arcOf w .transition) ts ≡ false → among (arcOf w .place) Q ≡ false
-      → Flags (1024 + arcOf w .transition) (spare w) (1024 + arcOf w .place) (arcOf w .weight) (arcOf w .direction + 22) z → Ends ps ts Q w z
+      → Flags (1024 + arcOf w .transition) (spare w) (1024 + position (arcOf w .place) ps) (arcOf w .weight) (arcOf w .direction + 9) z → Ends N ps ts Q w z
+  at-transition : among (arcOf w .place) ps ≡ false → among (arcOf w .transition) ts ≡ true → capped N (arcOf w .place) ≡ false
+      → Flags (1024 + position (arcOf w .transition) ts) (spare w) (1024 + arcOf w .place) (arcOf w .weight) (arcOf w .direction + 15) z → Ends N ps ts Q w z
+  at-capped : among (arcOf w .place) ps ≡ false → among (arcOf w .transition) ts ≡ true
+      → Flags (1024 + position (arcOf w .transition) ts) (spare w) (1024 + arcOf w .place) (arcOf w .weight) (arcOf w .direction + 14) z → Ends N ps ts Q w z
+  neither : (f : ℕ) → 21 ≤ f → among (arcOf w .place) ps ≡ false → among (arcOf w .transition) ts ≡ false → among (arcOf w .place) Q ≡ false
+      → Flags (1024 + arcOf w .transition) (spare w) (1024 + arcOf w .place) (arcOf w .weight) f z → Ends N ps ts Q w z
 
 -- t, d, s, p, g are the arc's numbers, v and u its entries
 module _ (t d s p g v u z : ℕ) (sum : z ≡ t + 65536 * d + 16777216 * s + 4294967296 * p + 281474976710656 * g + v + u) (dl : d ≤ 1) (tl : t < 1024) (pl : p < 1024) (gl : g < 65536) (sl : s < 256) where
@@ -83,8 +85,14 @@ module _ (t d s p g v u z : ℕ) (sum : z ≡ t + 65536 * d + 16777216 * s + 429
   flags-transition : (b : ℕ) → b < 1024 → v ≡ leftPlace → u ≡ 1 * (1024 + b - t) → Flags (1024 + b) s (1024 + p) g (d + 15) z
   flags-transition b bl e f = record { least-t = omega arith; small-t = omega arith; small-f = omega arith; small-s = sl; least-p = omega arith; small-p = omega arith; small-g = gl; sum = omega arith }
 
+  flags-capped : (b : ℕ) → b < 1024 → v ≡ leftCapped → u ≡ 1 * (1024 + b - t) → Flags (1024 + b) s (1024 + p) g (d + 14) z
+  flags-capped b bl e f = record { least-t = omega arith; small-t = omega arith; small-f = omega arith; small-s = sl; least-p = omega arith; small-p = omega arith; small-g = gl; sum = omega arith }
+
   flags-neither : v ≡ leftPlace → u ≡ leftTransition → Flags (1024 + t) s (1024 + p) g (d + 22) z
   flags-neither e f = record { least-t = omega arith; small-t = omega arith; small-f = omega arith; small-s = sl; least-p = omega arith; small-p = omega arith; small-g = gl; sum = omega arith }
+
+  flags-neither-capped : v ≡ leftCapped → u ≡ leftTransition → Flags (1024 + t) s (1024 + p) g (d + 21) z
+  flags-neither-capped e f = record { least-t = omega arith; small-t = omega arith; small-f = omega arith; small-s = sl; least-p = omega arith; small-p = omega arith; small-g = gl; sum = omega arith }
 
 module _ (plan : List ℕ) (hp : Header) (slice : List ℕ) (hs : Header) (Q places transitions : List ℕ) (r : Ready plan hp slice hs Q places transitions) (w : ℕ) (wl : w < 18446744073709551616) (good : ArcGood (hp .places) (hp .transitions) (arcOf w)) where
   pub own-place : among (arcOf w .place) (sliceFrom slice hs .placeOrigins) ≡ true → position (arcOf w .place) (sliceFrom slice hs .placeOrigins) < 1024
@@ -115,30 +123,41 @@ module _ (plan : List ℕ) (hp : Header) (slice : List ℕ) (hs : Header) (Q pla
     transition-out : among (arcOf w .transition) (sliceFrom slice hs .transitionOrigins) ≡ false → getD transitions (arcOf w .transition) 0 ≡ leftTransition
     transition-out e = r .transition-entry _ (good .transition) ∙ numbered-out 1 _ leftTransition _ e
 
-    place-plain : among (arcOf w .place) (sliceFrom slice hs .placeOrigins) ≡ true → among (arcOf w .place) Q ≡ false → getD places (arcOf w .place) 0 ≡ 4294967296 * (1024 + position (arcOf w .place) (sliceFrom slice hs .placeOrigins) - arcOf w .place)
-    place-plain e q = r .place-entry _ (good .place) ∙ marked-out Q _ _ q ∙ numbered-in 4294967296 _ leftPlace _ e
+    -- what stands for the place where it is left out
+    abbrev pub left : ℕ
+    left = either (capped (netFrom plan hp) (arcOf w .place)) leftCapped leftPlace
 
-    place-asked : among (arcOf w .place) (sliceFrom slice hs .placeOrigins) ≡ true → among (arcOf w .place) Q ≡ true → getD places (arcOf w .place) 0 ≡ 4294967296 * (1024 + position (arcOf w .place) (sliceFrom slice hs .placeOrigins) - arcOf w .place) + 131072
-    place-asked e q = r .place-entry _ (good .place) ∙ marked-in Q _ _ q ∙ ap flagged (numbered-in 4294967296 _ leftPlace _ e) ∙ flagged-whole (1024 + position (arcOf w .place) (sliceFrom slice hs .placeOrigins) - arcOf w .place)
+    abbrev pub W : List ℕ
+    W = watched plan hp slice hs Q
 
-    place-out : among (arcOf w .place) (sliceFrom slice hs .placeOrigins) ≡ false → among (arcOf w .place) Q ≡ false → getD places (arcOf w .place) 0 ≡ leftPlace
-    place-out e q = r .place-entry _ (good .place) ∙ marked-out Q _ _ q ∙ numbered-out 4294967296 _ leftPlace _ e
+    place-plain : among (arcOf w .place) (sliceFrom slice hs .placeOrigins) ≡ true → among (arcOf w .place) W ≡ false → getD places (arcOf w .place) 0 ≡ 4294967296 * (1024 + position (arcOf w .place) (sliceFrom slice hs .placeOrigins) - arcOf w .place)
+    place-plain e q = r .place-entry _ (good .place) ∙ marked-out W _ _ q ∙ numbered-in 4294967296 _ left _ e
 
-    pub ends : Ends (sliceFrom slice hs .placeOrigins) (sliceFrom slice hs .transitionOrigins) Q w z
+    place-asked : among (arcOf w .place) (sliceFrom slice hs .placeOrigins) ≡ true → among (arcOf w .place) W ≡ true → getD places (arcOf w .place) 0 ≡ 4294967296 * (1024 + position (arcOf w .place) (sliceFrom slice hs .placeOrigins) - arcOf w .place) + 131072
+    place-asked e q = r .place-entry _ (good .place) ∙ marked-in W _ _ q ∙ ap flagged (numbered-in 4294967296 _ left _ e) ∙ flagged-whole (1024 + position (arcOf w .place) (sliceFrom slice hs .placeOrigins) - arcOf w .place)
+
+    place-out : among (arcOf w .place) (sliceFrom slice hs .placeOrigins) ≡ false → among (arcOf w .place) W ≡ false → (b : Bool) → capped (netFrom plan hp) (arcOf w .place) ≡ b → getD places (arcOf w .place) 0 ≡ either b leftCapped leftPlace
+    place-out e q b k = r .place-entry _ (good .place) ∙ marked-out W _ _ q ∙ numbered-out 4294967296 _ left _ e ∙ ap (λ (c : Bool). either c leftCapped leftPlace) k
+
+    pub ends : Ends (netFrom plan hp) (sliceFrom slice hs .placeOrigins) (sliceFrom slice hs .transitionOrigins) W w z
     ends =
         by-cases (among (arcOf w .place) (sliceFrom slice hs .placeOrigins))
         (λ kp. by-cases (among (arcOf w .transition) (sliceFrom slice hs .transitionOrigins))
-        (λ kt. by-cases (among (arcOf w .place) Q)
+        (λ kt. by-cases (among (arcOf w .place) W)
         (λ kq. both 1 (omega arith) kp kt (flags-both _ _ _ _ _ _ _ z sum-is (good .direction) few-transitions few-places light spare-lt _ _ 1 (own-place kp) (own-transition kt) (omega arith) (omega (arith, place-asked kp kq)) (transition-in kt)))
         (λ kq. both 0 (omega arith) kp kt (flags-both _ _ _ _ _ _ _ z sum-is (good .direction) few-transitions few-places light spare-lt _ _ 0 (own-place kp) (own-transition kt) (omega arith) (omega (arith, place-plain kp kq)) (transition-in kt))))
-        (λ kt. by-cases (among (arcOf w .place) Q)
+        (λ kt. by-cases (among (arcOf w .place) W)
         (λ kq. at-asked kp kt kq (flags-asked _ _ _ _ _ _ _ z sum-is (good .direction) few-transitions few-places light spare-lt _ (own-place kp) (place-asked kp kq) (transition-out kt)))
         (λ kq. at-place kp kt kq (flags-place _ _ _ _ _ _ _ z sum-is (good .direction) few-transitions few-places light spare-lt _ (own-place kp) (place-plain kp kq) (transition-out kt)))))
-        (λ kp. by-cases (among (arcOf w .place) Q)
-        (λ kq. apart (r .criterion _ kq) kp)
+        (λ kp. by-cases (among (arcOf w .place) W)
+        (λ kq. apart (r .watches _ kq) kp)
         (λ kq. by-cases (among (arcOf w .transition) (sliceFrom slice hs .transitionOrigins))
-        (λ kt. at-transition kp kt (flags-transition _ _ _ _ _ _ _ z sum-is (good .direction) few-transitions few-places light spare-lt _ (own-transition kt) (place-out kp kq) (transition-in kt)))
-        (λ kt. neither kp kt kq (flags-neither _ _ _ _ _ _ _ z sum-is (good .direction) few-transitions few-places light spare-lt (place-out kp kq) (transition-out kt)))))
+        (λ kt. by-cases (capped (netFrom plan hp) (arcOf w .place))
+        (λ kc. at-capped kp kt (flags-capped _ _ _ _ _ _ _ z sum-is (good .direction) few-transitions few-places light spare-lt _ (own-transition kt) (place-out kp kq true kc) (transition-in kt)))
+        (λ kc. at-transition kp kt kc (flags-transition _ _ _ _ _ _ _ z sum-is (good .direction) few-transitions few-places light spare-lt _ (own-transition kt) (place-out kp kq false kc) (transition-in kt))))
+        (λ kt. by-cases (capped (netFrom plan hp) (arcOf w .place))
+        (λ kc. neither _ (omega arith) kp kt kq (flags-neither-capped _ _ _ _ _ _ _ z sum-is (good .direction) few-transitions few-places light spare-lt (place-out kp kq true kc) (transition-out kt)))
+        (λ kc. neither _ (omega arith) kp kt kq (flags-neither _ _ _ _ _ _ _ z sum-is (good .direction) few-transitions few-places light spare-lt (place-out kp kq false kc) (transition-out kt))))))
 
 -- ---- what the sum tells
 
@@ -148,24 +167,26 @@ eight d e f = let g : _≡_ {A = ℕ} 1 0 = rw e at f in omega arith
 fifteen : (d : ℕ) → d ≡ 0 → (d + 15) / 8 % 2 ≡ 0 → ⊥
 fifteen d e f = let g : _≡_ {A = ℕ} 1 0 = rw e at f in omega arith
 
-module _ {ps ts Q : List ℕ} {w z : ℕ} (dl : arcOf w .direction ≤ 1) where
-  pub sum-below : Ends ps ts Q w z → z < 18446744073709551616
+module _ {N : Net} {ps ts Q : List ℕ} {w z : ℕ} (dl : arcOf w .direction ≤ 1) where
+  pub sum-below : Ends N ps ts Q w z → z < 18446744073709551616
   sum-below (both q ql kp kt x) = below x
   sum-below (at-place kp kt kq x) = below x
   sum-below (at-asked kp kt kq x) = below x
-  sum-below (at-transition kp kt x) = below x
-  sum-below (neither kp kt kq x) = below x
+  sum-below (at-transition kp kt kc x) = below x
+  sum-below (at-capped kp kt x) = below x
+  sum-below (neither n l kp kt kq x) = below x
 
   -- both ends are kept
-  pub ends-kept : Ends ps ts Q w z → keptOf z ≡ true → (among (arcOf w .place) ps && among (arcOf w .transition) ts) ≡ true
+  pub ends-kept : Ends N ps ts Q w z → keptOf z ≡ true → (among (arcOf w .place) ps && among (arcOf w .transition) ts) ≡ true
   ends-kept (both q ql kp kt x) k = rw (kp, kt)
   ends-kept (at-place kp kt kq x) k = absurd (omega (arith, few-flags x k .0))
   ends-kept (at-asked kp kt kq x) k = absurd (omega (arith, few-flags x k .0))
-  ends-kept (at-transition kp kt x) k = absurd (omega (arith, few-flags x k .0))
-  ends-kept (neither kp kt kq x) k = absurd (omega (arith, few-flags x k .0))
+  ends-kept (at-transition kp kt kc x) k = absurd (omega (arith, few-flags x k .0))
+  ends-kept (at-capped kp kt x) k = absurd (omega (arith, few-flags x k .0))
+  ends-kept (neither n l kp kt kq x) k = absurd (omega (arith, few-flags x k .0))
 
   -- and an arc of the slice that is like the sum is the one due
-  pub due-arc : Ends ps ts Q w z → keptOf z ≡ true → (own : ℕ) → ArcGood 1024 1024 (arcOf own) → Alike z own → arcOf own ≡ renumber ps ts (arcOf w)
+  pub due-arc : Ends N ps ts Q w z → keptOf z ≡ true → (own : ℕ) → ArcGood 1024 1024 (arcOf own) → Alike z own → arcOf own ≡ renumber ps ts (arcOf w)
   unfolding renumber
   due-arc (both q ql kp kt x) k own g like =
       let e = own-is x (x .small-p) (arcOf w .direction) dl q ql refl (few-flags x k .1) (arcOf own .transition) (arcOf own .direction) (spare own) (arcOf own .place) (arcOf own .weight) own (g .transition) (g .direction) (spare-below own) (g .place) (whole own) like in
@@ -180,39 +201,44 @@ module _ {ps ts Q : List ℕ} {w z : ℕ} (dl : arcOf w .direction ≤ 1) where
       spare-below v = omega arith
   due-arc (at-place kp kt kq x) k own g like = absurd (omega (arith, few-flags x k .0))
   due-arc (at-asked kp kt kq x) k own g like = absurd (omega (arith, few-flags x k .0))
-  due-arc (at-transition kp kt x) k own g like = absurd (omega (arith, few-flags x k .0))
-  due-arc (neither kp kt kq x) k own g like = absurd (omega (arith, few-flags x k .0))
+  due-arc (at-transition kp kt kc x) k own g like = absurd (omega (arith, few-flags x k .0))
+  due-arc (at-capped kp kt x) k own g like = absurd (omega (arith, few-flags x k .0))
+  due-arc (neither n l kp kt kq x) k own g like = absurd (omega (arith, few-flags x k .0))
 
   -- an end is left out
-  pub end-out : Ends ps ts Q w z → spare w ≡ 0 → keptOf z ≡ false → (among (arcOf w .place) ps && among (arcOf w .transition) ts) ≡ false
+  pub end-out : Ends N ps ts Q w z → spare w ≡ 0 → keptOf z ≡ false → (among (arcOf w .place) ps && among (arcOf w .transition) ts) ≡ false
   end-out (both q ql kp kt x) n k = absurd (omega (arith, many-flags x k n))
   end-out (at-place kp kt kq x) n k = rw (kp, kt)
   end-out (at-asked kp kt kq x) n k = rw (kp, kt)
-  end-out (at-transition kp kt x) n k = rw kp
-  end-out (neither kp kt kq x) n k = rw kp
+  end-out (at-transition kp kt kc x) n k = rw kp
+  end-out (at-capped kp kt x) n k = rw kp
+  end-out (neither m l kp kt kq x) n k = rw kp
 
   -- nothing wants a closer look
-  pub arc-fine : (N : Net) (d : ℕ) → Ends ps ts Q w z → oddOf z ≡ false → Fine N ps ts Q d (arcOf w)
-  arc-fine N d (both q ql kp kt x) o = record { fed = λ g t n. kp; unchanged = λ g t q. apart kt t; unraised = λ g t p n. apart kt t }
-  arc-fine N d (at-place kp kt kq x) o = record { fed = λ g t n. kp; unchanged = λ g t q. apart q kq; unraised = λ g t p n. absurd (eight (arcOf w .direction) n (even-flags x o)) }
-  arc-fine N d (at-asked kp kt kq x) o = absurd (omega (arith, even-flags x o))
-  arc-fine N d (at-transition kp kt x) o = record { fed = λ g t n. absurd (fifteen (arcOf w .direction) n (even-flags x o)); unchanged = λ g t q. apart kt t; unraised = λ g t p n. apart kt t }
-  arc-fine N d (neither kp kt kq x) o = record { fed = λ g t n. apart t kt; unchanged = λ g t q. apart q kq; unraised = λ g t p n. apart p kp }
+  pub arc-fine : (d : ℕ) → Ends N ps ts Q w z → oddOf z ≡ false → Fine N ps ts Q d (arcOf w)
+  arc-fine d (both q ql kp kt x) o = record { fed = λ g t n. kp; unchanged = λ g t q. apart kt t; unraised = λ g t p n. apart kt t; held = λ g t n c. kp }
+  arc-fine d (at-place kp kt kq x) o = record { fed = λ g t n. kp; unchanged = λ g t q. apart q kq; unraised = λ g t p n. absurd (eight (arcOf w .direction) n (even-flags x o)); held = λ g t n c. kp }
+  arc-fine d (at-asked kp kt kq x) o = absurd (omega (arith, even-flags x o))
+  arc-fine d (at-transition kp kt kc x) o = record { fed = λ g t n. absurd (fifteen (arcOf w .direction) n (even-flags x o)); unchanged = λ g t q. apart kt t; unraised = λ g t p n. apart kt t; held = λ g t n c. apart c kc }
+  arc-fine d (at-capped kp kt x) o = absurd (omega (arith, even-flags x o))
+  arc-fine d (neither n l kp kt kq x) o = record { fed = λ g t n. apart t kt; unchanged = λ g t q. apart q kq; unraised = λ g t p n. apart p kp; held = λ g t n c. apart t kt }
 
   -- the flags of an arc that the effect decides
-  pub raising : Ends ps ts Q w z → z / 65536 % 65536 ≡ 8 → (among (arcOf w .transition) ts ≡ false) × (among (arcOf w .place) Q ≡ false)
+  pub raising : Ends N ps ts Q w z → z / 65536 % 65536 ≡ 8 → (among (arcOf w .transition) ts ≡ false) × (among (arcOf w .place) Q ≡ false)
   raising (both q ql kp kt x) e = absurd (omega (arith, flags-at x))
   raising (at-place kp kt kq x) e = (kt, kq)
   raising (at-asked kp kt kq x) e = absurd (omega (arith, flags-at x))
-  raising (at-transition kp kt x) e = absurd (omega (arith, flags-at x))
-  raising (neither kp kt kq x) e = absurd (omega (arith, flags-at x))
+  raising (at-transition kp kt kc x) e = absurd (omega (arith, flags-at x))
+  raising (at-capped kp kt x) e = absurd (omega (arith, flags-at x))
+  raising (neither n l kp kt kq x) e = absurd (omega (arith, flags-at x))
 
-  pub changing : Ends ps ts Q w z → 9 ≤ z / 65536 % 65536 → z / 65536 % 65536 ≤ 10 → among (arcOf w .transition) ts ≡ false
+  pub changing : Ends N ps ts Q w z → 9 ≤ z / 65536 % 65536 → z / 65536 % 65536 ≤ 10 → among (arcOf w .transition) ts ≡ false
   changing (both q ql kp kt x) e f = absurd (omega (arith, flags-at x))
   changing (at-place kp kt kq x) e f = kt
   changing (at-asked kp kt kq x) e f = kt
-  changing (at-transition kp kt x) e f = absurd (omega (arith, flags-at x))
-  changing (neither kp kt kq x) e f = kt
+  changing (at-transition kp kt kc x) e f = absurd (omega (arith, flags-at x))
+  changing (at-capped kp kt x) e f = absurd (omega (arith, flags-at x))
+  changing (neither n l kp kt kq x) e f = kt
 
 -- ---- the arc due, as one word
 
@@ -230,23 +256,25 @@ module _ (t p g d q z : ℕ) (sum : z ≡ t + 65536 * (d + 2 * q) + 4294967296 *
   due-parts : dueOf z ≡ (t - 1024) + 65536 * d + 16777216 * 0 + 4294967296 * (p - 1024) + 281474976710656 * g
   due-parts = omega (arith, mark-at)
 
-module _ {ps ts Q : List ℕ} {w z : ℕ} (dl : arcOf w .direction ≤ 1) (plain : spare w ≡ 0) where
-  pub due-fits : Ends ps ts Q w z → keptOf z ≡ true → 4398046512128 + z / 131072 % 2 * 131072 ≤ z
+module _ {N : Net} {ps ts Q : List ℕ} {w z : ℕ} (dl : arcOf w .direction ≤ 1) (plain : spare w ≡ 0) where
+  pub due-fits : Ends N ps ts Q w z → keptOf z ≡ true → 4398046512128 + z / 131072 % 2 * 131072 ≤ z
   due-fits (both q ql kp kt x) k = due-low _ _ (arcOf w .weight) (arcOf w .direction) q z (omega (arith, x .sum, plain)) dl ql (x .least-t) (x .small-t) (x .least-p) (x .small-p)
   due-fits (at-place kp kt kq x) k = absurd (omega (arith, few-flags x k .0))
   due-fits (at-asked kp kt kq x) k = absurd (omega (arith, few-flags x k .0))
-  due-fits (at-transition kp kt x) k = absurd (omega (arith, few-flags x k .0))
-  due-fits (neither kp kt kq x) k = absurd (omega (arith, few-flags x k .0))
+  due-fits (at-transition kp kt kc x) k = absurd (omega (arith, few-flags x k .0))
+  due-fits (at-capped kp kt x) k = absurd (omega (arith, few-flags x k .0))
+  due-fits (neither n l kp kt kq x) k = absurd (omega (arith, few-flags x k .0))
 
   -- the word of the arc due
-  pub due-word : Ends ps ts Q w z → keptOf z ≡ true → dueOf z ≡ position (arcOf w .transition) ts + 65536 * arcOf w .direction + 16777216 * 0 + 4294967296 * position (arcOf w .place) ps + 281474976710656 * arcOf w .weight
+  pub due-word : Ends N ps ts Q w z → keptOf z ≡ true → dueOf z ≡ position (arcOf w .transition) ts + 65536 * arcOf w .direction + 16777216 * 0 + 4294967296 * position (arcOf w .place) ps + 281474976710656 * arcOf w .weight
   due-word (both q ql kp kt x) k = omega (arith, due-parts _ _ (arcOf w .weight) (arcOf w .direction) q z (omega (arith, x .sum, plain)) dl ql (x .least-t) (x .small-t) (x .least-p) (x .small-p))
   due-word (at-place kp kt kq x) k = absurd (omega (arith, few-flags x k .0))
   due-word (at-asked kp kt kq x) k = absurd (omega (arith, few-flags x k .0))
-  due-word (at-transition kp kt x) k = absurd (omega (arith, few-flags x k .0))
-  due-word (neither kp kt kq x) k = absurd (omega (arith, few-flags x k .0))
+  due-word (at-transition kp kt kc x) k = absurd (omega (arith, few-flags x k .0))
+  due-word (at-capped kp kt x) k = absurd (omega (arith, few-flags x k .0))
+  due-word (neither n l kp kt kq x) k = absurd (omega (arith, few-flags x k .0))
 
-  module _ (z-ends : Ends ps ts Q w z) (k : keptOf z ≡ true) (tl : position (arcOf w .transition) ts < 65536) (pl : position (arcOf w .place) ps < 65536) (wl : arcOf w .weight < 65536) (v : ℕ) where
+  module _ (z-ends : Ends N ps ts Q w z) (k : keptOf z ≡ true) (tl : position (arcOf w .transition) ts < 65536) (pl : position (arcOf w .place) ps < 65536) (wl : arcOf w .weight < 65536) (v : ℕ) where
     -- equal words, equal arcs
     pub word-arc : v ≡ dueOf z → arcOf v ≡ renumber ps ts (arcOf w)
     unfolding renumber

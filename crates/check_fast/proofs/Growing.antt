@@ -1,5 +1,5 @@
 -- The two tables while they are filled, origin by origin and place by place.
-use Prim.Native.Nat.{ℕ, _+_, _-_, _*_, _<_}
+use Prim.Native.Nat.{ℕ, _+_, _-_, _*_, _≤_, _<_}
 use mathlib.Core.Path.{_≡_, refl, sym, ap, _∙_, subst}
 use mathlib.Core.Bool.{true, false}
 use mathlib.Core.List.{List, [], _∷_, _++_}
@@ -10,10 +10,11 @@ use lib.ListN.{length, getD, take, set, length-set}
 use lib.Seq.{length-take-le, take-suc, getD-set-same, getD-set-other}
 use borrow.Author.Tests.{eqb-true, eqb-false}
 use Rattle.net.specs.Numbers.{among}
-use Rattle.net.proofs.Numbers.{by-cases}
+use Rattle.net.specs.Net.{Net}
+use Rattle.net.proofs.Numbers.{by-cases, by-order}
 use Rattle.file.specs.Facts.{RisingFrom}
 use Rattle.numbering.proofs.Entries.{among-other, position-other, among-new, position-new, once}
-use Rattle.check_fast.specs.Entries.{numbered, Numbered, flagged, marked, Marked}
+use Rattle.check_fast.specs.Entries.{numbered, Numbered, flagged, marked, Marked, bound, Bound}
 
 pub grown : (l : List ℕ) (j : ℕ) → j < length l → take (j + 1) l ≡ take j l ++ (getD l j 0 ∷ [])
 grown l j h = rw (add-one, take-suc l j 0)
@@ -62,7 +63,7 @@ module _ (unit : ℕ) (l : List ℕ) (rise : RisingFrom 0 l) (j : ℕ) (inside :
 
 -- ---- the criterion's marks
 
-flagged-again : (v : ℕ) → flagged (flagged v) ≡ flagged v
+pub flagged-again : (v : ℕ) → flagged (flagged v) ≡ flagged v
 flagged-again v = omega arith
 
 marked-other : (l : List ℕ) (v x y : ℕ) → eqb x y ≡ false → marked (l ++ (y ∷ [])) v x ≡ marked l v x
@@ -100,3 +101,32 @@ module _ (l : List ℕ) (j : ℕ) (inside : j < length l) {before table : List �
           getD-set-other table q x (flagged (getD table q 0)) 0 (eqb-false x q z)
           ∙ m .at x h
           ∙ sym (marked-other (take j l) (getD before x 0) x (getD l j 0) (subst (λ (y : ℕ). eqb x y ≡ false) o z))
+
+-- ---- the capped places
+
+-- the first p entries are those by the caps, the others as before
+pub record BoundTo (N : Net) (before : List ℕ) (p : ℕ) (table : List ℕ) : Type 0 where
+  pub long : length table ≡ length before
+  pub done : (x : ℕ) → x < p → getD table x 0 ≡ bound (N .cap x) (getD before x 0)
+  pub rest : (x : ℕ) → p ≤ x → getD table x 0 ≡ getD before x 0
+
+module _ (N : Net) (before : List ℕ) where
+  pub bound-start : BoundTo N before 0 before
+  bound-start = record { long = refl; done = λ x l. absurd (omega arith); rest = λ x l. refl }
+
+  pub bound-next : (p : ℕ) (table : List ℕ) → BoundTo N before p table → p < length table → (v : ℕ) → v ≡ bound (N .cap p) (getD table p 0) → BoundTo N before (p + 1) (set table p v)
+  bound-next p table b l v e = record {
+    long = length-set table p v ∙ b .long;
+    done = λ x h. by-order x p
+        (λ d. getD-set-other table p x v 0 (λ z. omega arith) ∙ b .done x d)
+        (λ d. ap (λ (k : ℕ). getD (set table p v) k 0) d ∙ getD-set-same table p v 0 l ∙ e ∙ ap (bound (N .cap p)) (b .rest p (omega arith)) ∙ ap (λ (k : ℕ). bound (N .cap k) (getD before k 0)) (sym d))
+        (λ d. absurd (omega arith));
+    rest = λ x h. getD-set-other table p x v 0 (λ z. omega arith) ∙ b .rest x (omega arith);
+  }
+
+  pub bound-all : (p : ℕ) (table : List ℕ) → BoundTo N before p table → N .places ≤ p → Bound N before table
+  bound-all p table b l = record { long = b .long; at = λ x h. b .done x (omega arith) }
+
+  -- no place has a cap
+  pub bound-none : ((x : ℕ) → N .cap x ≡ 0) → Bound N before before
+  bound-none none = record { long = refl; at = λ x h. rw (none x) }

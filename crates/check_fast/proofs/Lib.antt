@@ -1,4 +1,5 @@
 pub mod Growing
+pub mod Watching
 pub mod Sums
 pub mod Ends
 pub mod Walking

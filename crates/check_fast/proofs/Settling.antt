@@ -37,7 +37,7 @@ not-below : (a b : ℕ) → leZ (pos 0) (pos a -ℤ pos b) ≡ true → b ≤ a
 not-below a zero e = omega arith
 not-below a (suc b) e = high-by (ltb a (suc b)) (suc b - suc a) (a - suc b) e (λ h. omega (arith, ltb-false a (suc b) h))
 
--- ---- rules 6 and 8
+-- ---- rules 6, 8 and 10
 
 module _ (N : Net) (p t : ℕ) (e : ℤ) (is : e ≡ effect N p t) where
   pub unraised : leZ e (pos 0) ≡ true → raises N t p ≡ false
@@ -64,10 +64,10 @@ module _ (plan : List ℕ) (hp : Header) (slice : List ℕ) (hs : Header) (Q pla
   here : e ≡ effect (netFrom plan hp) (arcOf w .place) (arcOf w .transition)
   here = ef ∙ ap (λ (x : Arc). effect (netFrom plan hp) (x .place) (x .transition)) arc
 
-  there : Settled plan hp slice hs Q 9 (arcOf w) → Settled plan hp slice hs Q 9 (arcAt plan (hp .arcstart + 8 * j))
-  there s = subst (Settled plan hp slice hs Q 9) (is .arc) s
+  there : Settled plan hp slice hs Q 11 (arcOf w) → Settled plan hp slice hs Q 11 (arcAt plan (hp .arcstart + 8 * j))
+  there s = subst (Settled plan hp slice hs Q 11) (is .arc) s
 
-  pub settled-raise : z / 65536 % 65536 ≡ 8 → leZ e (pos 0) ≡ true → Settled plan hp slice hs Q 9 (arcAt plan (hp .arcstart + 8 * j))
+  pub settled-raise : z / 65536 % 65536 ≡ 8 → leZ e (pos 0) ≡ true → Settled plan hp slice hs Q 11 (arcAt plan (hp .arcstart + 8 * j))
   settled-raise f h =
       let k = raising (good-word plan hp slice hs Q places transitions r j l w is wl .direction) (word-ends plan hp slice hs Q places transitions r j l w is wl z sum) f in
       there (record {
@@ -75,11 +75,12 @@ module _ (plan : List ℕ) (hp : Header) (slice : List ℕ) (hs : Header) (Q pla
           fed = λ g t d. apart t (k .0);
           unchanged = λ g t q. apart q (k .1);
           unraised = λ g t p d. unraised (netFrom plan hp) (arcOf w .place) (arcOf w .transition) e here h;
+          held = λ g t d c. apart t (k .0);
         };
         out = out-of (among (arcOf w .place) (sliceFrom slice hs .placeOrigins)) (among (arcOf w .transition) (sliceFrom slice hs .transitionOrigins)) (k .0);
       })
 
-  pub settled-change : 9 ≤ z / 65536 % 65536 → z / 65536 % 65536 ≤ 10 → (leZ e (pos 0) && leZ (pos 0) e) ≡ true → Settled plan hp slice hs Q 9 (arcAt plan (hp .arcstart + 8 * j))
+  pub settled-change : 9 ≤ z / 65536 % 65536 → z / 65536 % 65536 ≤ 10 → (leZ e (pos 0) && leZ (pos 0) e) ≡ true → Settled plan hp slice hs Q 11 (arcAt plan (hp .arcstart + 8 * j))
   settled-change f g h =
       let k = changing (good-word plan hp slice hs Q places transitions r j l w is wl .direction) (word-ends plan hp slice hs Q places transitions r j l w is wl z sum) f g in
       there (record {
@@ -87,6 +88,7 @@ module _ (plan : List ℕ) (hp : Header) (slice : List ℕ) (hs : Header) (Q pla
           fed = λ g t d. apart t k;
           unchanged = λ g t q. unchanged (netFrom plan hp) (arcOf w .place) (arcOf w .transition) e here h;
           unraised = λ g t p d. unraised (netFrom plan hp) (arcOf w .place) (arcOf w .transition) e here (is-true _ (and-left (leZ e (pos 0)) (leZ (pos 0) e) (holds _ h)));
+          held = λ g t d c. apart t k;
         };
         out = out-of (among (arcOf w .place) (sliceFrom slice hs .placeOrigins)) (among (arcOf w .transition) (sliceFrom slice hs .transitionOrigins)) k;
       })
@@ -97,13 +99,13 @@ module _ (plan : List ℕ) (hp : Header) (slice : List ℕ) (hs : Header) (Q pla
   eighth-in-doubt f =
       let k = raising (good-word plan hp slice hs Q places transitions r j l w is wl .direction) (word-ends plan hp slice hs Q places transitions r j l w is wl z sum) f in
       subst (Settled plan hp slice hs Q 8) (is .arc) (record {
-        fine = record { fed = λ g t d. apart t (k .0); unchanged = λ g t q. apart q (k .1); unraised = λ g. absurd (omega arith) };
+        fine = record { fed = λ g t d. apart t (k .0); unchanged = λ g t q. apart q (k .1); unraised = λ g. absurd (omega arith); held = λ g. absurd (omega arith) };
         out = out-of (among (arcOf w .place) (sliceFrom slice hs .placeOrigins)) (among (arcOf w .transition) (sliceFrom slice hs .transitionOrigins)) (k .0);
       })
 
   pub sixth-in-doubt : keptOf z ≡ false → Settled plan hp slice hs Q 6 (arcAt plan (hp .arcstart + 8 * j))
   sixth-in-doubt e = record {
-    fine = record { fed = λ g. absurd (omega arith); unchanged = λ g. absurd (omega arith); unraised = λ g. absurd (omega arith) };
+    fine = record { fed = λ g. absurd (omega arith); unchanged = λ g. absurd (omega arith); unraised = λ g. absurd (omega arith); held = λ g. absurd (omega arith) };
     out = left-out-here plan hp slice hs Q places transitions r j l w is wl z sum e;
   }
 

@@ -21,7 +21,7 @@ use Rattle.file.specs.Facts.{ArcGood, ArcWord, Sound, arcOf}
 use Rattle.file.specs.declared.Header.{Header}
 use Rattle.file.proofs.Rows.{range-at}
 use Rattle.rules_tables.proofs.Rows.{row-cons, row-end, restrict-in, restrict-out, restrict-none}
-use Rattle.check_fast.specs.Pass.{Ready, joinedOf, keptOf, oddOf, quietOf, Fine, Settled, Walked, Passed}
+use Rattle.check_fast.specs.Pass.{Ready, joinedOf, keptOf, oddOf, quietOf, watched, Fine, FineIn, Settled, Walked, Passed}
 use Rattle.check_fast.proofs.Sums.{Alike}
 use Rattle.check_fast.proofs.Ends.{Ends, spare, ends, sum-below, ends-kept, due-arc, end-out, arc-fine}
 
@@ -102,13 +102,13 @@ row-whole s start n =
 
 -- fewer rules come before a lower one
 pub fine-less : {N : Net} {ps ts Q : List ℕ} {a : Arc} (d d′ : ℕ) → d′ ≤ d → Fine N ps ts Q d a → Fine N ps ts Q d′ a
-fine-less d d′ l f = record { fed = λ g. f .fed (omega arith); unchanged = λ g. f .unchanged (omega arith); unraised = λ g. f .unraised (omega arith) }
+fine-less d d′ l f = record { fed = λ g. f .fed (omega arith); unchanged = λ g. f .unchanged (omega arith); unraised = λ g. f .unraised (omega arith); held = λ g. f .held (omega arith) }
 
 pub settled-less : (plan : List ℕ) (hp : Header) (slice : List ℕ) (hs : Header) (Q : List ℕ) (a : Arc) (d d′ : ℕ) → d′ ≤ d → Settled plan hp slice hs Q d a → Settled plan hp slice hs Q d′ a
 settled-less plan hp slice hs Q a d d′ l s = record { fine = fine-less d d′ l (s .fine); out = s .out }
 
 module _ (plan : List ℕ) (hp : Header) (slice : List ℕ) (hs : Header) (Q : List ℕ) where
-  pub walked-start : Walked plan hp slice hs Q 0 0 0 9
+  pub walked-start : Walked plan hp slice hs Q 0 0 0 11
   walked-start = record {
     within = omega arith;
     behind = omega arith;
@@ -140,7 +140,7 @@ module _ (plan : List ℕ) (hp : Header) (slice : List ℕ) (hs : Header) (Q : L
     }
 
     -- one more, that is due and stands there
-    pub walked-on : j < hp .arcs → k < hs .arcs → Fine (netFrom plan hp) (sliceFrom slice hs .placeOrigins) (sliceFrom slice hs .transitionOrigins) Q d (arcAt plan (hp .arcstart + 8 * j))
+    pub walked-on : j < hp .arcs → k < hs .arcs → FineIn plan hp slice hs Q d (arcAt plan (hp .arcstart + 8 * j))
         → (among (arcAt plan (hp .arcstart + 8 * j) .place) (sliceFrom slice hs .placeOrigins) && among (arcAt plan (hp .arcstart + 8 * j) .transition) (sliceFrom slice hs .transitionOrigins)) ≡ true
         → (differs′ : ℕ) → (quietOf differs′ ≡ true → quietOf differs ≡ true) → (quietOf differs′ ≡ true → arcAt slice (hs .arcstart + 8 * k) ≡ renumber (sliceFrom slice hs .placeOrigins) (sliceFrom slice hs .transitionOrigins) (arcAt plan (hp .arcstart + 8 * j)))
         → Walked plan hp slice hs Q (j + 1) (k + 1) differs′ d
@@ -156,7 +156,7 @@ module _ (plan : List ℕ) (hp : Header) (slice : List ℕ) (hs : Header) (Q : L
     }
 
     -- one more, where the slice has no arc left
-    walked-over : j < hp .arcs → hs .arcs ≤ k → Fine (netFrom plan hp) (sliceFrom slice hs .placeOrigins) (sliceFrom slice hs .transitionOrigins) Q d (arcAt plan (hp .arcstart + 8 * j))
+    walked-over : j < hp .arcs → hs .arcs ≤ k → FineIn plan hp slice hs Q d (arcAt plan (hp .arcstart + 8 * j))
         → (differs′ : ℕ) → Walked plan hp slice hs Q (j + 1) (k + 1) differs′ d
     walked-over l h f n = record {
       within = omega arith;
@@ -190,7 +190,7 @@ module _ (plan : List ℕ) (hp : Header) (slice : List ℕ) (hs : Header) (Q pla
   pub good-word : ArcGood (hp .places) (hp .transitions) (arcOf w)
   good-word = subst (ArcGood (hp .places) (hp .transitions)) (sym (is .arc)) (range-at (hp .places) (hp .transitions) plan (hp .arcstart) (hp .arcs) j (r .planned .arcs) l)
 
-  pub word-ends : (z : ℕ) → z ≡ joinedOf w places transitions → Ends (sliceFrom slice hs .placeOrigins) (sliceFrom slice hs .transitionOrigins) Q w z
+  pub word-ends : (z : ℕ) → z ≡ joinedOf w places transitions → Ends (netFrom plan hp) (sliceFrom slice hs .placeOrigins) (sliceFrom slice hs .transitionOrigins) (watched plan hp slice hs Q) w z
   word-ends z e = ends plan hp slice hs Q places transitions r w wl good-word z e
 
   pub joined-fits : (arcOf w .place < length places) × (arcOf w .transition < length transitions) × (joinedOf w places transitions < 18446744073709551616)
@@ -209,12 +209,12 @@ module _ (plan : List ℕ) (hp : Header) (slice : List ℕ) (hs : Header) (Q pla
   kept-here z sum e = subst (λ (a : Arc). (among (a .place) (sliceFrom slice hs .placeOrigins) && among (a .transition) (sliceFrom slice hs .transitionOrigins)) ≡ true) (is .arc) (ends-kept (good-word .direction) (word-ends z sum) e)
 
   module _ (k differs d : ℕ) (x : Walked plan hp slice hs Q j k differs d) (z : ℕ) (sum : z ≡ joinedOf w places transitions) (even : (oddOf z && ltb 6 d) ≡ false) where
-    fine-here : Fine (netFrom plan hp) (sliceFrom slice hs .placeOrigins) (sliceFrom slice hs .transitionOrigins) Q d (arcAt plan (hp .arcstart + 8 * j))
+    fine-here : FineIn plan hp slice hs Q d (arcAt plan (hp .arcstart + 8 * j))
     fine-here =
         by-cases (oddOf z)
         (λ o. let low : d ≤ 6 = ltb-false 6 d (sym (ap (λ (b : Bool). b && ltb 6 d) o) ∙ even) in
-        record { fed = λ g. absurd (omega arith); unchanged = λ g. absurd (omega arith); unraised = λ g. absurd (omega arith) })
-        (λ o. subst (Fine (netFrom plan hp) (sliceFrom slice hs .placeOrigins) (sliceFrom slice hs .transitionOrigins) Q d) (is .arc) (arc-fine (good-word .direction) (netFrom plan hp) d (word-ends z sum) o))
+        record { fed = λ g. absurd (omega arith); unchanged = λ g. absurd (omega arith); unraised = λ g. absurd (omega arith); held = λ g. absurd (omega arith) })
+        (λ o. subst (FineIn plan hp slice hs Q d) (is .arc) (arc-fine (good-word .direction) d (word-ends z sum) o))
 
     pub walked-next : (own : ℕ) → ArcWord slice (hs .arcstart + 8 * k) own → (n : ℕ) → n ≡ bitOr differs (counted (keptOf z) (bitXor z own)) → (m : ℕ) → m ≡ k + counted (keptOf z) 1 → Walked plan hp slice hs Q (j + 1) m n d
     walked-next own its n en m em = by-cases (keptOf z) kept left

@@ -1,18 +1,22 @@
 -- One pass over the plan's arcs, against the slice's.
 use Prim.Native.Nat.{ℕ, _+_, _-_, _*_, _/_, _%_, _≤_, _<_}
-use mathlib.Core.Bool.{Bool, true, false, _&&_}
+use mathlib.Core.Bool.{Bool, true, false, _&&_, _||_}
 use mathlib.Core.List.{List}
 use mathlib.Core.Path.{_≡_}
 use lib.Dec.{eqb, ltb}
 use lib.ListN.{length, getD}
-use Rattle.net.specs.Numbers.{among}
-use Rattle.net.specs.Net.{Net, changes, raises}
+use Rattle.net.specs.Numbers.{among, selected}
+use Rattle.net.specs.Net.{Net, changes, raises, capped}
 use Rattle.net.specs.Slice.{Slice, restrict}
 use Rattle.net.specs.declared.Arc.{Arc}
 use Rattle.file.specs.Layout.{arcAt, arcsFrom, netFrom, sliceFrom}
 use Rattle.file.specs.Facts.{Sound, ArcWord, arcOf}
 use Rattle.file.specs.declared.Header.{Header}
-use Rattle.check_fast.specs.Entries.{leftPlace, leftTransition, numbered, marked, Reached}
+use Rattle.check_fast.specs.Entries.{leftPlace, leftCapped, leftTransition, numbered, marked, either, Reached}
+
+-- the places that no transition left out may change: those of the criterion, and the capped ones that are kept
+unfoldable pub watched : List ℕ → Header → List ℕ → Header → List ℕ → List ℕ
+watched plan hp slice hs Q = selected (λ p. among p Q || among p (sliceFrom slice hs .placeOrigins) && capped (netFrom plan hp) p) 0 (hp .places)
 
 -- a plan, a slice and the tables for them
 pub record Ready (plan : List ℕ) (hp : Header) (slice : List ℕ) (hs : Header) (Q places transitions : List ℕ) : Type 0 where
@@ -21,9 +25,9 @@ pub record Ready (plan : List ℕ) (hp : Header) (slice : List ℕ) (hs : Header
   pub kind : hs .kind ≡ 1
   pub placesReached : hp .places ≤ length places
   pub transitionsReached : hp .transitions ≤ length transitions
-  pub place-entry : (x : ℕ) → x < hp .places → getD places x 0 ≡ marked Q (numbered 4294967296 (sliceFrom slice hs .placeOrigins) leftPlace x) x
+  pub place-entry : (x : ℕ) → x < hp .places → getD places x 0 ≡ marked (watched plan hp slice hs Q) (numbered 4294967296 (sliceFrom slice hs .placeOrigins) (either (capped (netFrom plan hp) x) leftCapped leftPlace) x) x
   pub transition-entry : (x : ℕ) → x < hp .transitions → getD transitions x 0 ≡ numbered 1 (sliceFrom slice hs .transitionOrigins) leftTransition x
-  pub criterion : (q : ℕ) → among q Q ≡ true → among q (sliceFrom slice hs .placeOrigins) ≡ true
+  pub watches : (q : ℕ) → among q (watched plan hp slice hs Q) ≡ true → among q (sliceFrom slice hs .placeOrigins) ≡ true
 
 -- an arc's number with the entries of its place and its transition
 abbrev pub joinedOf : ℕ → List ℕ → List ℕ → ℕ
@@ -51,15 +55,20 @@ oddOf z = eqb (z / 524288 % 2) 1
 abbrev pub quietOf : ℕ → Bool
 quietOf d = eqb (d % 1024) 0 && eqb (d / 2048 % 64) 0 && eqb (d / 262144 % 16777216) 0 && eqb (d / 8796093022208) 0
 
--- the arc breaks none of the rules 6 to 8 that come before rule d
+-- the arc breaks none of the rules 6 to 10 that come before rule d; Q has the places of rule 10 too
 pub record Fine (N : Net) (ps ts Q : List ℕ) (d : ℕ) (a : Arc) : Type 0 where
   pub fed : 7 < d → among (a .transition) ts ≡ true → a .direction ≡ 0 → among (a .place) ps ≡ true
   pub unchanged : 6 < d → among (a .transition) ts ≡ false → among (a .place) Q ≡ true → changes N (a .transition) (a .place) ≡ false
   pub unraised : 8 < d → among (a .transition) ts ≡ false → among (a .place) ps ≡ true → a .direction ≡ 1 → raises N (a .transition) (a .place) ≡ false
+  pub held : 9 < d → among (a .transition) ts ≡ true → a .direction ≡ 1 → capped N (a .place) ≡ true → among (a .place) ps ≡ true
+
+-- the same of the two files
+abbrev pub FineIn : List ℕ → Header → List ℕ → Header → List ℕ → ℕ → Arc → Type 0
+FineIn plan hp slice hs Q d a = Fine (netFrom plan hp) (sliceFrom slice hs .placeOrigins) (sliceFrom slice hs .transitionOrigins) (watched plan hp slice hs Q) d a
 
 -- such an arc, not between what is kept
 pub record Settled (plan : List ℕ) (hp : Header) (slice : List ℕ) (hs : Header) (Q : List ℕ) (d : ℕ) (a : Arc) : Type 0 where
-  pub fine : Fine (netFrom plan hp) (sliceFrom slice hs .placeOrigins) (sliceFrom slice hs .transitionOrigins) Q d a
+  pub fine : FineIn plan hp slice hs Q d a
   pub out : (among (a .place) (sliceFrom slice hs .placeOrigins) && among (a .transition) (sliceFrom slice hs .transitionOrigins)) ≡ false
 
 -- the slice's arcs are "every plan arc between" what is kept
@@ -70,7 +79,7 @@ Same plan hp slice hs = netFrom slice hs .arcs ≡ restrict (sliceFrom slice hs 
 pub record Walked (plan : List ℕ) (hp : Header) (slice : List ℕ) (hs : Header) (Q : List ℕ) (j k differs d : ℕ) : Type 0 where
   pub within : j ≤ hp .arcs
   pub behind : k ≤ j
-  pub fine : (i : ℕ) → i < j → Fine (netFrom plan hp) (sliceFrom slice hs .placeOrigins) (sliceFrom slice hs .transitionOrigins) Q d (arcAt plan (hp .arcstart + 8 * i))
+  pub fine : (i : ℕ) → i < j → FineIn plan hp slice hs Q d (arcAt plan (hp .arcstart + 8 * i))
   pub same : k ≤ hs .arcs → quietOf differs ≡ true
       → arcsFrom slice (hs .arcstart + 8 * k) (hs .arcs - k) ≡ restrict (sliceFrom slice hs .placeOrigins) (sliceFrom slice hs .transitionOrigins) (arcsFrom plan (hp .arcstart + 8 * j) (hp .arcs - j))
       → Same plan hp slice hs
@@ -78,7 +87,7 @@ pub record Walked (plan : List ℕ) (hp : Header) (slice : List ℕ) (hs : Heade
 -- all arcs are gone through, and d is the first rule in doubt
 pub record Passed (plan : List ℕ) (hp : Header) (slice : List ℕ) (hs : Header) (Q : List ℕ) (d : ℕ) : Type 0 where
   pub same : Same plan hp slice hs
-  pub fine : (i : ℕ) → i < hp .arcs → Fine (netFrom plan hp) (sliceFrom slice hs .placeOrigins) (sliceFrom slice hs .transitionOrigins) Q d (arcAt plan (hp .arcstart + 8 * i))
+  pub fine : (i : ℕ) → i < hp .arcs → FineIn plan hp slice hs Q d (arcAt plan (hp .arcstart + 8 * i))
 
 -- tables that tell each place and transition of the plan as left out
 pub record Blank (hp : Header) (S : Slice) (places transitions : List ℕ) : Type 0 where

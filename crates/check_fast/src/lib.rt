@@ -1,12 +1,13 @@
-// Which of the rules 4 to 8 are certainly kept? One pass over the plan's arcs, with no branch on what is kept.
+// Which of the rules 4 to 10 are certainly kept? One pass over the plan's arcs, with no branch on what is kept.
 //
 // An arc's number has the transition in bits 0 to 15, the direction in bit 16, zeros up to 31, the place in 32 to 47 and
 // the weight in 48 to 63. Entries of two tables are added to it, for its place and its transition. They put their own
 // numbers, 1024 more each, in the place of the plan's, and beside the direction, in units of 2 ^ 16, these flags:
-// 2 for a place of the criterion, 15 for a place left out, 7 for a transition left out.
+// 2 for a place of the criterion or a kept capped one, 15 for a place left out, 14 where that has a cap, 7 for a
+// transition left out.
 // So both ends are kept where direction and flags come to less than 4, and bit 3 of them tells an arc to look at:
-// 15 is an input left out (rule 7); of a transition left out, 8 gives to a kept place (rule 8), and 9 and 10 are at a
-// place of the criterion (rule 6).
+// 14 and 15 are at a place left out, an input (rule 7) or a capped output (rule 9); of a transition left out, 8 gives to
+// a kept place (rule 8), and 9 and 10 are at a place of the criterion or a kept capped one (rules 6 and 10).
 ghost use mathlib.Core.Path.{_≡_};
 ghost use mathlib.Core.Bool.{true, _&&_};
 ghost use Prim.Native.Nat.{ℕ, _+_, _-_, _*_, _/_, _%_, _<_, _≤_};
@@ -17,13 +18,14 @@ ghost use lib.IntN.{pos};
 ghost use lib.Signed.{leZ};
 ghost use Rattle.net.specs.Net.{counted};
 ghost use Rattle.net.specs.Checker.{breaker, rule4};
-ghost use Rattle.file.specs.Facts.{Sound, arcOf};
+ghost use Rattle.file.specs.Facts.{Placed, Sound, arcOf};
 ghost use Rattle.file.specs.Layout.{arcAt, wordsFrom, netFrom, sliceFrom};
 ghost use Rattle.file.specs.Criterion.{criterionRefusal};
 ghost use Rattle.numbering.specs.Own.{Origins};
 ghost use Rattle.rules_tables.specs.Agreed.{Agreed};
-ghost use Rattle.check_fast.specs.Entries.{leftPlace, Numbered, Marked, Reached};
+ghost use Rattle.check_fast.specs.Entries.{leftPlace, bound, Numbered, Marked, Bound, Reached};
 ghost use Rattle.check_fast.specs.Pass.{Ready, joinedOf, keptOf, oddOf, quietOf, dueOf, Meets, Settled, Walked, Passed, Blank};
+use file::CAPS;
 use file::Header;
 use file::arcs::DIRECTION;
 use file::arcs::PLACE;
@@ -37,10 +39,13 @@ pub const LEFT_PLACE: usize = 1024 * PLACE + 15 * DIRECTION;
 
 pub const LEFT_TRANSITION: usize = 1024 + 7 * DIRECTION;
 
+// That of a place which is left out and has a cap.
+const LEFT_CAPPED: usize = 1024 * PLACE + 14 * DIRECTION;
+
 // What the entries put more in both own numbers of an arc whose ends are kept.
 const RAISED: usize = 1024 * PLACE + 1024;
 
-// How far the arcs are gone through: the plan's, the slice's own, the bits in which some differ, and the first rule in doubt, 9 where none is.
+// How far the arcs are gone through: the plan's, the slice's own, the bits in which some differ, and the first rule in doubt, 11 where none is.
 pub struct Walk {
     pub arc: usize,
     pub own: usize,
@@ -92,6 +97,37 @@ fn mark(criterion: &[u16], places: &mut [usize])
     }
 }
 
+// The entry v of a place with this cap: the mark where it is kept and capped.
+fn bounded(v: usize, cap: usize) -> usize
+    ensures { λ r. ⌜ r ≡ bound cap v ⌝ }
+{
+    if cap == 0 {
+        return v;
+    }
+    if v == LEFT_PLACE {
+        return LEFT_CAPPED;
+    }
+    v / 262144 * 262144 + 131072
+}
+
+// Marks the capped places.
+fn mark_capped(plan: &[u8], hp: Header, places: &mut [usize])
+    requires { ⌜ Placed (length (now plan)) hp ⌝ }
+    requires { ⌜ hp .places ≤ length (now places) ⌝ }
+    ensures { λ _. ⌜ Bound (netFrom (now (plan .entry)) hp) (now (places .entry)) (now (places .exit)) ⌝ }
+{
+    if hp.edition != CAPS {
+        return;
+    }
+    let count = hp.places;
+    let mut p: usize = 0;
+    while p < count {
+        let v = places[p];
+        places[p] = bounded(v, file::cap(plan, hp, p));
+        p += 1;
+    }
+}
+
 // The arc with the entries of its place and its transition added.
 fn joined(w: usize, places: &[usize], transitions: &[usize]) -> usize
     requires { ⌜ (arcOf w .place < length (now places)) × (arcOf w .transition < length (now transitions)) ⌝ }
@@ -117,7 +153,7 @@ fn odd(z: usize) -> bool
     z / 524288 % 2 == 1
 }
 
-// The same where the rules 6 to 8 are not in doubt already.
+// The same where the rules 6 to 10 are not in doubt already.
 fn pauses(z: usize, doubt: usize) -> bool
     ensures { λ r. ⌜ r ≡ (oddOf z && ltb 6 doubt) ⌝ }
 {
@@ -166,7 +202,7 @@ fn balances(effect: i32) -> bool
     (effect <= 0) & (0 <= effect)
 }
 
-// Does a transition left out leave the arc's place as the rules 6 and 8 ask? Only asked of an arc that wants a closer look.
+// Does a transition left out leave the arc's place as the rules 6, 8 and 10 ask? Only asked of an arc that wants a closer look.
 fn settled(
     plan: &[u8],
     hp: Header,
@@ -179,7 +215,7 @@ fn settled(
 ) -> bool
     requires { ⌜ Ready (now plan) hp (now slice) hs (now criterion) (now places) (now transitions) ⌝ }
     requires { ⌜ j < hp .arcs ⌝ }
-    ensures { λ r. ⌜ (r ≡ true → Settled (now (plan .entry)) hp (now (slice .entry)) hs (now (criterion .entry)) 9 (arcAt (now (plan .entry)) (hp .arcstart + 8 * j))) ⌝ }
+    ensures { λ r. ⌜ (r ≡ true → Settled (now (plan .entry)) hp (now (slice .entry)) hs (now (criterion .entry)) 11 (arcAt (now (plan .entry)) (hp .arcstart + 8 * j))) ⌝ }
 {
     let w = word(plan, hp.arcstart + 8 * j);
     let z = joined(w, places, transitions);
@@ -226,7 +262,7 @@ fn lower(a: usize, b: usize) -> usize
     if a < b { a } else { b }
 }
 
-// The first rule in doubt after a closer look, 9 where none is. Where one is already, no effect is looked up; where the pass is tired, the rules 6 to 8 are in doubt.
+// The first rule in doubt after a closer look, 11 where none is. Where one is already, no effect is looked up; where the pass is tired, the rules 6 to 10 are in doubt.
 fn look(
     plan: &[u8],
     hp: Header,
@@ -249,11 +285,11 @@ fn look(
             doubt_at(plan, hp, slice, hs, criterion, j, places, transitions),
         );
     }
-    if doubt < 9 {
+    if doubt < 11 {
         return doubt_at(plan, hp, slice, hs, criterion, j, places, transitions);
     }
     if settled(plan, hp, slice, hs, criterion, j, places, transitions) {
-        return 9;
+        return 11;
     }
     doubt_at(plan, hp, slice, hs, criterion, j, places, transitions)
 }
@@ -311,7 +347,7 @@ fn stretch(
     }
 }
 
-// The first of the rules 4, 6, 7 and 8 that the plan's arcs leave in doubt; 9 where none is. One arc in 32 gets a closer look, and 16 more.
+// The first of the rules 4 and 6 to 10 that the plan's arcs leave in doubt; 11 where none is. One arc in 32 gets a closer look, and 16 more.
 fn pass(
     plan: &[u8],
     hp: Header,
@@ -328,7 +364,7 @@ fn pass(
         arc: 0,
         own: 0,
         differs: 0,
-        doubt: 9,
+        doubt: 11,
     };
     let mut at = stretch(plan, hp, slice, hs, criterion, places, transitions, start);
     let mut seen: usize = 0;
@@ -443,7 +479,7 @@ pub fn first_other(
     origin(slice, hs, k)
 }
 
-// The first of the rules 4 to 8 that is in doubt, 9 where all are certainly kept; 0 where nothing is known. The tables start with what stands for left out, and are filled where something is known.
+// The first of the rules 4 to 10 that is in doubt, 11 where all are certainly kept; 0 where nothing is known. The tables start with what stands for left out, and are filled where something is known.
 pub fn agrees(
     plan: &[u8],
     hp: Header,
@@ -473,5 +509,6 @@ pub fn agrees(
         return 0;
     }
     mark(criterion, places);
+    mark_capped(plan, hp, places);
     pass(plan, hp, slice, hs, criterion, places, transitions)
 }

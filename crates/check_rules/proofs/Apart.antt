@@ -7,12 +7,12 @@ use lib.ListN.{getD}
 use Rattle.promise.specs.Calls.{Checked}
 use Rattle.check_rules.specs.Answer.{outcomeNumbers, OutcomesApart}
 use Rattle.check_rules.specs.declared.Outcome.{Outcome}
-use Rattle.check_rules.specs.declared.Outcome.the-variants.{Accepted, Refused, UnknownPlace, UnknownTransition, OtherMarking, OtherArcs, CriterionMissing, ChangerMissing, InputMissing, RaiserMissing}
+use Rattle.check_rules.specs.declared.Outcome.the-variants.{Accepted, Refused, UnknownPlace, UnknownTransition, OtherMarking, OtherArcs, CriterionMissing, ChangerMissing, InputMissing, RaiserMissing, OutputMissing, CapChangerMissing}
 
 -- accepted, then the rules in order
 abbrev cases : List (ℕ → Outcome)
 cases =
-    (λ n. Accepted) ∷ UnknownPlace ∷ UnknownTransition ∷ OtherMarking ∷ OtherArcs ∷ CriterionMissing ∷ ChangerMissing ∷ InputMissing ∷ RaiserMissing ∷ []
+    (λ n. Accepted) ∷ UnknownPlace ∷ UnknownTransition ∷ OtherMarking ∷ OtherArcs ∷ CriterionMissing ∷ ChangerMissing ∷ InputMissing ∷ RaiserMissing ∷ OutputMissing ∷ CapChangerMissing ∷ []
 
 abbrev by : Bool → ℕ → ℕ → Outcome
 by true code number = Refused code
@@ -33,6 +33,8 @@ recovered (CriterionMissing n) = refl
 recovered (ChangerMissing n) = refl
 recovered (InputMissing n) = refl
 recovered (RaiserMissing n) = refl
+recovered (OutputMissing n) = refl
+recovered (CapChangerMissing n) = refl
 
 pub outcomes-apart : OutcomesApart
 outcomes-apart a b e = sym (recovered a) ∙ ap outcomeOf e ∙ recovered b

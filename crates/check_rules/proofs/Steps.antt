@@ -40,6 +40,11 @@ pub caps-left : (N : Net) (S : Slice) → Uncapped N → record { refused = fals
 unfolding AllHold
 caps-left N S none = ap told (sym (verdict-holds 9 (rule9 N S ∷ rule10 N S ∷ []) .1 (uncapped-rule9 N none S, (uncapped-rule10 N none S, tt))))
 
+-- no rule is left: accepted
+pub none-left : (k : ℕ) → record { refused = false; code = 0; number = 0 } ≡ told (verdictFrom k [])
+unfolding verdictFrom
+none-left k = refl
+
 -- the ranges
 module _ (N : Net) (S : Slice) where
   pub range1 : rule1 N S .range ≡ S .net .places
@@ -65,6 +70,14 @@ module _ (N : Net) (S : Slice) where
   pub range8 : rule8 N S .range ≡ N .transitions
   unfolding rule8
   range8 = refl
+
+  pub range9 : rule9 N S .range ≡ N .transitions
+  unfolding rule9
+  range9 = refl
+
+  pub range10 : rule10 N S .range ≡ N .transitions
+  unfolding rule10
+  range10 = refl
 
 module _ (N : Net) (S : Slice) (Q : List ℕ) where
   pub range5 : rule5 N S Q .range ≡ N .places

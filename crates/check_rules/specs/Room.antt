@@ -12,9 +12,13 @@ use Rattle.file.specs.Criterion.{criterionRefusal}
 use Rattle.file.specs.declared.Header.{Header}
 use Rattle.numbering.specs.Own.{Own}
 
+-- rules 9 and 10
+abbrev pub rulesFrom9 : Net → Slice → List Rule
+rulesFrom9 N S = rule9 N S ∷ rule10 N S ∷ []
+
 -- rules 6 to 10
 abbrev pub rulesFrom6 : Net → Slice → List ℕ → List Rule
-rulesFrom6 N S Q = rule6 N S Q ∷ rule7 N S ∷ rule8 N S ∷ rule9 N S ∷ rule10 N S ∷ []
+rulesFrom6 N S Q = rule6 N S Q ∷ rule7 N S ∷ rule8 N S ∷ rulesFrom9 N S
 
 -- rules 4 to 10
 abbrev pub rulesFrom4 : Net → Slice → List ℕ → List Rule

@@ -1,4 +1,4 @@
-// The rules 4 to 8 in order, and what the checker finds.
+// The rules 4 to 10 in order, and what the checker finds.
 ghost use mathlib.Core.Path.{_≡_};
 ghost use Prim.Native.Nat.{_*_, _<_};
 ghost use lib.ListN.{length};
@@ -11,7 +11,7 @@ ghost use Rattle.rules_tables.specs.Agreed.{Unbroken, Agreed};
 ghost use Rattle.rules_tables.specs.Matched.{Matched};
 ghost use Rattle.rules_effects.specs.Movers.{Resting};
 ghost use Rattle.check_rules.specs.Answer.{outcomeNumbers};
-ghost use Rattle.check_rules.specs.Room.{rulesFrom4, rulesFrom6, Judged, Room, Filled};
+ghost use Rattle.check_rules.specs.Room.{rulesFrom4, rulesFrom6, rulesFrom9, Judged, Room, Filled};
 use file::Header;
 
 // "accepted, or the broken rule with its number": each rule with the place or transition that breaks it. A call that is turned back has the refusal's number.
@@ -26,6 +26,8 @@ pub enum Outcome {
     ChangerMissing(u16),
     InputMissing(u16),
     RaiserMissing(u16),
+    OutputMissing(u16),
+    CapChangerMissing(u16),
 }
 
 // Rule 4, where it is in doubt; `runs` gets the starts of the slice's arcs.
@@ -112,7 +114,49 @@ fn input_breaker(
     rules_arcs::input_missing(plan, hp, table, slice, hs, ownp, ownt)
 }
 
-// Rules 6 to 8; `doubt` is the first rule that is in doubt.
+// Rules 9 and 10, which hold where the plan has no caps.
+fn caps_outcome(
+    plan: &[u8],
+    hp: Header,
+    table: &[u16],
+    slice: &[u8],
+    hs: Header,
+    ownp: &[u16],
+    ownt: &[u16],
+    limit: &mut [u32],
+    column: &mut [u32],
+) -> Outcome
+    requires { ⌜ Matched (now plan) hp (now table) (now slice) hs (now ownp) (now ownt) ⌝ }
+    requires { ⌜ Resting (hp .places) (now column) ⌝ }
+    requires { ⌜ length (now limit) ≡ length (now column) ⌝ }
+    ensures { λ r. ⌜ outcomeNumbers r ≡ told (verdictFrom 9 (rulesFrom9 (netFrom (now (plan .entry)) hp) (sliceFrom (now (slice .entry)) hs))) ⌝ }
+{
+    if !file::has_caps(plan, hp) {
+        return Outcome::Accepted;
+    }
+    let transitions = hp.transitions;
+    let giver = rules_arcs::output_missing(plan, hp, table, slice, hs, ownp, ownt);
+    if giver < transitions {
+        return Outcome::OutputMissing(giver as u16);
+    }
+    let mover = rules_effects::cap_changer_missing(
+        plan,
+        hp,
+        table,
+        slice,
+        hs,
+        ownp,
+        ownt,
+        limit,
+        column,
+    );
+    if mover < transitions {
+        return Outcome::CapChangerMissing(mover as u16);
+    }
+    Outcome::Accepted
+}
+
+// Rules 6 to 10; `doubt` is the first rule that is in doubt.
 fn movers_outcome(
     doubt: usize,
     plan: &[u8],
@@ -168,10 +212,10 @@ fn movers_outcome(
     if raiser < transitions {
         return Outcome::RaiserMissing(raiser as u16);
     }
-    Outcome::Accepted
+    caps_outcome(plan, hp, table, slice, hs, ownp, ownt, limit, column)
 }
 
-// Rules 4 to 8; `doubt` is the first rule that is in doubt. `table` has the starts of the plan's arcs.
+// Rules 4 to 10; `doubt` is the first rule that is in doubt. `table` has the starts of the plan's arcs.
 fn links_outcome(
     doubt: usize,
     plan: &[u8],
@@ -229,7 +273,7 @@ fn fill_own(slice: &[u8], hs: Header, ownp: &mut [u16], ownt: &mut [u16])
     numbering::own(slice, hs.originstart + 2 * hs.places, hs.transitions, ownt);
 }
 
-// Rules 4 to 8, in arrays that are lent; `doubt` is the first rule that is in doubt.
+// Rules 4 to 10, in arrays that are lent; `doubt` is the first rule that is in doubt.
 pub fn lent_outcome(
     doubt: usize,
     plan: &[u8],

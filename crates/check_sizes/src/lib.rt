@@ -1,4 +1,4 @@
-// Rules 4 to 8 in tables that are not much larger than the nets.
+// Rules 4 to 10 in tables that are not much larger than the nets.
 ghost use mathlib.Core.Path.{_≡_};
 ghost use mathlib.Core.Bool.{true};
 ghost use Prim.Native.Nat.{_<_};
@@ -27,7 +27,7 @@ fn within(hp: Header, hs: Header, n: usize) -> bool
     (hp.places <= n) & (hp.transitions <= n) & (hs.transitions <= n)
 }
 
-// Rules 4 to 8 for nets of at most 128 places and 128 transitions; `doubt` is the first rule that is in doubt.
+// Rules 4 to 10 for nets of at most 128 places and 128 transitions; `doubt` is the first rule that is in doubt.
 fn middle_outcome(
     doubt: usize,
     plan: &[u8],
@@ -98,7 +98,7 @@ fn large_outcome(
     )
 }
 
-// Rules 4 to 8 in order, for all nets; `doubt` is the first rule that is in doubt.
+// Rules 4 to 10 in order, for all nets; `doubt` is the first rule that is in doubt.
 pub fn sized(
     doubt: usize,
     plan: &[u8],
@@ -117,7 +117,7 @@ pub fn sized(
     large_outcome(doubt, plan, hp, slice, hs, criterion)
 }
 
-// What is known of the rules 4 to 8: the first that is in doubt, 9 where none is; and the lowest transition that breaks rule 4, past all where none is known.
+// What is known of the rules 4 to 10: the first that is in doubt, 11 where none is; and the lowest transition that breaks rule 4, past all where none is known.
 pub struct Found {
     pub doubt: usize,
     pub other: usize,
@@ -149,7 +149,7 @@ fn further(
     Found { doubt, other }
 }
 
-// What one pass tells of the rules 4 to 8, for nets of at most 16 places and 16 transitions.
+// What one pass tells of the rules 4 to 10, for nets of at most 16 places and 16 transitions.
 fn small_agrees(plan: &[u8], hp: Header, slice: &[u8], hs: Header, criterion: &[u16]) -> Found
     requires { ⌜ Judged (now plan) hp (now slice) hs (now criterion) ⌝ }
     requires { ⌜ KnownIn hp (sliceFrom (now slice) hs) ⌝ }
@@ -214,7 +214,7 @@ fn large_agrees(plan: &[u8], hp: Header, slice: &[u8], hs: Header, criterion: &[
     further(doubt, plan, hp, slice, hs, criterion, &places, &transitions)
 }
 
-// What one pass tells of the rules 4 to 8, in tables that are not much larger than the net.
+// What one pass tells of the rules 4 to 10, in tables that are not much larger than the net.
 pub fn agreeing(plan: &[u8], hp: Header, slice: &[u8], hs: Header, criterion: &[u16]) -> Found
     requires { ⌜ Judged (now plan) hp (now slice) hs (now criterion) ⌝ }
     requires { ⌜ KnownIn hp (sliceFrom (now slice) hs) ⌝ }

@@ -2,13 +2,14 @@
 ghost use mathlib.Core.Path.{_≡_};
 ghost use Prim.Native.Nat.{_/_, _≤_};
 ghost use lib.ListN.{length};
-ghost use Rattle.net.specs.Checker.{verdict};
+ghost use Rattle.net.specs.Checker.{verdictFrom, verdict};
 ghost use Rattle.file.specs.Layout.{netFrom, sliceFrom};
 ghost use Rattle.file.specs.Facts.{Sound};
 ghost use Rattle.file.specs.Criterion.{criterionOf, criterionBytesRefusal};
 ghost use Rattle.promise.specs.Calls.{told};
 ghost use Rattle.check_rules.specs.Answer.{outcomeNumbers};
-ghost use Rattle.check_rules.specs.Room.{Judged};
+ghost use Rattle.check_rules.specs.Room.{rulesFrom4, Judged};
+ghost use Rattle.check_sizes.specs.Sizes.{KnownIn};
 ghost use Rattle.checker.specs.Answer.{numbersOf};
 pub use check_rules::Outcome;
 use check_sizes::agreeing;
@@ -21,7 +22,7 @@ pub struct Verdict {
     pub outcome: Outcome,
 }
 
-// 0 accepted, 1 to 13 a refusal, 100 plus the rule otherwise.
+// 0 accepted, below 100 a refusal, 100 plus the rule otherwise.
 pub fn code(v: Verdict) -> u32
     ensures { λ r. ⌜ r ≡ numbersOf v .code ⌝ }
 {
@@ -37,6 +38,8 @@ pub fn code(v: Verdict) -> u32
         Outcome::ChangerMissing(_) => 106,
         Outcome::InputMissing(_) => 107,
         Outcome::RaiserMissing(_) => 108,
+        Outcome::OutputMissing(_) => 109,
+        Outcome::CapChangerMissing(_) => 110,
     }
 }
 
@@ -56,7 +59,27 @@ pub fn number(v: Verdict) -> u32
         Outcome::ChangerMissing(n) => n as u32,
         Outcome::InputMissing(n) => n as u32,
         Outcome::RaiserMissing(n) => n as u32,
+        Outcome::OutputMissing(n) => n as u32,
+        Outcome::CapChangerMissing(n) => n as u32,
     }
+}
+
+// Rules 4 to 10, of places and transitions that the plan knows: one pass, then the rules that it leaves in doubt.
+fn others_outcome(plan: &[u8], hp: Header, slice: &[u8], hs: Header, criterion: &[u16]) -> Outcome
+    requires { ⌜ Judged (now plan) hp (now slice) hs (now criterion) ⌝ }
+    requires { ⌜ KnownIn hp (sliceFrom (now slice) hs) ⌝ }
+    ensures { λ r. ⌜ outcomeNumbers r ≡ told (verdictFrom 4 (rulesFrom4 (netFrom (now (plan .entry)) hp) (sliceFrom (now (slice .entry)) hs) (now (criterion .entry)))) ⌝ }
+{
+    let found = agreeing(plan, hp, slice, hs, criterion);
+    let t = found.other;
+    if t < hp.transitions {
+        return Outcome::OtherArcs(t as u16);
+    }
+    let doubt = found.doubt;
+    if 10 < doubt {
+        return Outcome::Accepted;
+    }
+    sized(doubt, plan, hp, slice, hs, criterion)
 }
 
 // Rules 1 to 3, then the others.
@@ -76,16 +99,7 @@ fn whole_outcome(plan: &[u8], hp: Header, slice: &[u8], hs: Header, criterion: &
     if p < hp.places {
         return Outcome::OtherMarking(p as u16);
     }
-    let found = agreeing(plan, hp, slice, hs, criterion);
-    let t = found.other;
-    if t < hp.transitions {
-        return Outcome::OtherArcs(t as u16);
-    }
-    let doubt = found.doubt;
-    if 8 < doubt {
-        return Outcome::Accepted;
-    }
-    sized(doubt, plan, hp, slice, hs, criterion)
+    others_outcome(plan, hp, slice, hs, criterion)
 }
 
 // The verdict for a plan, a slice and a criterion, none of them turned back.

@@ -1,3 +1,3 @@
-pub mod Inputs
+pub mod Lacking
 pub mod Walking
 pub mod Differing

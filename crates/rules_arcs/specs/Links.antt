@@ -3,6 +3,7 @@ use Prim.Native.Nat.{ℕ, _+_, _*_, _-_, _/_, _%_, _≤_, _<_}
 use mathlib.Core.Bool.{Bool, true, false}
 use mathlib.Core.Path.{_≡_}
 use mathlib.Core.List.{List, _∷_}
+use lib.Dec.{T}
 use lib.ListN.{length, getD}
 use Rattle.net.specs.Numbers.{among, position}
 use Rattle.net.specs.Slice.{restrict}
@@ -21,10 +22,10 @@ pub record Run (s : List ℕ) (start from to P : ℕ) : Type 0 where
   pub short : length s ≤ 65536
   pub reached : (i : ℕ) → i < to → arcAt s (start + 8 * i) .place < P
 
--- an arc from..to has a place without an own number, or none has
-pub record Unkept (s : List ℕ) (start from to : ℕ) (ownp : List ℕ) (r : Bool) : Type 0 where
-  pub found : r ≡ true → (i : ℕ) × (from ≤ i) × (i < to) × (getD ownp (arcAt s (start + 8 * i) .place) 0 ≡ 0)
-  pub none : r ≡ false → (i : ℕ) → from ≤ i → i < to → getD ownp (arcAt s (start + 8 * i) .place) 0 ≡ 0 → ⊥
+-- an arc from..to has a wanted place without an own number, or none has
+pub record Unkept (s : List ℕ) (start from to : ℕ) (wanted : ℕ → Bool) (ownp : List ℕ) (r : Bool) : Type 0 where
+  pub found : r ≡ true → (i : ℕ) × (from ≤ i) × (i < to) × T (wanted (arcAt s (start + 8 * i) .place)) × (getD ownp (arcAt s (start + 8 * i) .place) 0 ≡ 0)
+  pub none : r ≡ false → (i : ℕ) → from ≤ i → i < to → T (wanted (arcAt s (start + 8 * i) .place)) → getD ownp (arcAt s (start + 8 * i) .place) 0 ≡ 0 → ⊥
 
 -- the arc with these numbers of its transition and place
 abbrev pub numbered : Arc → ℕ → ℕ → Arc

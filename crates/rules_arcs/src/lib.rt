@@ -1,11 +1,13 @@
-// The checker's rules 4 and 7: a kept transition's arcs, and its input places.
+// The checker's rules 4, 7 and 9: a kept transition's arcs, its input places, and its capped output places.
 ghost use mathlib.Core.Path.{_≡_};
-ghost use mathlib.Core.Bool.{not};
+ghost use mathlib.Core.Bool.{true, not, _&&_};
 ghost use Prim.Native.Nat.{ℕ, _+_, _*_, _-_, _<_, _≤_};
-ghost use lib.ListN.{length};
+ghost use lib.ListN.{length, getD};
 ghost use lib.Dec.{eqb};
-ghost use Rattle.net.specs.Checker.{breaks, breaker, rule4, rule7, sameArcs};
+ghost use Rattle.net.specs.Net.{capped};
+ghost use Rattle.net.specs.Checker.{breaks, breaker, rule4, rule7, rule9, sameArcs};
 ghost use Rattle.file.specs.Layout.{arcAt, arcsFrom, netFrom, sliceFrom};
+ghost use Rattle.file.specs.Facts.{Placed};
 ghost use Rattle.rules_tables.specs.Matched.{Starts, Matched};
 ghost use Rattle.rules_arcs.specs.Links.{Run, Unkept, Walk, Against, Step, renumbered, arcsLeft, kept};
 use file::Header;
@@ -18,7 +20,7 @@ use tables::entry;
 // Has an arc from `from` to `to` a place that is not kept?
 fn unkept(plan: &[u8], start: usize, from: usize, to: usize, ownp: &[u16]) -> bool
     requires { ⌜ Run (now plan) start from to (length (now ownp)) ⌝ }
-    ensures { λ r. ⌜ Unkept (now (plan .entry)) start from to (now (ownp .entry)) r ⌝ }
+    ensures { λ r. ⌜ Unkept (now (plan .entry)) start from to (λ p. true) (now (ownp .entry)) r ⌝ }
 {
     let mut j = from;
     while j < to {
@@ -70,6 +72,84 @@ pub fn input_missing(
     let mut t: usize = 0;
     while t < hp.transitions {
         if lacks_input(plan, hp, table, slice, hs, ownp, ownt, t) {
+            return t;
+        }
+        t += 1;
+    }
+    t
+}
+
+// Is the place left out, and has it a cap?
+fn capped_left(plan: &[u8], hp: Header, ownp: &[u16], place: usize) -> bool
+    requires { ⌜ Placed (length (now plan)) hp ⌝ }
+    requires { ⌜ place < hp .places ⌝ }
+    requires { ⌜ place < length (now ownp) ⌝ }
+    ensures { λ r. ⌜ r ≡ (eqb (getD (now (ownp .entry)) place 0) 0 && capped (netFrom (now (plan .entry)) hp) place) ⌝ }
+{
+    if entry(ownp, place) != 0 {
+        return false;
+    }
+    file::cap(plan, hp, place) != 0
+}
+
+// Has an arc from `from` to `to` a capped place that is not kept?
+fn capped_unkept(plan: &[u8], hp: Header, from: usize, to: usize, ownp: &[u16]) -> bool
+    requires { ⌜ Placed (length (now plan)) hp ⌝ }
+    requires { ⌜ Run (now plan) (hp .arcstart) from to (hp .places) ⌝ }
+    requires { ⌜ hp .places ≤ length (now ownp) ⌝ }
+    ensures { λ r. ⌜ Unkept (now (plan .entry)) (hp .arcstart) from to (capped (netFrom (now (plan .entry)) hp)) (now (ownp .entry)) r ⌝ }
+{
+    let start = hp.arcstart;
+    let mut j = from;
+    while j < to {
+        let a = file::arcs::arc(plan, start + 8 * j);
+        if capped_left(plan, hp, ownp, a.place) {
+            return true;
+        }
+        j += 1;
+    }
+    false
+}
+
+// Is the transition t kept, and has it a capped output place that is not?
+fn lacks_output(
+    plan: &[u8],
+    hp: Header,
+    table: &[u16],
+    slice: &[u8],
+    hs: Header,
+    ownp: &[u16],
+    ownt: &[u16],
+    t: usize,
+) -> bool
+    requires { ⌜ Matched (now plan) hp (now table) (now slice) hs (now ownp) (now ownt) ⌝ }
+    requires { ⌜ t < hp .transitions ⌝ }
+    ensures { λ r. ⌜ r ≡ breaks (rule9 (netFrom (now (plan .entry)) hp) (sliceFrom (now (slice .entry)) hs)) t ⌝ }
+{
+    if entry(ownt, t) == 0 {
+        return false;
+    }
+    let from = entry(table, 2 * t + 1);
+    let upto = entry(table, 2 * t + 2);
+    capped_unkept(plan, hp, from, upto, ownp)
+}
+
+// Rule 9: the lowest kept transition with a capped output place that is not kept; the number of transitions where none has one.
+pub fn output_missing(
+    plan: &[u8],
+    hp: Header,
+    table: &[u16],
+    slice: &[u8],
+    hs: Header,
+    ownp: &[u16],
+    ownt: &[u16],
+) -> usize
+    requires { ⌜ Matched (now plan) hp (now table) (now slice) hs (now ownp) (now ownt) ⌝ }
+    ensures { λ r. ⌜ r ≡ breaker (rule9 (netFrom (now (plan .entry)) hp) (sliceFrom (now (slice .entry)) hs)) ⌝ }
+{
+    let mut t: usize = 0;
+    while t < hp.transitions {
+        if lacks_output(plan, hp, table, slice, hs, ownp, ownt, t) {
             return t;
         }
         t += 1;

@@ -1,4 +1,4 @@
--- What passes its limit: the changes of the criterion's places, the raises of kept places.
+-- What passes its limit: the changes of the criterion's places, the raises of kept places, the changes of kept capped places.
 use Prim.Native.Nat.{ℕ, _+_, _-_, _*_, _≤_, _<_}
 use mathlib.Core.Bool.{Bool, true, false, not, _&&_}
 use mathlib.Core.Path.{_≡_, refl, sym, ap, _∙_, subst}
@@ -8,8 +8,8 @@ use lib.Dec.{T, eqb, ltb, ltb→lt}
 use lib.ListN.{length, getD}
 use borrow.Author.Tests.{lt-ltb, le-ltb, eq-eqb, ne-eqb, eqb-true, eqb-false, ltb-true, ltb-false}
 use Rattle.net.specs.Numbers.{among, any, selected, first}
-use Rattle.net.specs.Net.{Net, input, output, changes, raises}
-use Rattle.net.specs.Checker.{breaks, breaker, rule6, rule8}
+use Rattle.net.specs.Net.{Net, input, output, changes, raises, capped}
+use Rattle.net.specs.Checker.{breaks, breaker, rule6, rule8, rule10}
 use Rattle.net.proofs.Numbers.{first-same, by-cases, and-both, and-left, and-right, same-test, any-has, any-finds, below-has, below-passes}
 use Rattle.file.specs.Word.{byteAt}
 use Rattle.file.specs.Layout.{netFrom, sliceFrom}
@@ -20,9 +20,10 @@ use Rattle.arcs_column.specs.Gain.{pulls}
 use Rattle.numbering.specs.Own.{Own}
 use Rattle.rules_tables.specs.Matched.{Matched}
 use Rattle.numbering.proofs.Lookup.{left-out, is-kept}
+use Rattle.rules_tables.proofs.Caps.{capped-known}
 use Rattle.rules_tables.proofs.Runs.{entry-most, weight-found}
 use Rattle.file.proofs.Rows.{good-at}
-use Rattle.rules_effects.specs.Movers.{limitOn, moved}
+use Rattle.rules_effects.specs.Movers.{limitOn, changeLimit, moved}
 use Rattle.rules_effects.proofs.Moving.{weight-most}
 
 -- nothing passes 2 ^ 32 - 1
@@ -43,6 +44,10 @@ pulls-raised i o l =
     (λ e. let u = ltb-true i o e in
     rw (e, lt-ltb 1073741824 (1073741824 + o - i) (omega arith), ne-eqb (1073741824 + o - i) 1073741824 (λ z. omega arith)))
     (λ e. let u = ltb-false i o e in rw (e, le-ltb 1073741824 (1073741824 + o - i) (omega arith)))
+
+and-again : (a b c : Bool) → ((a && b) && c) ≡ (a && (b && c))
+and-again true b c = refl
+and-again false b c = refl
 
 -- the places of a list that t acts on are those that pass their limit
 module _ (N : Net) (limit : List ℕ) (t : ℕ) (L : List ℕ) (acts : ℕ → Bool)
@@ -128,6 +133,41 @@ module _ (plan : List ℕ) (hp : Header) (table slice : List ℕ) (hs : Header) 
     first-raiser r q =
         q ∙ first-same _ _ 0 (hp .transitions) (λ t a l. ap (λ (b : Bool). b && not (among t (sliceFrom slice hs .transitionOrigins)))
         (moved-as (netFrom plan hp) limit t (sliceFrom slice hs .placeOrigins) (raises (netFrom plan hp) t) (raised t (omega arith)) (λ p k c. raised-known t (omega arith) p c)))
+
+  -- ---- rule 10
+  module _ (limits : (p : ℕ) → p < hp .places → getD limit p 0 ≡ changeLimit (getD ownp p 0) (netFrom plan hp .cap p)) where
+    -- the limit of a place that is kept and capped, and of the others
+    cap-limit : (p : ℕ) → p < hp .places → getD limit p 0 ≡ limitOn (among p (sliceFrom slice hs .placeOrigins) && capped (netFrom plan hp) p) 0 4294967295
+    unfolding capped
+    cap-limit p u =
+        let n = netFrom plan hp .cap p in
+        let own = getD ownp p 0 in
+        by-cases (eqb own 0)
+        (λ z. limits p u ∙ rw (z, left-out (sliceFrom slice hs .placeOrigins) ownp (m .places) p (omega (arith, m .placesReached)) (eqb-true own 0 z)))
+        (λ z. let kept = is-kept (sliceFrom slice hs .placeOrigins) ownp (m .places) p (omega (arith, m .placesReached)) (eqb-false own 0 z) in
+        by-cases (eqb n 0)
+        (λ y. limits p u ∙ rw (z, y, kept, le-ltb 0 n (omega (arith, eqb-true n 0 y))))
+        (λ y. limits p u ∙ rw (z, y, kept, lt-ltb 0 n (let o = eqb-false n 0 y in omega arith))))
+
+    cap-changed : (t : ℕ) → t < hp .transitions → (p : ℕ) → p < hp .places
+        → pulls (getD limit p 0) (1073741824 + output (netFrom plan hp) p t - input (netFrom plan hp) p t) ≡ (among p (sliceFrom slice hs .placeOrigins) && (capped (netFrom plan hp) p && changes (netFrom plan hp) t p))
+    unfolding changes
+    cap-changed t l p u =
+        let i = input (netFrom plan hp) p t in
+        let o = output (netFrom plan hp) p t in
+        let kept = among p (sliceFrom slice hs .placeOrigins) in
+        let bound = capped (netFrom plan hp) p in
+        by-cases (kept && bound)
+        (λ k. ap (λ (n : ℕ). pulls n (1073741824 + o - i)) (cap-limit p u ∙ ap (λ (b : Bool). limitOn b 0 4294967295) k) ∙ pulls-changed i o (input-most p t l) ∙ sym (ap (λ (b : Bool). b && not (eqb i o)) k) ∙ and-again kept bound (not (eqb i o)))
+        (λ k. ap (λ (n : ℕ). pulls n (1073741824 + o - i)) (cap-limit p u ∙ ap (λ (b : Bool). limitOn b 0 4294967295) k) ∙ pulls-never (1073741824 + o - i) (omega (arith, output-most p t l)) ∙ sym (ap (λ (b : Bool). b && not (eqb i o)) k) ∙ and-again kept bound (not (eqb i o)))
+
+    pub first-cap-changer : (r : ℕ) → r ≡ first (λ t. moved (netFrom plan hp) limit t && not (among t (sliceFrom slice hs .transitionOrigins))) 0 (hp .transitions)
+        → r ≡ breaker (rule10 (netFrom plan hp) (sliceFrom slice hs))
+    unfolding breaker breaks rule10
+    first-cap-changer r q =
+        q ∙ first-same _ _ 0 (hp .transitions) (λ t a l. ap (λ (b : Bool). b && not (among t (sliceFrom slice hs .transitionOrigins)))
+        (moved-as (netFrom plan hp) limit t (sliceFrom slice hs .placeOrigins) (λ p. capped (netFrom plan hp) p && changes (netFrom plan hp) t p) (cap-changed t (omega arith))
+        (λ p k c. capped-known plan hp p (and-left (capped (netFrom plan hp) p) (changes (netFrom plan hp) t p) c))))
 
 -- ---- only transitions left out count
 

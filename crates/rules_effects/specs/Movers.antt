@@ -3,6 +3,7 @@ use Prim.Native.Nat.{ℕ, _+_, _-_, _≤_, _<_}
 use mathlib.Core.Bool.{Bool, true, false}
 use mathlib.Core.Path.{_≡_}
 use mathlib.Core.List.{List}
+use lib.Dec.{eqb}
 use lib.ListN.{length, getD}
 use Rattle.net.specs.Numbers.{any, selected}
 use Rattle.net.specs.Net.{Net, input, output}
@@ -12,6 +13,10 @@ use Rattle.arcs_column.specs.Gain.{pulls}
 abbrev pub limitOn : Bool → ℕ → ℕ → ℕ
 limitOn true n m = n
 limitOn false n m = m
+
+-- by its own number, 0 where it is not kept, and its cap: every change of a kept capped place counts
+abbrev pub changeLimit : ℕ → ℕ → ℕ
+changeLimit own cap = limitOn (eqb own 0) 4294967295 (limitOn (eqb cap 0) 4294967295 0)
 
 -- t changes a place whose column, 2 ^ 30 and its effect, then stands above the place's limit
 unfoldable pub moved : Net → List ℕ → ℕ → Bool

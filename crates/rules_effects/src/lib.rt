@@ -1,16 +1,16 @@
-// The checker's rules 6 and 8: what the transitions left out do to places of the criterion and to kept places.
+// The checker's rules 6, 8 and 10: what the transitions left out do to places of the criterion, to kept places and to kept capped places.
 ghost use mathlib.Core.Path.{_≡_};
 ghost use mathlib.Core.Bool.{not, _&&_};
 ghost use Prim.Native.Nat.{ℕ, _<_, _≤_};
 ghost use lib.ListN.{length, getD};
 ghost use lib.Dec.{eqb};
 ghost use Rattle.net.specs.Numbers.{among, first};
-ghost use Rattle.net.specs.Checker.{breaker, rule6, rule8};
+ghost use Rattle.net.specs.Checker.{breaker, rule6, rule8, rule10};
 ghost use Rattle.file.specs.Criterion.{criterionRefusal};
 ghost use Rattle.file.specs.Layout.{netFrom, sliceFrom};
-ghost use Rattle.file.specs.Facts.{Sound};
+ghost use Rattle.file.specs.Facts.{Placed, Sound};
 ghost use Rattle.rules_tables.specs.Matched.{Starts, Matched};
-ghost use Rattle.rules_effects.specs.Movers.{limitOn, moved, Resting};
+ghost use Rattle.rules_effects.specs.Movers.{limitOn, changeLimit, moved, Resting};
 use arcs_column::AT_REST;
 use file::Header;
 use tables::entry;
@@ -141,6 +141,32 @@ fn limit_kept(places: usize, ownp: &[u16], limit: &mut [u32])
     }
 }
 
+// The limit of a place by its entry in the table of own numbers and its cap: 0, which every change passes, where it is kept and capped.
+fn change_limit(own: usize, cap: usize) -> u32
+    ensures { λ r. ⌜ r ≡ changeLimit own cap ⌝ }
+{
+    if own == 0 {
+        return NO_LIMIT;
+    }
+    if cap == 0 { NO_LIMIT } else { 0 }
+}
+
+// Sets these limits.
+fn limit_capped(plan: &[u8], hp: Header, ownp: &[u16], limit: &mut [u32])
+    requires { ⌜ Placed (length (now plan)) hp ⌝ }
+    requires { ⌜ hp .places ≤ length (now ownp) ⌝ }
+    requires { ⌜ hp .places ≤ length (now limit) ⌝ }
+    ensures { λ _. ⌜ ((p : ℕ) → p < hp .places → getD (now (limit .exit)) p 0 ≡ changeLimit (getD (now (ownp .entry)) p 0) (netFrom (now (plan .entry)) hp .cap p)) ⌝ }
+{
+    let places = hp.places;
+    let mut p: usize = 0;
+    while p < places {
+        let own = entry(ownp, p);
+        limit[p] = change_limit(own, file::cap(plan, hp, p));
+        p += 1;
+    }
+}
+
 // Rule 6: the lowest transition left out that changes a place of the criterion; the number of transitions where none does.
 // `limit` is written over; the column comes back at rest.
 pub fn changer_missing(
@@ -187,5 +213,28 @@ pub fn raiser_missing(
     ensures { λ _. ⌜ Resting (hp .places) (now (column .exit)) ⌝ }
 {
     limit_kept(hp.places, ownp, limit);
+    first_mover(plan, hp, table, slice, hs, ownp, ownt, limit, column)
+}
+
+// Rule 10: the lowest transition left out that changes a kept capped place; the number of transitions where none does.
+// `limit` is written over; the column comes back at rest.
+pub fn cap_changer_missing(
+    plan: &[u8],
+    hp: Header,
+    table: &[u16],
+    slice: &[u8],
+    hs: Header,
+    ownp: &[u16],
+    ownt: &[u16],
+    limit: &mut [u32],
+    column: &mut [u32],
+) -> usize
+    requires { ⌜ Matched (now plan) hp (now table) (now slice) hs (now ownp) (now ownt) ⌝ }
+    requires { ⌜ Resting (hp .places) (now column) ⌝ }
+    requires { ⌜ length (now limit) ≡ length (now column) ⌝ }
+    ensures { λ r. ⌜ r ≡ breaker (rule10 (netFrom (now (plan .entry)) hp) (sliceFrom (now (slice .entry)) hs)) ⌝ }
+    ensures { λ _. ⌜ Resting (hp .places) (now (column .exit)) ⌝ }
+{
+    limit_capped(plan, hp, ownp, limit);
     first_mover(plan, hp, table, slice, hs, ownp, ownt, limit, column)
 }

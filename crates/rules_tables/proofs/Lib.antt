@@ -1,3 +1,4 @@
 pub mod Lowest
 pub mod Runs
 pub mod Rows
+pub mod Caps

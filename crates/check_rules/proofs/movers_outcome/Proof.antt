@@ -1,8 +1,7 @@
 use borrow.Author.Needs.{needs}
 use native.Mathlib.Omega.{arith}
 use mathlib.Core.Path.{_∙_}
-use Rattle.file.proofs.Caps.{no-caps}
-use Rattle.check_rules.proofs.Steps.{broken-here, holds-here, caps-left, range6, range7, range8}
+use Rattle.check_rules.proofs.Steps.{broken-here, holds-here, range6, range7, range8}
 use Rattle.check_rules.proofs.movers_outcome.Statement.{statement}
 use Rattle.check_rules.proofs.movers_outcome.Tie as tie
 
@@ -21,6 +20,9 @@ inputs-at c = c .before .before .before
 
 abbrev raises-at : tie.After-slice-known6 → tie.After-raiser-missing
 raises-at c = c .before .before .before .before
+
+abbrev held-at : tie.After-caps-outcome → tie.Else3
+held-at c = c .before .before .before
 
 change-breaker-requires : tie.Need-change-breaker-requires
 change-breaker-requires c κs = let pre = start (c .before .before) .pre in (pre .0, (pre .1 .0, (pre .1 .1 .0, (pre .1 .1 .1 .0, pre .1 .1 .1 .1 .sixth))))
@@ -78,6 +80,15 @@ returns-3 c =
     ∙ holds-here 7 _ _ _ _ (range7 _ _) (fed .before .input-breaker .ensures) (fed .if2 .left)
     ∙ holds-here 6 _ _ _ _ (range6 _ _ _) (changes-at (fed .before .before) .change-breaker .ensures .0) (fed .before .before .if1 .left)
 
+caps-outcome-requires : tie.Need-caps-outcome-requires
+caps-outcome-requires c κs =
+    let raised = raises-at (c .before .before .before) in
+    let changed = changes-at (inputs-at raised .before .before) in
+    let kept6 = changed .change-breaker .kept in
+    let kept8 = raised .raiser-missing .kept in
+    let pre = start-of changed .pre in
+    (pre .0, (raised .raiser-missing .ensures .1, omega (arith, kept8 .1 .1 .1 .1 .1 .1 .1 .0, kept8 .1 .1 .1 .1 .1 .1 .1 .1 .0, kept6 .1 .1 .1 .1 .1 .1 .1 .1 .1 .0, kept6 .1 .1 .1 .1 .1 .1 .1 .1 .1 .1 .0, pre .1 .1 .1 .0)))
+
 same-length-7 : tie.Need-same-length-7
 same-length-7 c = search needs
 
@@ -86,11 +97,12 @@ same-length-8 c = search needs
 
 returns-4 : tie.Need-returns-4
 returns-4 c =
-    let raised = raises-at (c .before) in
+    let caps = c .before .before .before .before in
+    let held = held-at caps in
+    let raised = raises-at (held .before) in
     let fed = inputs-at raised in
-    let args = start-of (changes-at (fed .before .before)) .args in
-    caps-left _ _ (no-caps (args .plan .now) (args .hp))
-    ∙ holds-here 8 _ _ _ _ (range8 _ _) (raised .raiser-missing .ensures .0) (c .if3 .left)
+    caps .caps-outcome .ensures
+    ∙ holds-here 8 _ _ _ _ (range8 _ _) (raised .raiser-missing .ensures .0) (held .if3 .left)
     ∙ holds-here 7 _ _ _ _ (range7 _ _) (fed .before .input-breaker .ensures) (fed .if2 .left)
     ∙ holds-here 6 _ _ _ _ (range6 _ _ _) (changes-at (fed .before .before) .change-breaker .ensures .0) (fed .before .before .if1 .left)
 
@@ -113,6 +125,7 @@ movers-outcome-spec =
     same-length-5
     same-length-6
     returns-3
+    caps-outcome-requires
     same-length-7
     same-length-8
     returns-4)

@@ -6,13 +6,11 @@ use denote.Ref.{now}
 use Rattle.net.specs.Checker.{verdictFrom, verdict}
 use Rattle.file.specs.Layout.{netFrom, sliceFrom}
 use Rattle.promise.specs.Calls.{told}
-use Rattle.file.proofs.Caps.{no-caps}
 use Rattle.file.proofs.Rows.{length-words}
 use Rattle.rules_origins.proofs.Keeping.{places-known, transitions-known}
 use Rattle.check_rules.specs.Room.{rulesFrom4}
-use Rattle.check_rules.proofs.Steps.{broken-here, holds-here, range1, range2, range3, range4, all-rules}
+use Rattle.check_rules.proofs.Steps.{broken-here, holds-here, range1, range2, range3, all-rules}
 use Rattle.check_sizes.specs.Sizes.{KnownIn}
-use Rattle.checker.proofs.OnePass.{agreed-told}
 use Rattle.checker.proofs.whole_outcome.Statement.{statement}
 use Rattle.checker.proofs.whole_outcome.Tie as tie
 
@@ -56,8 +54,8 @@ known c =
 unknown-place-requires : tie.Need-unknown-place-requires
 unknown-place-requires c κs = search needs
 
-cast-t13 : tie.Need-cast-t13
-cast-t13 c = search needs
+cast-t10 : tie.Need-cast-t10
+cast-t10 c = search needs
 
 returns : tie.Need-returns
 returns c =
@@ -66,8 +64,8 @@ returns c =
 unknown-transition-requires : tie.Need-unknown-transition-requires
 unknown-transition-requires c κs = search needs
 
-cast-t14 : tie.Need-cast-t14
-cast-t14 c = search needs
+cast-t11 : tie.Need-cast-t11
+cast-t11 c = search needs
 
 returns-2 : tie.Need-returns-2
 returns-2 c =
@@ -85,8 +83,8 @@ other-marking-requires c κs =
     let all = places-known N _ (length-words _ _ _) (least _ _ _ (places .unknown-place .ensures N refl) (at .before .if1 .left)) in
     (start .pre .planned, (start .pre .sliced, (start .pre .kind, all)))
 
-cast-t15 : tie.Need-cast-t15
-cast-t15 c = search needs
+cast-t12 : tie.Need-cast-t12
+cast-t12 c = search needs
 
 returns-3 : tie.Need-returns-3
 returns-3 c =
@@ -96,45 +94,24 @@ returns-3 c =
     ∙ holds-here 1 _ _ _ _ (range1 _ _) (at .before .before .before .unknown-place .ensures _ refl) (at .before .if1 .left)
     ∙ all-rules _ _ _
 
-agreeing-requires : tie.Need-agreeing-requires
-agreeing-requires c κs = (start c .pre, known c)
-
-cast-t16 : tie.Need-cast-t16
-cast-t16 c = omega (arith, c .if4 .taken, start (c .before .before .before) .pre .planned .placed .transitions)
+others-outcome-requires : tie.Need-others-outcome-requires
+others-outcome-requires c κs = (start c .pre, known c)
 
 returns-4 : tie.Need-returns-4
-returns-4 c =
-    let found = c .before .before in
-    broken-here 4 _ _ _ _ (range4 _ _) (found .agreeing .ensures .1 (c .if4 .taken)) (c .if4 .taken) ∙ first-three (found .before)
-
-returns-5 : tie.Need-returns-5
-returns-5 c =
-    let found = c .before .before .before in
-    let held = found .before in
-    agreed-told _ _ _ (no-caps (now (start held .args .plan)) (start held .args .hp)) _ (c .if5 .taken) (found .agreeing .ensures .0) ∙ first-three held
-
-sized-requires : tie.Need-sized-requires
-sized-requires c κs = let found = c .before .before .before in (start (found .before) .pre, found .agreeing .ensures .0)
-
-returns-6 : tie.Need-returns-6
-returns-6 c = c .sized .ensures ∙ first-three (c .before .before .before .before .before)
+returns-4 c = c .others-outcome .ensures ∙ first-three (c .before)
 
 pub whole-outcome-spec : {M : Type 1} → statement M
 whole-outcome-spec =
     tie.close
     (tie.spec
     unknown-place-requires
-    cast-t13
+    cast-t10
     returns
     unknown-transition-requires
-    cast-t14
+    cast-t11
     returns-2
     other-marking-requires
-    cast-t15
+    cast-t12
     returns-3
-    agreeing-requires
-    cast-t16
-    returns-4
-    returns-5
-    sized-requires
-    returns-6)
+    others-outcome-requires
+    returns-4)

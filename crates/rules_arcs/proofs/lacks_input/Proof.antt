@@ -1,5 +1,6 @@
 use borrow.Author.Needs.{needs}
-use Rattle.rules_arcs.proofs.Inputs.{lacks-not, inputs-run, lacks}
+use Rattle.net.specs.Checker.{breaks, rule7}
+use Rattle.rules_arcs.proofs.Lacking.{lacks-not, inputs-run, lacks-input}
 use Rattle.rules_arcs.proofs.lacks_input.Statement.{statement}
 use Rattle.rules_arcs.proofs.lacks_input.Tie as tie
 
@@ -10,7 +11,8 @@ entry-requires : tie.Need-entry-requires
 entry-requires c κs = search needs
 
 returns : tie.Need-returns
-returns c = let s = call (c .before) in lacks-not _ _ _ _ _ _ _ (s .pre .0) _ (s .pre .1) _ (c .before .entry .ensures .0) (c .if1 .taken)
+unfolding breaks rule7
+returns c = let s = call (c .before) in lacks-not _ _ _ _ _ _ _ (s .pre .0) _ (s .pre .1) _ (c .before .entry .ensures .0) (c .if1 .taken) _
 
 mul-entry : tie.Need-mul-entry
 mul-entry c = search needs
@@ -36,7 +38,7 @@ returns-2 : tie.Need-returns-2
 returns-2 c =
     let kept = c .before .before .before in
     let s = call (kept .before) in
-    lacks _ _ _ _ _ _ _ (s .pre .0) _ (s .pre .1) _ _ (c .before .before .entry2 .ensures .0) (c .before .entry3 .ensures .0) _ (kept .before .entry .ensures .0) (kept .if1 .left) _ (c .unkept .ensures)
+    lacks-input _ _ _ _ _ _ _ (s .pre .0) _ (s .pre .1) _ _ (c .before .before .entry2 .ensures .0) (c .before .entry3 .ensures .0) _ (kept .before .entry .ensures .0) (kept .if1 .left) _ (c .unkept .ensures)
 
 pub lacks-input-spec : {M : Type 1} → statement M
 lacks-input-spec =

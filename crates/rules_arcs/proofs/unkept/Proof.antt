@@ -52,7 +52,7 @@ returns c =
     let t = turn-of (c .before .before) in
     let at = t .before .loop in
     record {
-      found = λ e. (at .j, at .inv .0, t .loop-test .taken, sym (place-of (c .before)) ∙ c .if1 .taken);
+      found = λ e. (at .j, at .inv .0, t .loop-test .taken, tt, sym (place-of (c .before)) ∙ c .if1 .taken);
       none = λ e. absurd (let z : _≡_ {A = ℕ} 0 1 = cc in omega arith);
     }
 
@@ -78,7 +78,7 @@ loop-again c =
 returns-2 : tie.Need-returns-2 Inv-loop μ-loop
 returns-2 c = record {
   found = λ e. absurd (let z : _≡_ {A = ℕ} 0 1 = cc in omega arith);
-  none = λ e i a b. c .before .loop .inv .2 i a (omega arith);
+  none = λ e i a b w. c .before .loop .inv .2 i a (omega arith);
 }
 
 pub unkept-spec : {M : Type 1} → statement M
