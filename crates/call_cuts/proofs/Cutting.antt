@@ -68,9 +68,9 @@ module _ (plan Q : List ℕ) (h : Header) (o : Opened due.Plan plan h) where
   by-criterion e = rw (o .read, ← o .same) (sym e)
 
   module _ (q : criterionRefusal (h .places) Q ≡ 0) where
-    goes-on : (room : ℕ) (file : List ℕ) (S : Slice) → file ≡ sliceBytes S → writeRefusal plan Q room file ≡ roomRefusal room S
+    goes-on : (room : ℕ) (file : List ℕ) (edition : ℕ) (S : Slice) → file ≡ sliceBytes edition S → writeRefusal plan Q room file ≡ roomRefusal edition room S
     unfolding writeRefusal
-    goes-on room file S e = rw (by-criterion (sym q), e)
+    goes-on room file edition S e = rw (by-criterion (sym q), e)
 
     -- what is written is the cut
     module _ (kept : KeptSets) where
@@ -90,23 +90,30 @@ module _ (plan Q : List ℕ) (h : Header) (o : Opened due.Plan plan h) where
       unfolding keptSlice cutOf cut branching growth
       branching-slice k = rw (← o .same) (ap₂ (keeping (netFrom plan h)) (k .places) (k .transitions))
 
-      module _ (entry exit : List ℕ) (r : Cut) (a : Answers (keptSlice plan h kept) entry exit r) where
-        abbrev As : Slice → Type 0
-        As S = Answers S entry exit r
+      -- "a slice keeps its plan's edition"
+      module _ (entry exit : List ℕ) (r : Cut) (a : Answers (h .edition) (keptSlice plan h kept) entry exit r) where
+        abbrev edition : ℕ
+        edition = headerOf plan .edition
+
+        same-edition : (S : Slice) → keptSlice plan h kept ≡ S → Answers edition S entry exit r
+        same-edition S e =
+            subst (λ (k : Header). Answers (k .edition) S entry exit r) (o .same) (subst (λ (K : Slice). Answers (h .edition) K entry exit r) e a)
 
         pub safety-written : Kept (growthOf false (netFrom plan h) Q) kept → (cutNumbers r ≡ safetyAnswer plan Q (length entry)) × (exit ≡ safetyBuffer plan Q entry)
         unfolding safetyAnswer safetyBuffer safetyFile
         safety-written k =
-            let b = subst As (safety-slice k) a in
             let S = cutOf safety plan Q in
-            (rw (goes-on (length entry) (sliceBytes S) S refl) (b .answer), rw (goes-on (length entry) (sliceBytes S) S refl) (b .buffer))
+            let b = same-edition S (safety-slice k) in
+            let on = goes-on (length entry) (sliceBytes edition S) edition S refl in
+            (rw on (b .answer), rw on (b .buffer))
 
         pub branching-written : Kept (growthOf true (netFrom plan h) Q) kept → (cutNumbers r ≡ branchingAnswer plan Q (length entry)) × (exit ≡ branchingBuffer plan Q entry)
         unfolding branchingAnswer branchingBuffer branchingFile
         branching-written k =
-            let b = subst As (branching-slice k) a in
             let S = cutOf branching plan Q in
-            (rw (goes-on (length entry) (sliceBytes S) S refl) (b .answer), rw (goes-on (length entry) (sliceBytes S) S refl) (b .buffer))
+            let b = same-edition S (branching-slice k) in
+            let on = goes-on (length entry) (sliceBytes edition S) edition S refl in
+            (rw on (b .answer), rw on (b .buffer))
 
 -- the three promises of the safety cut, from the first two
 pub safety-all : (plan Q entry : List ℕ) {exit : List ℕ} {a : CutAnswer} → ((i : ℕ) → byteAt plan i < 256)

@@ -8,7 +8,7 @@ use file::Reading;
 use run_cut::RunCut;
 
 // Writes the slice of what fed the places of the criterion in the list, and the positions of the firings that did. The slice is for that run: the check need not accept it.
-// Refused: the plan's number; 10 for the criterion; 11 or 12 for the list; 14 where the list sticks, told apart; 13 where either buffer is too short.
+// Refused: the plan's number; 17 where a place of it has a cap; 10 for the criterion; 11 or 12 for the list; 14 where the list sticks, told apart; 13 where either buffer is too short.
 pub fn run_cut(
     plan: &[u8],
     criterion: &[u16],
@@ -25,6 +25,9 @@ pub fn run_cut(
     let Reading::Whole(h) = whole else {
         return RunCut::Refused(file::number(whole));
     };
+    if file::has_caps(plan, h) {
+        return RunCut::Refused(17);
+    }
     let broken = inputs_criterion::refusal(criterion, h.places);
     if broken != 0 {
         return RunCut::Refused(broken);

@@ -51,15 +51,25 @@ told-refused zero (short i p n) k e = differ (sym (ap (λ (x : ReplayAnswer). x 
 told-refused zero (full i p n) k e = differ (sym (ap (λ (x : ReplayAnswer). x .refused) e))
 told-refused (suc l) a k e = let same : k ≡ suc l = ap (λ (x : ReplayAnswer). x .refusal) e in (sym same, λ z. omega arith)
 
-told-stuck : (l : ℕ) (a : Answer) (i p n : ℕ) → outcomeNumbers (outcome.Stuck i p n) ≡ replayOr l a → (l ≡ 0) × (a ≡ short i p n)
-told-stuck zero fired i p n e = differ (sym (ap (λ (x : ReplayAnswer). x .stuck) e))
-told-stuck zero (short j q m) i p n e =
+told-short : (l : ℕ) (a : Answer) (i p n : ℕ) → outcomeNumbers (outcome.Short i p n) ≡ replayOr l a → (l ≡ 0) × (a ≡ short i p n)
+told-short zero fired i p n e = differ (sym (ap (λ (x : ReplayAnswer). x .stuck) e))
+told-short zero (short j q m) i p n e =
     let j≡ : j ≡ i = sym (ap (λ (x : ReplayAnswer). x .index) e) in
     let q≡ : q ≡ p = sym (ap (λ (x : ReplayAnswer). x .place) e) in
     let m≡ : m ≡ n = sym (ap (λ (x : ReplayAnswer). x .amount) e) in
     (refl, λ x. short (j≡ x) (q≡ x) (m≡ x))
-told-stuck zero (full j q m) i p n e = differ (ap (λ (x : ReplayAnswer). x .full) e)
-told-stuck (suc l) a i p n e = differ (ap (λ (x : ReplayAnswer). x .refused) e)
+told-short zero (full j q m) i p n e = differ (ap (λ (x : ReplayAnswer). x .full) e)
+told-short (suc l) a i p n e = differ (ap (λ (x : ReplayAnswer). x .refused) e)
+
+told-full : (l : ℕ) (a : Answer) (i p n : ℕ) → outcomeNumbers (outcome.Full i p n) ≡ replayOr l a → (l ≡ 0) × (a ≡ full i p n)
+told-full zero fired i p n e = differ (sym (ap (λ (x : ReplayAnswer). x .stuck) e))
+told-full zero (short j q m) i p n e = differ (sym (ap (λ (x : ReplayAnswer). x .full) e))
+told-full zero (full j q m) i p n e =
+    let j≡ : j ≡ i = sym (ap (λ (x : ReplayAnswer). x .index) e) in
+    let q≡ : q ≡ p = sym (ap (λ (x : ReplayAnswer). x .place) e) in
+    let m≡ : m ≡ n = sym (ap (λ (x : ReplayAnswer). x .amount) e) in
+    (refl, λ x. full (j≡ x) (q≡ x) (m≡ x))
+told-full (suc l) a i p n e = differ (ap (λ (x : ReplayAnswer). x .refused) e)
 
 told-fired : (l : ℕ) (a : Answer) → outcomeNumbers outcome.Fired ≡ replayOr l a → (l ≡ 0) × (a ≡ fired)
 told-fired zero fired e = (refl, refl)
@@ -80,7 +90,7 @@ module _ (s : List ℕ) (h : Header) (Q list entry slots : List ℕ) where
   listed = listRefusal (h .transitions) list
 
   abbrev due : RunAnswer
-  due = runOutcome N Q list (length entry) (length slots)
+  due = runOutcome (h .edition) N Q list (length entry) (length slots)
 
   pub refused-list : (k : ℕ) → outcomeNumbers (outcome.Refused k) ≡ replayOr listed (replay N list .answer) → Answers s h Q list (answerTo s h Q list (length entry) (length slots)) entry entry slots slots (Refused k)
   refused-list k e =
@@ -91,10 +101,16 @@ module _ (s : List ℕ) (h : Header) (Q list entry slots : List ℕ) where
       by-number zero r = absurd (r refl)
       by-number (suc k) r = record { answer = refl; buffer = refl; second = refl }
 
-  pub stuck-list : (i p n : ℕ) → outcomeNumbers (outcome.Stuck i p n) ≡ replayOr listed (replay N list .answer) → Answers s h Q list (answerTo s h Q list (length entry) (length slots)) entry entry slots slots (Sticks i p n)
+  pub short-list : (i p n : ℕ) → outcomeNumbers (outcome.Short i p n) ≡ replayOr listed (replay N list .answer) → Answers s h Q list (answerTo s h Q list (length entry) (length slots)) entry entry slots slots (Sticks i p n)
   unfolding runOutcome
-  stuck-list i p n e =
-      let t = told-stuck listed (replay N list .answer) i p n e in
+  short-list i p n e =
+      let t = told-short listed (replay N list .answer) i p n e in
+      rw (t .0, t .1) (record { answer = refl; buffer = refl; second = refl })
+
+  pub full-list : (i p n : ℕ) → outcomeNumbers (outcome.Full i p n) ≡ replayOr listed (replay N list .answer) → Answers s h Q list (answerTo s h Q list (length entry) (length slots)) entry entry slots slots (Sticks i p n)
+  unfolding runOutcome
+  full-list i p n e =
+      let t = told-full listed (replay N list .answer) i p n e in
       rw (t .0, t .1) (record { answer = refl; buffer = refl; second = refl })
 
   module _ (e : outcomeNumbers outcome.Fired ≡ replayOr listed (replay N list .answer)) where
@@ -167,48 +183,48 @@ module _ (s : List ℕ) (h : Header) (Q list last : List ℕ) (kept : KeptSets) 
   fires = ap (λ (r : Replay). r .answer) (fires-replay M 0 (M .marking) list (g .fires))
 
   -- the answer is that of the room
-  module _ (r : ℕ) (e : runRoom M Q list (length entry) (length slots) ≡ r) where
-    due-is : runOutcome M Q list (length entry) (length slots) ≡ runOr r (runWritten (length (sliceBytes S)) (S .net .places) (S .net .transitions) (length chosen))
+  module _ (r : ℕ) (e : runRoom (h .edition) M Q list (length entry) (length slots) ≡ r) where
+    due-is : runOutcome (h .edition) M Q list (length entry) (length slots) ≡ runOr r (runWritten (length (sliceBytes (h .edition) S)) (S .net .places) (S .net .transitions) (length chosen))
     unfolding runOutcome
     due-is = rw (fires, e)
 
-  refused-13 : runRoom M Q list (length entry) (length slots) ≡ 13 → (exit : List ℕ) → exit ≡ entry → Answers s h Q list (runOutcome M Q list (length entry) (length slots)) entry exit slots slots (Refused 13)
+  refused-13 : runRoom (h .edition) M Q list (length entry) (length slots) ≡ 13 → (exit : List ℕ) → exit ≡ entry → Answers s h Q list (runOutcome (h .edition) M Q list (length entry) (length slots)) entry exit slots slots (Refused 13)
   refused-13 e exit same = subst (λ (a : RunAnswer). Answers s h Q list a entry exit slots slots (Refused 13)) (sym (due-is 13 e)) (record { answer = refl; buffer = same; second = refl })
 
-  pub no-entries : length slots < count → Answers s h Q list (runOutcome M Q list (length entry) (length slots)) entry entry slots slots (Refused 13)
+  pub no-entries : length slots < count → Answers s h Q list (runOutcome (h .edition) M Q list (length entry) (length slots)) entry entry slots slots (Refused 13)
   unfolding runRoom
-  no-entries l = refused-13 (rw (lt-ltb (length slots) (length chosen) (omega (arith, counted))) (second-13 (ltb (length entry) (length (sliceBytes S))))) entry refl
+  no-entries l = refused-13 (rw (lt-ltb (length slots) (length chosen) (omega (arith, counted))) (second-13 (ltb (length entry) (length (sliceBytes (h .edition) S))))) entry refl
 
-  module _ (exit : List ℕ) (buffer : exit ≡ written (roomRefusal (length entry) K) (sliceBytes K) entry) where
-    pub no-room : (k : ℕ) → cutNumbers (cut.Refused k) ≡ cutAnswer (roomRefusal (length entry) K) (length (sliceBytes K)) K
-        → Answers s h Q list (runOutcome M Q list (length entry) (length slots)) entry exit slots slots (Refused 13)
+  module _ (exit : List ℕ) (buffer : exit ≡ written (roomRefusal (h .edition) (length entry) K) (sliceBytes (h .edition) K) entry) where
+    pub no-room : (k : ℕ) → cutNumbers (cut.Refused k) ≡ cutAnswer (roomRefusal (h .edition) (length entry) K) (length (sliceBytes (h .edition) K)) K
+        → Answers s h Q list (runOutcome (h .edition) M Q list (length entry) (length slots)) entry exit slots slots (Refused 13)
     unfolding runRoom
     no-room k e =
-        let some = cut-refused (roomRefusal (length entry) K) (length (sliceBytes K)) K k e in
-        let short : ltb (length entry) (length (sliceBytes S)) ≡ true = ap (λ (x : Slice). ltb (length entry) (length (sliceBytes x))) (sym (f .slice)) ∙ room-some _ some in
-        refused-13 (rw short) exit (buffer ∙ sym (untouched (roomRefusal (length entry) K) (sliceBytes K) entry some))
+        let some = cut-refused (roomRefusal (h .edition) (length entry) K) (length (sliceBytes (h .edition) K)) K k e in
+        let short : ltb (length entry) (length (sliceBytes (h .edition) S)) ≡ true = ap (λ (x : Slice). ltb (length entry) (length (sliceBytes (h .edition) x))) (sym (f .slice)) ∙ room-some _ some in
+        refused-13 (rw short) exit (buffer ∙ sym (untouched (roomRefusal (h .edition) (length entry) K) (sliceBytes (h .edition) K) entry some))
 
-    module _ (n p t : ℕ) (told : cutNumbers (cut.Written n p t) ≡ cutAnswer (roomRefusal (length entry) K) (length (sliceBytes K)) K) (enough : count ≤ length slots) where
-      says : (roomRefusal (length entry) K ≡ 0) × (n ≡ length (sliceBytes K)) × (p ≡ K .net .places) × (t ≡ K .net .transitions)
-      says = cut-written (roomRefusal (length entry) K) (length (sliceBytes K)) K n p t told
+    module _ (n p t : ℕ) (told : cutNumbers (cut.Written n p t) ≡ cutAnswer (roomRefusal (h .edition) (length entry) K) (length (sliceBytes (h .edition) K)) K) (enough : count ≤ length slots) where
+      says : (roomRefusal (h .edition) (length entry) K ≡ 0) × (n ≡ length (sliceBytes (h .edition) K)) × (p ≡ K .net .places) × (t ≡ K .net .transitions)
+      says = cut-written (roomRefusal (h .edition) (length entry) K) (length (sliceBytes (h .edition) K)) K n p t told
 
-      fits : runRoom M Q list (length entry) (length slots) ≡ 0
+      fits : runRoom (h .edition) M Q list (length entry) (length slots) ≡ 0
       unfolding runRoom
       fits =
-          let a : ltb (length entry) (length (sliceBytes S)) ≡ false = ap (λ (x : Slice). ltb (length entry) (length (sliceBytes x))) (sym (f .slice)) ∙ room-none _ (says .0) in
+          let a : ltb (length entry) (length (sliceBytes (h .edition) S)) ≡ false = ap (λ (x : Slice). ltb (length entry) (length (sliceBytes (h .edition) x))) (sym (f .slice)) ∙ room-none _ (says .0) in
           rw (a, le-ltb (length slots) (length chosen) (omega (arith, counted)))
 
       module _ (c : ℕ) (told-count : c ≡ count) where
-        numbers : runWritten n p t c ≡ runWritten (length (sliceBytes S)) (S .net .places) (S .net .transitions) (length chosen)
+        numbers : runWritten n p t c ≡ runWritten (length (sliceBytes (h .edition) S)) (S .net .places) (S .net .transitions) (length chosen)
         numbers =
-            let n≡ : n ≡ length (sliceBytes S) = says .1 ∙ ap (λ (x : Slice). length (sliceBytes x)) (f .slice) in
+            let n≡ : n ≡ length (sliceBytes (h .edition) S) = says .1 ∙ ap (λ (x : Slice). length (sliceBytes (h .edition) x)) (f .slice) in
             let p≡ : p ≡ S .net .places = says .2 ∙ ap (λ (x : Slice). x .net .places) (f .slice) in
             let t≡ : t ≡ S .net .transitions = says .3 ∙ ap (λ (x : Slice). x .net .transitions) (f .slice) in
             let c≡ : c ≡ length chosen = told-count ∙ counted in
             λ i. runWritten (n≡ i) (p≡ i) (t≡ i) (c≡ i)
 
-        pub whole : (positions : List ℕ) → positions ≡ chosenBy list last ++ drop count slots → Answers s h Q list (runOutcome M Q list (length entry) (length slots)) entry exit slots positions (Written n p t c)
+        pub whole : (positions : List ℕ) → positions ≡ chosenBy list last ++ drop count slots → Answers s h Q list (runOutcome (h .edition) M Q list (length entry) (length slots)) entry exit slots positions (Written n p t c)
         whole positions e =
-            let there : exit ≡ sliceBytes S ++ drop (length (sliceBytes S)) entry = buffer ∙ ap (λ (r : ℕ). written r (sliceBytes K) entry) (says .0) ∙ ap (λ (x : Slice). sliceBytes x ++ drop (length (sliceBytes x)) entry) (f .slice) in
+            let there : exit ≡ sliceBytes (h .edition) S ++ drop (length (sliceBytes (h .edition) S)) entry = buffer ∙ ap (λ (r : ℕ). written r (sliceBytes (h .edition) K) entry) (says .0) ∙ ap (λ (x : Slice). sliceBytes (h .edition) x ++ drop (length (sliceBytes (h .edition) x)) entry) (f .slice) in
             let second : positions ≡ chosen ++ drop (length chosen) slots = e ∙ ap (λ (l : List ℕ). l ++ drop (length l) slots) (f .positions) in
             subst (λ (a : RunAnswer). Answers s h Q list a entry exit slots positions (Written n p t c)) (sym (due-is 0 fits)) (record { answer = numbers; buffer = there; second = second })

@@ -26,10 +26,10 @@ ToldApart = (a b : RunCut) → runNumbers a ≡ runNumbers b → a ≡ b
 
 -- the list, then what the net says
 abbrev pub answerTo : List ℕ → Header → List ℕ → List ℕ → ℕ → ℕ → RunAnswer
-answerTo s h Q list room entries = runOr (listRefusal (h .transitions) list) (runOutcome (netFrom s h) Q list room entries)
+answerTo s h Q list room entries = runOr (listRefusal (h .transitions) list) (runOutcome (h .edition) (netFrom s h) Q list room entries)
 
 -- the buffers are `entry` and `slots` before, `exit` and `positions` after
 pub record Answers (s : List ℕ) (h : Header) (Q list : List ℕ) (told : RunAnswer) (entry exit slots positions : List ℕ) (r : RunCut) : Type 0 where
   pub answer : runNumbers r ≡ told
-  pub buffer : exit ≡ written (told .refusal) (sliceBytes (runCut (netFrom s h) Q list)) entry
+  pub buffer : exit ≡ written (told .refusal) (sliceBytes (h .edition) (runCut (netFrom s h) Q list)) entry
   pub second : positions ≡ written (told .refusal) (fed (netFrom s h) Q list .positions) slots

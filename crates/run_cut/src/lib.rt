@@ -104,7 +104,7 @@ fn write(
 ) -> RunCut
     requires { ⌜ Given (now plan) h (now criterion) (now list) ⌝ }
     requires { ⌜ FedBy (now plan) h (now criterion) (now list) (now last) kept end ⌝ }
-    ensures { λ r. ⌜ Answers (now (plan .entry)) h (now (criterion .entry)) (now (list .entry)) (runOutcome (netFrom (now (plan .entry)) h) (now (criterion .entry)) (now (list .entry)) (length (now (buffer .entry))) (length (now (positions .entry)))) (now (buffer .entry)) (now (buffer .exit)) (now (positions .entry)) (now (positions .exit)) r ⌝ }
+    ensures { λ r. ⌜ Answers (now (plan .entry)) h (now (criterion .entry)) (now (list .entry)) (runOutcome (h .edition) (netFrom (now (plan .entry)) h) (now (criterion .entry)) (now (list .entry)) (length (now (buffer .entry))) (length (now (positions .entry)))) (now (buffer .entry)) (now (buffer .exit)) (now (positions .entry)) (now (positions .exit)) r ⌝ }
 {
     if lacks(list, last, end, positions.len()) {
         return RunCut::Refused(13);
@@ -171,7 +171,7 @@ fn write_by(
 ) -> RunCut
     requires { ⌜ Given (now plan) h (now criterion) (now list) ⌝ }
     requires { ⌜ Lent h (now head) (now next) (now first) × Cleared h (now last) ⌝ }
-    ensures { λ r. ⌜ Answers (now (plan .entry)) h (now (criterion .entry)) (now (list .entry)) (runOutcome (netFrom (now (plan .entry)) h) (now (criterion .entry)) (now (list .entry)) (length (now (buffer .entry))) (length (now (positions .entry)))) (now (buffer .entry)) (now (buffer .exit)) (now (positions .entry)) (now (positions .exit)) r ⌝ }
+    ensures { λ r. ⌜ Answers (now (plan .entry)) h (now (criterion .entry)) (now (list .entry)) (runOutcome (h .edition) (netFrom (now (plan .entry)) h) (now (criterion .entry)) (now (list .entry)) (length (now (buffer .entry))) (length (now (positions .entry)))) (now (buffer .entry)) (now (buffer .exit)) (now (positions .entry)) (now (positions .exit)) r ⌝ }
 {
     let f = fed_by(plan, h, criterion, list, head, next, first, last);
     let places = f.places;
@@ -203,7 +203,7 @@ fn write_small(
     positions: &mut [u16],
 ) -> RunCut
     requires { ⌜ Given (now plan) h (now criterion) (now list) × (h .places ≤ 16) × (h .arcs ≤ 64) × (h .transitions ≤ 16) ⌝ }
-    ensures { λ r. ⌜ Answers (now (plan .entry)) h (now (criterion .entry)) (now (list .entry)) (runOutcome (netFrom (now (plan .entry)) h) (now (criterion .entry)) (now (list .entry)) (length (now (buffer .entry))) (length (now (positions .entry)))) (now (buffer .entry)) (now (buffer .exit)) (now (positions .entry)) (now (positions .exit)) r ⌝ }
+    ensures { λ r. ⌜ Answers (now (plan .entry)) h (now (criterion .entry)) (now (list .entry)) (runOutcome (h .edition) (netFrom (now (plan .entry)) h) (now (criterion .entry)) (now (list .entry)) (length (now (buffer .entry))) (length (now (positions .entry)))) (now (buffer .entry)) (now (buffer .exit)) (now (positions .entry)) (now (positions .exit)) r ⌝ }
 {
     let mut head = [0u32; 2 * SMALL];
     let mut next = [0u32; SMALL_ARCS];
@@ -233,7 +233,7 @@ fn write_middle(
     positions: &mut [u16],
 ) -> RunCut
     requires { ⌜ Given (now plan) h (now criterion) (now list) × (h .places ≤ 128) × (h .arcs ≤ 512) × (h .transitions ≤ 128) ⌝ }
-    ensures { λ r. ⌜ Answers (now (plan .entry)) h (now (criterion .entry)) (now (list .entry)) (runOutcome (netFrom (now (plan .entry)) h) (now (criterion .entry)) (now (list .entry)) (length (now (buffer .entry))) (length (now (positions .entry)))) (now (buffer .entry)) (now (buffer .exit)) (now (positions .entry)) (now (positions .exit)) r ⌝ }
+    ensures { λ r. ⌜ Answers (now (plan .entry)) h (now (criterion .entry)) (now (list .entry)) (runOutcome (h .edition) (netFrom (now (plan .entry)) h) (now (criterion .entry)) (now (list .entry)) (length (now (buffer .entry))) (length (now (positions .entry)))) (now (buffer .entry)) (now (buffer .exit)) (now (positions .entry)) (now (positions .exit)) r ⌝ }
 {
     let mut head = [0u32; 2 * MIDDLE];
     let mut next = [0u32; MIDDLE_ARCS];
@@ -263,7 +263,7 @@ fn write_large(
     positions: &mut [u16],
 ) -> RunCut
     requires { ⌜ Given (now plan) h (now criterion) (now list) ⌝ }
-    ensures { λ r. ⌜ Answers (now (plan .entry)) h (now (criterion .entry)) (now (list .entry)) (runOutcome (netFrom (now (plan .entry)) h) (now (criterion .entry)) (now (list .entry)) (length (now (buffer .entry))) (length (now (positions .entry)))) (now (buffer .entry)) (now (buffer .exit)) (now (positions .entry)) (now (positions .exit)) r ⌝ }
+    ensures { λ r. ⌜ Answers (now (plan .entry)) h (now (criterion .entry)) (now (list .entry)) (runOutcome (h .edition) (netFrom (now (plan .entry)) h) (now (criterion .entry)) (now (list .entry)) (length (now (buffer .entry))) (length (now (positions .entry)))) (now (buffer .entry)) (now (buffer .exit)) (now (positions .entry)) (now (positions .exit)) r ⌝ }
 {
     let mut head = [0u32; 2 * LARGE];
     let mut next = [0u32; LARGE_ARCS];
@@ -293,7 +293,7 @@ fn write_fed(
     positions: &mut [u16],
 ) -> RunCut
     requires { ⌜ Given (now plan) h (now criterion) (now list) ⌝ }
-    ensures { λ r. ⌜ Answers (now (plan .entry)) h (now (criterion .entry)) (now (list .entry)) (runOutcome (netFrom (now (plan .entry)) h) (now (criterion .entry)) (now (list .entry)) (length (now (buffer .entry))) (length (now (positions .entry)))) (now (buffer .entry)) (now (buffer .exit)) (now (positions .entry)) (now (positions .exit)) r ⌝ }
+    ensures { λ r. ⌜ Answers (now (plan .entry)) h (now (criterion .entry)) (now (list .entry)) (runOutcome (h .edition) (netFrom (now (plan .entry)) h) (now (criterion .entry)) (now (list .entry)) (length (now (buffer .entry))) (length (now (positions .entry)))) (now (buffer .entry)) (now (buffer .exit)) (now (positions .entry)) (now (positions .exit)) r ⌝ }
 {
     if (h.places <= SMALL) & (h.arcs <= SMALL_ARCS) & (h.transitions <= SMALL) {
         return write_small(plan, h, criterion, list, buffer, positions);
@@ -336,7 +336,8 @@ pub fn run(
     let outcome = fares(plan, h, list);
     match outcome {
         Outcome::Refused(k) => RunCut::Refused(k),
-        Outcome::Stuck(i, p, n) => RunCut::Sticks(i, p, n),
+        Outcome::Short(i, p, n) => RunCut::Sticks(i, p, n),
+        Outcome::Full(i, p, n) => RunCut::Sticks(i, p, n),
         Outcome::Fired => write_fed(plan, h, criterion, list, buffer, positions),
     }
 }

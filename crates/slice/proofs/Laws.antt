@@ -8,24 +8,24 @@ use lib.ListN.{length, getD, take, length-append}
 use lib.Seq.{sets, length-sets}
 use borrow.Author.Tests.{lt-ltb, le-ltb}
 use Rattle.net.specs.Numbers.{among, selected}
-use Rattle.net.specs.Net.{Net, below}
-use Rattle.net.specs.Slice.{Slice, restrict, keeping}
+use Rattle.net.specs.Net.{Net}
+use Rattle.net.specs.Slice.{Slice, restrict, onKept, keeping}
 use Rattle.net.specs.declared.Arc.{Arc}
 use Rattle.net.proofs.Markings.{below-at}
 use Rattle.net.proofs.Numbers.{by-cases, among-at, below-passes, selected-rises, length-selected}
 use Rattle.file.specs.Facts.{ArcGood, Sound}
-use Rattle.file.specs.Layout.{arcAt, arcsFrom, netFrom}
+use Rattle.file.specs.Layout.{placesLength, arcAt, arcsFrom, netFrom}
 use Rattle.file.specs.Word.{bytes16, bytes32}
 use Rattle.file.specs.Writing.{arcsBytes, originsBytes, sliceBody, trailerBytes, sliceBytes}
 use Rattle.file.specs.declared.Header.{Header}
-use Rattle.file.proofs.Bytes.{length-markings, length-origins, length-arcs}
+use Rattle.file.proofs.Bytes.{length-places, length-origins, length-arcs}
 use Rattle.file.proofs.Rows.{length-arcsFrom}
 use Rattle.file.proofs.Rows.{range-at}
 use Rattle.slice_arcs.specs.Between.{keptArcs, Arcs, ArcsWritten}
 use Rattle.slice_arcs.proofs.Restricted.{arcs-restricted}
 use Rattle.slice_parts.specs.Trailer.{trailerFor}
-use Rattle.slice_parts.specs.Markings.{keptMarkings}
-use Rattle.slice_parts.proofs.Steps.{markings-same}
+use Rattle.slice_parts.specs.Places.{keptPlaceBytes}
+use Rattle.slice_parts.proofs.Steps.{places-same}
 use Rattle.tables.proofs.Sets.{sets-after, sets-first, take-sets}
 use Rattle.sets.specs.Member.{member, countBelow}
 use Rattle.sets.specs.declared.KeptSets.{KeptSets}
@@ -72,9 +72,9 @@ module _ (s : List ℕ) (h : Header) (kept : KeptSets) {places transitions : Lis
         transitions-known = member-known (kept .transitions) (h .transitions) (w .transitions);
       }))
 
-  pub slice-kept : {entry exit : List ℕ} {r : Cut} → Answers (keeping (netFrom s h) (take p places) (take t transitions)) entry exit r → Answers (keptSlice s h kept) entry exit r
+  pub slice-kept : {entry exit : List ℕ} {r : Cut} → Answers (h .edition) (keeping (netFrom s h) (take p places) (take t transitions)) entry exit r → Answers (h .edition) (keptSlice s h kept) entry exit r
   unfolding keptSlice
-  slice-kept {entry} {exit} {r} = subst (λ (S : Slice). Answers S entry exit r) (λ i. keeping (netFrom s h) (ps .members i) (ts .members i))
+  slice-kept {entry} {exit} {r} = subst (λ (S : Slice). Answers (h .edition) S entry exit r) (λ i. keeping (netFrom s h) (ps .members i) (ts .members i))
 
 -- the plan's arcs, by the tables of the new numbers
 module _ (s : List ℕ) (h : Header) (sound : Sound s h) (ps ts places transitions : List ℕ) (tables : Tables h ps ts places transitions) where
@@ -103,9 +103,9 @@ restrict-length ps ts (a ∷ l) =
 pub few-arcs : (s : List ℕ) (h : Header) (ps ts : List ℕ) → length (restrict ps ts (netFrom s h .arcs)) ≤ h .arcs
 few-arcs s h ps ts = omega (arith, restrict-length ps ts (netFrom s h .arcs), length-arcsFrom s (h .arcstart) (h .arcs))
 
-module _ (N : Net) (ps ts : List ℕ) where
+module _ (e : ℕ) (N : Net) (ps ts : List ℕ) where
   abbrev M : List ℕ
-  M = keptMarkings (N .marking) ps
+  M = keptPlaceBytes e N ps
 
   abbrev A : List ℕ
   A = arcsBytes (restrict ps ts (N .arcs))
@@ -113,40 +113,44 @@ module _ (N : Net) (ps ts : List ℕ) where
   abbrev n : ℕ
   n = length (restrict ps ts (N .arcs))
 
+  -- where the arcs start
+  abbrev from : ℕ
+  from = placesLength e (length ps)
+
   abbrev body : ℕ → ℕ
-  body arcs = 4 * length ps + 8 * arcs + 2 * length ps + 2 * length ts
+  body arcs = from + 8 * arcs + 2 * length ps + 2 * length ts
 
-  length-1 : length M ≡ 4 * length ps
-  length-1 = length-markings (λ i. N .marking (getD ps i 0)) 0 (length ps)
+  length-1 : length M ≡ from
+  length-1 = length-places e (λ i. N .marking (getD ps i 0)) (λ i. N .cap (getD ps i 0)) 0 (length ps)
 
-  length-2 : length (M ++ A) ≡ 4 * length ps + 8 * n
+  length-2 : length (M ++ A) ≡ from + 8 * n
   length-2 = omega (arith, length-append M A, length-1, length-arcs (restrict ps ts (N .arcs)))
 
-  length-3 : length (M ++ A ++ originsBytes ps) ≡ 4 * length ps + 8 * n + 2 * length ps
+  length-3 : length (M ++ A ++ originsBytes ps) ≡ from + 8 * n + 2 * length ps
   length-3 = omega (arith, length-append (M ++ A) (originsBytes ps), length-2, length-origins ps)
 
   length-4 : length (M ++ A ++ originsBytes ps ++ originsBytes ts) ≡ body n
   length-4 = omega (arith, length-append (M ++ A ++ originsBytes ps) (originsBytes ts), length-3, length-origins ts)
 
   -- the file's parts
-  file-parts : sliceBytes (keeping N ps ts) ≡ M ++ A ++ originsBytes ps ++ originsBytes ts ++ trailerBytes (keeping N ps ts)
+  file-parts : sliceBytes e (keeping N ps ts) ≡ M ++ A ++ originsBytes ps ++ originsBytes ts ++ trailerBytes e (keeping N ps ts)
   unfolding sliceBytes keeping
   file-parts =
-      ap (λ (l : List ℕ). l ++ A ++ originsBytes ps ++ originsBytes ts ++ trailerBytes (keeping N ps ts))
-      (markings-same (λ i. N .marking (getD ps i 0)) (below (length ps) (λ i. N .marking (getD ps i 0))) 0 (length ps)
-      (λ i l. below-at (length ps) (λ k. N .marking (getD ps k 0)) (0 + i) (omega arith)))
+      ap (λ (l : List ℕ). l ++ A ++ originsBytes ps ++ originsBytes ts ++ trailerBytes e (keeping N ps ts))
+      (places-same e (λ i. N .marking (getD ps i 0)) (onKept ps (N .marking)) (λ i. N .cap (getD ps i 0)) (onKept ps (N .cap)) 0 (length ps)
+      (λ i l. (below-at (length ps) (λ k. N .marking (getD ps k 0)) (0 + i) (omega arith), below-at (length ps) (λ k. N .cap (getD ps k 0)) (0 + i) (omega arith))))
 
-  trailer-is : trailerBytes (keeping N ps ts) ≡ trailerFor (body n) (length ps) (length ts) n
+  trailer-is : trailerBytes e (keeping N ps ts) ≡ trailerFor e (body n) (length ps) (length ts) n
   unfolding trailerBytes sliceBody keeping trailerFor
   trailer-is = refl
 
-  length-trailer : length (trailerBytes (keeping N ps ts)) ≡ 16
+  length-trailer : length (trailerBytes e (keeping N ps ts)) ≡ 16
   unfolding trailerBytes bytes16 bytes32
   length-trailer = refl
 
-  pub file-length : length (sliceBytes (keeping N ps ts)) ≡ 6 * length ps + 8 * length (restrict ps ts (N .arcs)) + 2 * length ts + 16
+  pub file-length : length (sliceBytes e (keeping N ps ts)) ≡ placesLength e (length ps) + 2 * length ps + 8 * length (restrict ps ts (N .arcs)) + 2 * length ts + 16
   file-length =
-      let all = length-append (M ++ A ++ originsBytes ps ++ originsBytes ts) (trailerBytes (keeping N ps ts)) in
+      let all = length-append (M ++ A ++ originsBytes ps ++ originsBytes ts) (trailerBytes e (keeping N ps ts)) in
       omega (arith, ap length (file-parts), all, length-4, length-trailer)
 
   pub kept-places : length ps ≡ keeping N ps ts .net .places
@@ -158,37 +162,38 @@ module _ (N : Net) (ps ts : List ℕ) where
   kept-transitions = refl
 
   -- the parts stored one after the other are the file
-  pub parts-stored : (found : List Arc) (middle : ℕ) (s b₁ b₂ b₃ b₄ b₅ : List ℕ) → found ≡ restrict ps ts (N .arcs)
-      → b₁ ≡ sets s 0 (keptMarkings (N .marking) ps)
-      → ArcsWritten b₁ (4 * length ps) (arcsBytes found) b₂ middle
+  pub parts-stored : (found : List Arc) (start middle : ℕ) (s b₁ b₂ b₃ b₄ b₅ : List ℕ) → found ≡ restrict ps ts (N .arcs)
+      → start ≡ placesLength e (length ps)
+      → b₁ ≡ sets s 0 (keptPlaceBytes e N ps)
+      → ArcsWritten b₁ start (arcsBytes found) b₂ middle
       → b₃ ≡ sets b₂ middle (originsBytes ps)
       → b₄ ≡ sets b₃ (middle + 2 * length ps) (originsBytes ts)
-      → b₅ ≡ sets b₄ (middle + 2 * length ps + 2 * length ts) (trailerFor (middle + 2 * length ps + 2 * length ts) (length ps) (length ts) ((middle - 4 * length ps) / 8))
-      → b₅ ≡ sets s 0 (sliceBytes (keeping N ps ts))
-  parts-stored found middle s b₁ b₂ b₃ b₄ b₅ same e₁ w e₃ e₄ e₅ =
+      → b₅ ≡ sets b₄ (middle + 2 * length ps + 2 * length ts) (trailerFor e (middle + 2 * length ps + 2 * length ts) (length ps) (length ts) ((middle - start) / 8))
+      → b₅ ≡ sets s 0 (sliceBytes e (keeping N ps ts))
+  parts-stored found start middle s b₁ b₂ b₃ b₄ b₅ same e₀ e₁ w e₃ e₄ e₅ =
       let P = originsBytes ps in
       let T = originsBytes ts in
-      let R = trailerBytes (keeping N ps ts) in
+      let R = trailerBytes e (keeping N ps ts) in
       let end : ℕ = middle + 2 * length ps + 2 * length ts in
-      let at : middle ≡ 4 * length ps + 8 * n = omega (arith, w .count, length-arcs found, ap length same) in
-      let count : (middle - 4 * length ps) / 8 ≡ n = omega (arith, at) in
-      let whole : end ≡ body n = omega (arith, at) in
-      let here₅ : b₅ ≡ sets b₄ end R = e₅ ∙ (λ i. sets b₄ end (trailerFor (whole i) (length ps) (length ts) (count i))) ∙ ap (sets b₄ end) (sym trailer-is) in
+      let at : middle ≡ start + 8 * n = omega (arith, w .count, length-arcs found, ap length same) in
+      let count : (middle - start) / 8 ≡ n = omega (arith, at) in
+      let whole : end ≡ body n = omega (arith, at, e₀) in
+      let here₅ : b₅ ≡ sets b₄ end R = e₅ ∙ (λ i. sets b₄ end (trailerFor e (whole i) (length ps) (length ts) (count i))) ∙ ap (sets b₄ end) (sym trailer-is) in
       let to₄ = sets-after P T b₂ middle (middle + 2 * length ps) e₃ e₄ (omega (arith, length-origins ps)) in
       let to₅ = sets-after (P ++ T) R b₂ middle end to₄ here₅ (omega (arith, length-append P T, length-origins ps, length-origins ts)) in
-      let from : b₅ ≡ sets b₁ (4 * length ps) (A ++ (P ++ T ++ R)) =
-      to₅ ∙ w .same (P ++ T ++ R) (omega (arith, length-append (P ++ T) R, length-trailer)) ∙ ap (λ (l : List Arc). sets b₁ (4 * length ps) (arcsBytes l ++ (P ++ T ++ R))) same in
+      let rest : b₅ ≡ sets b₁ start (A ++ (P ++ T ++ R)) =
+      to₅ ∙ w .same (P ++ T ++ R) (omega (arith, length-append (P ++ T) R, length-trailer)) ∙ ap (λ (l : List Arc). sets b₁ start (arcsBytes l ++ (P ++ T ++ R))) same in
       let regroup : M ++ (A ++ (P ++ T ++ R)) ≡ M ++ A ++ P ++ T ++ R = simp append-assoc in
-      sets-after M (A ++ (P ++ T ++ R)) s 0 (4 * length ps) e₁ from (omega (arith, length-1)) ∙ ap (sets s 0) (regroup ∙ sym (file-parts))
+      sets-after M (A ++ (P ++ T ++ R)) s 0 start e₁ rest (omega (arith, length-1, e₀)) ∙ ap (sets s 0) (regroup ∙ sym (file-parts))
 
 -- the answers
-module _ (S : Slice) (entry : List ℕ) where
-  pub no-room : length entry < length (sliceBytes S) → Answers S entry entry (Refused 13)
-  no-room h = record { answer = rw (lt-ltb (length entry) (length (sliceBytes S)) h); buffer = rw (lt-ltb (length entry) (length (sliceBytes S)) h) }
+module _ (e : ℕ) (S : Slice) (entry : List ℕ) where
+  pub no-room : length entry < length (sliceBytes e S) → Answers e S entry entry (Refused 13)
+  no-room h = record { answer = rw (lt-ltb (length entry) (length (sliceBytes e S)) h); buffer = rw (lt-ltb (length entry) (length (sliceBytes e S)) h) }
 
-  pub room : (exit : List ℕ) (k p t : ℕ) → length (sliceBytes S) ≤ length entry → exit ≡ sets entry 0 (sliceBytes S) → k ≡ length (sliceBytes S) → p ≡ S .net .places → t ≡ S .net .transitions
-      → Answers S entry exit (Written k p t)
-  room exit k p t h e ke pe te = record {
-    answer = rw (le-ltb (length entry) (length (sliceBytes S)) h) (λ i. record { refused = false; refusal = 0; length = ke i; places = pe i; transitions = te i });
-    buffer = rw (le-ltb (length entry) (length (sliceBytes S)) h) (e ∙ sets-first (sliceBytes S) entry h);
+  pub room : (exit : List ℕ) (k p t : ℕ) → length (sliceBytes e S) ≤ length entry → exit ≡ sets entry 0 (sliceBytes e S) → k ≡ length (sliceBytes e S) → p ≡ S .net .places → t ≡ S .net .transitions
+      → Answers e S entry exit (Written k p t)
+  room exit k p t h f ke pe te = record {
+    answer = rw (le-ltb (length entry) (length (sliceBytes e S)) h) (λ i. record { refused = false; refusal = 0; length = ke i; places = pe i; transitions = te i });
+    buffer = rw (le-ltb (length entry) (length (sliceBytes e S)) h) (f ∙ sets-first (sliceBytes e S) entry h);
   }

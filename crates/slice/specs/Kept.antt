@@ -37,10 +37,10 @@ unfoldable pub keptSlice : List ℕ → Header → KeptSets → Slice
 keptSlice s h kept = keeping (netFrom s h) (selected (member (kept .places)) 0 (h .places)) (selected (member (kept .transitions)) 0 (h .transitions))
 
 -- 13: the buffer of `room` bytes is shorter "than .. the slice file"
-abbrev pub roomRefusal : ℕ → Slice → ℕ
-roomRefusal room S = refuse (ltb room (length (sliceBytes S))) 13 0
+abbrev pub roomRefusal : ℕ → ℕ → Slice → ℕ
+roomRefusal edition room S = refuse (ltb room (length (sliceBytes edition S))) 13 0
 
--- the answer and the buffer of a writer of the slice S, the buffer being `entry` before it and `exit` after it
-pub record Answers (S : Slice) (entry exit : List ℕ) (r : Cut) : Type 0 where
-  pub answer : cutNumbers r ≡ cutAnswer (roomRefusal (length entry) S) (length (sliceBytes S)) S
-  pub buffer : exit ≡ written (roomRefusal (length entry) S) (sliceBytes S) entry
+-- the answer and the buffer of a writer of the slice S in an edition, the buffer being `entry` before it and `exit` after it
+pub record Answers (edition : ℕ) (S : Slice) (entry exit : List ℕ) (r : Cut) : Type 0 where
+  pub answer : cutNumbers r ≡ cutAnswer (roomRefusal edition (length entry) S) (length (sliceBytes edition S)) S
+  pub buffer : exit ≡ written (roomRefusal edition (length entry) S) (sliceBytes edition S) entry

@@ -35,11 +35,11 @@ fn write_parts(
     requires { ⌜ Sound (now plan) h ⌝ }
     requires { ⌜ Lists h (now ps) (now ts) ⌝ }
     requires { ⌜ Tables h (now ps) (now ts) (now places) (now transitions) ⌝ }
-    requires { ⌜ length (sliceBytes (keeping (netFrom (now plan) h) (now ps) (now ts))) ≤ length (now buffer) ⌝ }
-    ensures { λ r. ⌜ Answers (keeping (netFrom (now (plan .entry)) h) (now (ps .entry)) (now (ts .entry))) (now (buffer .entry)) (now (buffer .exit)) r ⌝ }
+    requires { ⌜ length (sliceBytes (h .edition) (keeping (netFrom (now plan) h) (now ps) (now ts))) ≤ length (now buffer) ⌝ }
+    ensures { λ r. ⌜ Answers (h .edition) (keeping (netFrom (now (plan .entry)) h) (now (ps .entry)) (now (ts .entry))) (now (buffer .entry)) (now (buffer .exit)) r ⌝ }
 {
-    let start = 4 * ps.len();
-    slice_parts::write_markings(plan, h, ps, buffer);
+    let start = file::places_length(h.edition, ps.len());
+    slice_parts::write_places(plan, h, ps, buffer);
     let middle = slice_arcs::write_arcs(
         plan,
         h.arcstart,
@@ -53,7 +53,8 @@ fn write_parts(
     let body = end + 2 * ts.len();
     slice_parts::write_origins(ps, middle, buffer);
     slice_parts::write_origins(ts, end, buffer);
-    slice_parts::write_trailer(ps.len(), ts.len(), (middle - start) / 8, body, buffer);
+    let arcs = (middle - start) / 8;
+    slice_parts::write_trailer(h.edition, ps.len(), ts.len(), arcs, body, buffer);
     let bytes = (body + 16) as u32;
     let kept_places = ps.len() as u32;
     let kept_transitions = ts.len() as u32;
@@ -73,9 +74,9 @@ fn write_if_room(
     requires { ⌜ Sound (now plan) h ⌝ }
     requires { ⌜ Lists h (now ps) (now ts) ⌝ }
     requires { ⌜ Tables h (now ps) (now ts) (now places) (now transitions) ⌝ }
-    ensures { λ r. ⌜ Answers (keeping (netFrom (now (plan .entry)) h) (now (ps .entry)) (now (ts .entry))) (now (buffer .entry)) (now (buffer .exit)) r ⌝ }
+    ensures { λ r. ⌜ Answers (h .edition) (keeping (netFrom (now (plan .entry)) h) (now (ps .entry)) (now (ts .entry))) (now (buffer .entry)) (now (buffer .exit)) r ⌝ }
 {
-    let rest = 6 * ps.len() + 2 * ts.len() + 16;
+    let rest = file::places_length(h.edition, ps.len()) + 2 * ps.len() + 2 * ts.len() + 16;
     if rest + 8 * h.arcs <= buffer.len() {
         return write_parts(plan, h, ps, ts, places, transitions, buffer);
     }
@@ -99,7 +100,7 @@ fn write_lists(
     requires { ⌜ Sound (now plan) h ⌝ }
     requires { ⌜ Lists h (now ps) (now ts) ⌝ }
     requires { ⌜ Cleared (h .places) (now places) × Cleared (h .transitions) (now transitions) ⌝ }
-    ensures { λ r. ⌜ Answers (keeping (netFrom (now (plan .entry)) h) (now (ps .entry)) (now (ts .entry))) (now (buffer .entry)) (now (buffer .exit)) r ⌝ }
+    ensures { λ r. ⌜ Answers (h .edition) (keeping (netFrom (now (plan .entry)) h) (now (ps .entry)) (now (ts .entry))) (now (buffer .entry)) (now (buffer .exit)) r ⌝ }
 {
     slice_members::positions(ps, places);
     slice_members::positions(ts, transitions);
@@ -132,7 +133,7 @@ fn write_sets(
     requires { ⌜ Within kept h ⌝ }
     requires { ⌜ (h .places ≤ length (now ps)) × (h .transitions ≤ length (now ts)) ⌝ }
     requires { ⌜ Cleared (h .places) (now places) × Cleared (h .transitions) (now transitions) ⌝ }
-    ensures { λ r. ⌜ Answers (keptSlice (now (plan .entry)) h kept) (now (buffer .entry)) (now (buffer .exit)) r ⌝ }
+    ensures { λ r. ⌜ Answers (h .edition) (keptSlice (now (plan .entry)) h kept) (now (buffer .entry)) (now (buffer .exit)) r ⌝ }
 {
     let kept_places = kept.places;
     let kept_transitions = kept.transitions;
@@ -146,7 +147,7 @@ fn write_small(plan: &[u8], h: Header, kept: KeptSets, buffer: &mut [u8]) -> Cut
     requires { ⌜ Sound (now plan) h ⌝ }
     requires { ⌜ Within kept h ⌝ }
     requires { ⌜ (h .places ≤ 16) × (h .transitions ≤ 16) ⌝ }
-    ensures { λ r. ⌜ Answers (keptSlice (now (plan .entry)) h kept) (now (buffer .entry)) (now (buffer .exit)) r ⌝ }
+    ensures { λ r. ⌜ Answers (h .edition) (keptSlice (now (plan .entry)) h kept) (now (buffer .entry)) (now (buffer .exit)) r ⌝ }
 {
     let mut ps = [0u16; SMALL];
     let mut ts = [0u16; SMALL];
@@ -169,7 +170,7 @@ fn write_middle(plan: &[u8], h: Header, kept: KeptSets, buffer: &mut [u8]) -> Cu
     requires { ⌜ Sound (now plan) h ⌝ }
     requires { ⌜ Within kept h ⌝ }
     requires { ⌜ (h .places ≤ 128) × (h .transitions ≤ 128) ⌝ }
-    ensures { λ r. ⌜ Answers (keptSlice (now (plan .entry)) h kept) (now (buffer .entry)) (now (buffer .exit)) r ⌝ }
+    ensures { λ r. ⌜ Answers (h .edition) (keptSlice (now (plan .entry)) h kept) (now (buffer .entry)) (now (buffer .exit)) r ⌝ }
 {
     let mut ps = [0u16; MIDDLE];
     let mut ts = [0u16; MIDDLE];
@@ -191,7 +192,7 @@ fn write_middle(plan: &[u8], h: Header, kept: KeptSets, buffer: &mut [u8]) -> Cu
 fn write_large(plan: &[u8], h: Header, kept: KeptSets, buffer: &mut [u8]) -> Cut
     requires { ⌜ Sound (now plan) h ⌝ }
     requires { ⌜ Within kept h ⌝ }
-    ensures { λ r. ⌜ Answers (keptSlice (now (plan .entry)) h kept) (now (buffer .entry)) (now (buffer .exit)) r ⌝ }
+    ensures { λ r. ⌜ Answers (h .edition) (keptSlice (now (plan .entry)) h kept) (now (buffer .entry)) (now (buffer .exit)) r ⌝ }
 {
     let mut ps = [0u16; LARGE];
     let mut ts = [0u16; LARGE];
@@ -213,8 +214,8 @@ fn write_large(plan: &[u8], h: Header, kept: KeptSets, buffer: &mut [u8]) -> Cut
 pub fn write(plan: &[u8], h: Header, kept: KeptSets, buffer: &mut [u8]) -> Cut
     requires { ⌜ Sound (now plan) h ⌝ }
     requires { ⌜ Within kept h ⌝ }
-    ensures answer { λ r. ⌜ cutNumbers r ≡ cutAnswer (roomRefusal (length (now (buffer .entry))) (keptSlice (now (plan .entry)) h kept)) (length (sliceBytes (keptSlice (now (plan .entry)) h kept))) (keptSlice (now (plan .entry)) h kept) ⌝ }
-    ensures buffer { λ r. ⌜ now (buffer .exit) ≡ written (roomRefusal (length (now (buffer .entry))) (keptSlice (now (plan .entry)) h kept)) (sliceBytes (keptSlice (now (plan .entry)) h kept)) (now (buffer .entry)) ⌝ }
+    ensures answer { λ r. ⌜ cutNumbers r ≡ cutAnswer (roomRefusal (h .edition) (length (now (buffer .entry))) (keptSlice (now (plan .entry)) h kept)) (length (sliceBytes (h .edition) (keptSlice (now (plan .entry)) h kept))) (keptSlice (now (plan .entry)) h kept) ⌝ }
+    ensures buffer { λ r. ⌜ now (buffer .exit) ≡ written (roomRefusal (h .edition) (length (now (buffer .entry))) (keptSlice (now (plan .entry)) h kept)) (sliceBytes (h .edition) (keptSlice (now (plan .entry)) h kept)) (now (buffer .entry)) ⌝ }
 {
     if h.places <= SMALL {
         if h.transitions <= SMALL {

@@ -1,2 +1,2 @@
-pub mod Markings
+pub mod Places
 pub mod Trailer

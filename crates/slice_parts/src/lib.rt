@@ -1,22 +1,25 @@
-// The parts of a slice file that are not its arcs: markings, origins, trailer.
+// The parts of a slice file that are not its arcs: places, origins, trailer.
 ghost use mathlib.Core.Path.{_≡_};
+ghost use mathlib.Core.Logic.{_≢_};
 ghost use Prim.Native.Nat.{ℕ, _+_, _*_, _<_, _≤_};
 ghost use lib.ListN.{length, getD};
 ghost use lib.Seq.{sets};
 ghost use Rattle.file.specs.Facts.{Placed};
-ghost use Rattle.file.specs.Layout.{netFrom};
+ghost use Rattle.file.specs.Layout.{netFrom, placesLength};
 ghost use Rattle.file.specs.Writing.{originsBytes};
-ghost use Rattle.slice_parts.specs.Markings.{keptMarkings};
+ghost use Rattle.slice_parts.specs.Places.{keptPlaceBytes};
 ghost use Rattle.slice_parts.specs.Trailer.{trailerFor};
+use file::CAPS;
 use file::Header;
 use file::tail::LETTERS;
 
-// Writes the markings of the kept places.
-pub fn write_markings(plan: &[u8], h: Header, ps: &[u16], buffer: &mut [u8])
+// Writes the kept places in an edition without caps: 4 bytes each, the marking.
+fn write_markings(plan: &[u8], h: Header, ps: &[u16], buffer: &mut [u8])
     requires { ⌜ Placed (length (now plan)) h ⌝ }
+    requires { ⌜ h .edition ≢ 2 ⌝ }
     requires { ⌜ ((i : ℕ) → i < length (now ps) → getD (now ps) i 0 < h .places) ⌝ }
     requires { ⌜ 4 * length (now ps) ≤ length (now buffer) ⌝ }
-    ensures { λ _. ⌜ now (buffer .exit) ≡ sets (now (buffer .entry)) 0 (keptMarkings (netFrom (now (plan .entry)) h .marking) (now (ps .entry))) ⌝ }
+    ensures { λ _. ⌜ now (buffer .exit) ≡ sets (now (buffer .entry)) 0 (keptPlaceBytes (h .edition) (netFrom (now (plan .entry)) h) (now (ps .entry))) ⌝ }
 {
     let mut i: usize = 0;
     while i < ps.len() {
@@ -24,6 +27,39 @@ pub fn write_markings(plan: &[u8], h: Header, ps: &[u16], buffer: &mut [u8])
         let tokens = file::marking(plan, h, p);
         slice_put::put32(buffer, 4 * i, tokens);
         i += 1;
+    }
+}
+
+// Writes them with caps: 8 bytes each, the marking, then the cap.
+fn write_capped(plan: &[u8], h: Header, ps: &[u16], buffer: &mut [u8])
+    requires { ⌜ Placed (length (now plan)) h ⌝ }
+    requires { ⌜ h .edition ≡ 2 ⌝ }
+    requires { ⌜ ((i : ℕ) → i < length (now ps) → getD (now ps) i 0 < h .places) ⌝ }
+    requires { ⌜ 8 * length (now ps) ≤ length (now buffer) ⌝ }
+    ensures { λ _. ⌜ now (buffer .exit) ≡ sets (now (buffer .entry)) 0 (keptPlaceBytes (h .edition) (netFrom (now (plan .entry)) h) (now (ps .entry))) ⌝ }
+{
+    let mut i: usize = 0;
+    while i < ps.len() {
+        let p = ps[i] as usize;
+        let held = file::marking(plan, h, p);
+        let most = file::cap(plan, h, p);
+        slice_put::put32(buffer, 8 * i, held);
+        slice_put::put32(buffer, 8 * i + 4, most);
+        i += 1;
+    }
+}
+
+// Writes the kept places in the plan's edition.
+pub fn write_places(plan: &[u8], h: Header, ps: &[u16], buffer: &mut [u8])
+    requires { ⌜ Placed (length (now plan)) h ⌝ }
+    requires { ⌜ ((i : ℕ) → i < length (now ps) → getD (now ps) i 0 < h .places) ⌝ }
+    requires { ⌜ placesLength (h .edition) (length (now ps)) ≤ length (now buffer) ⌝ }
+    ensures { λ _. ⌜ now (buffer .exit) ≡ sets (now (buffer .entry)) 0 (keptPlaceBytes (h .edition) (netFrom (now (plan .entry)) h) (now (ps .entry))) ⌝ }
+{
+    if h.edition == CAPS {
+        write_capped(plan, h, ps, buffer);
+    } else {
+        write_markings(plan, h, ps, buffer);
     }
 }
 
@@ -39,18 +75,23 @@ pub fn write_origins(list: &[u16], start: usize, buffer: &mut [u8])
     }
 }
 
-// Kind 1, and edition 1 in the byte after it.
-const KIND_AND_EDITION: usize = 257;
-
-// Writes the trailer after a body of `body` bytes.
-pub fn write_trailer(places: usize, transitions: usize, arcs: usize, body: usize, buffer: &mut [u8])
+// Writes the trailer of that edition after a body of `body` bytes. The kind is 1, the edition the byte after it.
+pub fn write_trailer(
+    edition: usize,
+    places: usize,
+    transitions: usize,
+    arcs: usize,
+    body: usize,
+    buffer: &mut [u8],
+)
+    requires { ⌜ edition ≤ 2 ⌝ }
     requires { ⌜ body + 16 ≤ length (now buffer) ⌝ }
-    ensures { λ _. ⌜ now (buffer .exit) ≡ sets (now (buffer .entry)) body (trailerFor body places transitions arcs) ⌝ }
+    ensures { λ _. ⌜ now (buffer .exit) ≡ sets (now (buffer .entry)) body (trailerFor edition body places transitions arcs) ⌝ }
 {
     slice_put::put32(buffer, body, body);
     slice_put::put16(buffer, body + 4, places);
     slice_put::put16(buffer, body + 6, transitions);
     slice_put::put16(buffer, body + 8, arcs);
-    slice_put::put16(buffer, body + 10, KIND_AND_EDITION);
+    slice_put::put16(buffer, body + 10, 1 + 256 * edition);
     slice_put::put32(buffer, body + 12, LETTERS);
 }

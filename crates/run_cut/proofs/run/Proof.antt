@@ -5,7 +5,7 @@ use Rattle.file.specs.Layout.{netFrom}
 use Rattle.promise.specs.Firing.{listRefusal, replayOr}
 use Rattle.replay.specs.Told.{outcomeNumbers}
 use Rattle.replay.specs.declared.Outcome.the-variants.{Fired}
-use Rattle.run_cut.proofs.Outcomes.{refused-list, stuck-list, given, fired-list}
+use Rattle.run_cut.proofs.Outcomes.{refused-list, short-list, full-list, given, fired-list}
 use Rattle.run_cut.proofs.run.Statement.{statement}
 use Rattle.run_cut.proofs.run.Tie as tie
 
@@ -30,6 +30,9 @@ enum-known-outcome c = search needs
 enum-known-outcome-2 : tie.Need-enum-known-outcome-2
 enum-known-outcome-2 c = search needs
 
+enum-known-outcome-3 : tie.Need-enum-known-outcome-3
+enum-known-outcome-3 c = search needs
+
 enum-told : tie.Need-enum-told
 enum-told c = search needs
 
@@ -49,7 +52,13 @@ returns-2 : tie.Need-returns-2
 returns-2 c =
     let fared = c .before .before .before in
     let s = call fared in
-    stuck-list _ (s .args .h) _ _ _ _ _ _ _ (sym (ap outcomeNumbers (c .before .outcome2 .given .1)) ∙ fared .fares .ensures)
+    short-list _ (s .args .h) _ _ _ _ _ _ _ (sym (ap outcomeNumbers (c .before .outcome2 .given .1)) ∙ fared .fares .ensures)
+
+returns-3 : tie.Need-returns-3
+returns-3 c =
+    let fared = c .before .before .before in
+    let s = call fared in
+    full-list _ (s .args .h) _ _ _ _ _ _ _ (sym (ap outcomeNumbers (c .before .outcome3 .given .1)) ∙ fared .fares .ensures)
 
 same-length : tie.Need-same-length
 same-length c = search needs
@@ -57,8 +66,8 @@ same-length c = search needs
 same-length-2 : tie.Need-same-length-2
 same-length-2 c = search needs
 
-returns-3 : tie.Need-returns-3
-returns-3 c =
+returns-4 : tie.Need-returns-4
+returns-4 c =
     let done = c .before .before .before .before in
     let told = done .before .before .before in
     let s = call (fared-of told) in
@@ -71,10 +80,12 @@ run-spec =
     fares-requires
     enum-known-outcome
     enum-known-outcome-2
+    enum-known-outcome-3
     enum-told
     write-fed-requires
     returns
     returns-2
+    returns-3
     same-length
     same-length-2
-    returns-3)
+    returns-4)

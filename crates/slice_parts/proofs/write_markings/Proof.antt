@@ -7,16 +7,15 @@ use lib.Seq.{sets}
 use Rattle.file.specs.Layout.{netFrom}
 use Rattle.file.specs.Word.{bytes32}
 use Rattle.file.proofs.Bytes.{length-32}
-use Rattle.file.specs.Writing.{markingsBytes}
 use Rattle.tables.proofs.Storing.{Storing, storing-all, storing-as, storing-part, storing-none}
-use Rattle.slice_parts.specs.Markings.{keptMarkings}
-use Rattle.slice_parts.proofs.Steps.{markings-next, markings-end}
+use Rattle.slice_parts.specs.Places.{keptPlaceBytes}
+use Rattle.slice_parts.proofs.Steps.{placesFrom, places-all, markings-next, places-end}
 use Rattle.slice_parts.proofs.write_markings.Statement.{statement}
 use Rattle.slice_parts.proofs.write_markings.Tie as tie
 
 abbrev Inv-loop : tie.InvT-loop
 Inv-loop plan h ps buffer₀ i₀ buffer i =
-    (i ≤ length ps) × Storing buffer₀ 0 (keptMarkings (netFrom plan h .marking) ps) buffer (4 * i) (markingsBytes (λ k. netFrom plan h .marking (getD ps k 0)) i (length ps - i))
+    (i ≤ length ps) × Storing buffer₀ 0 (keptPlaceBytes (h .edition) (netFrom plan h) ps) buffer (4 * i) (placesFrom plan h ps i)
 
 abbrev μ-loop : tie.MeasureT-loop
 μ-loop plan h ps buffer₀ i₀ buffer i = length ps - i
@@ -32,8 +31,7 @@ turn-of c = c .before .before .before
 loop-holds : tie.Need-loop-holds Inv-loop μ-loop
 loop-holds c =
     let args = c .before .before .before .args in
-    let all : length (args .ps .now) ≡ length (args .ps .now) - 0 = omega arith in
-    (search needs, storing-as (storing-all _ _ _) (ap (markingsBytes (λ k. netFrom (args .plan .now) (args .h) .marking (getD (args .ps .now) k 0)) 0) all))
+    (search needs, storing-as (storing-all _ _ _) (places-all (args .plan .now) (args .h) (args .ps .now)))
 
 mul-p : tie.Need-mul-p Inv-loop μ-loop
 mul-p c = search needs
@@ -48,17 +46,17 @@ marking-requires : tie.Need-marking-requires Inv-loop μ-loop
 marking-requires c κs =
     let t = c .before in
     let s = call (t .before) in
-    (s .pre .0, s .pre .1 .0 (t .before .loop .i) (t .loop-test .taken))
+    (s .pre .0, s .pre .1 .1 .0 (t .before .loop .i) (t .loop-test .taken))
 
 mul-put32 : tie.Need-mul-put32 Inv-loop μ-loop
 mul-put32 c =
     let t = turn-of c in
-    omega (arith, call (t .before) .pre .1 .1, t .loop-test .taken)
+    omega (arith, call (t .before) .pre .1 .1 .1, t .loop-test .taken)
 
 put32-requires : tie.Need-put32-requires Inv-loop μ-loop
 put32-requires c κs =
     let t = turn-of c in
-    omega (arith, call (t .before) .pre .1 .1, t .loop-test .taken, t .before .loop .inv .1 .long)
+    omega (arith, call (t .before) .pre .1 .1 .1, t .loop-test .taken, t .before .loop .inv .1 .long)
 
 add-i : tie.Need-add-i Inv-loop μ-loop
 add-i c = search needs
@@ -72,22 +70,20 @@ loop-again c =
     let t = turn-of (put .before) in
     let at = t .before .loop in
     let s = call (t .before) in
-    let M = netFrom (s .args .plan .now) (s .args .h) .marking in
-    let ps = s .args .ps .now in
-    let p = getD ps (at .i) 0 in
-    let next = markings-next (λ k. M (getD ps k 0)) (at .i) (length ps) (t .loop-test .taken) in
+    let p = getD (s .args .ps .now) (at .i) 0 in
+    let tokens = netFrom (s .args .plan .now) (s .args .h) .marking p in
+    let next = markings-next (s .args .plan .now) (s .args .h) (s .args .ps .now) (at .i) (s .pre .1 .0) (t .loop-test .taken) in
     let stored = put .put32 .ensures ∙ ap (λ (m : ℕ). sets (at .buffer) (4 * at .i) (bytes32 m)) (put .before .before .marking .ensures .0) in
-    (omega arith, storing-part (bytes32 (M p)) _ _ _ (storing-as (at .inv .1) next) stored (omega (arith, length-32 (M p))))
+    (omega arith, storing-part (bytes32 tokens) _ _ _ (storing-as (at .inv .1) next) stored (omega (arith, length-32 tokens)))
 
 same-length : tie.Need-same-length Inv-loop μ-loop
 same-length c = c .before .loop .inv .1 .long
 
 returns : tie.Need-returns Inv-loop μ-loop
 returns c =
-    let s = call (c .before) in
+    let args = call (c .before) .args in
     let at = c .before .loop in
-    let ps = s .args .ps .now in
-    storing-none (storing-as (at .inv .1) (markings-end (λ k. netFrom (s .args .plan .now) (s .args .h) .marking (getD ps k 0)) (at .i) (length ps) (c .loop-test .left)))
+    storing-none (storing-as (at .inv .1) (places-end (args .plan .now) (args .h) (args .ps .now) (at .i) (c .loop-test .left)))
 
 pub write-markings-spec : {M : Type 1} → statement M
 write-markings-spec =
