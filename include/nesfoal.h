@@ -1,9 +1,10 @@
 /* nesfoal.h: the calls of the Nesfoal slicer for C.
  *
- * Plans and slices are place/transition nets in byte strings: markings, arcs and, in a slice, the plan's numbers of
- * its places and transitions (docs/FORMAT.md has them byte by byte). Places and transitions are numbered from 0.
+ * Plans and slices are place/transition nets in byte strings: markings, in edition 2 caps, arcs and, in a slice, the plan's
+ * numbers of its places and transitions (docs/FORMAT.md has them byte by byte). Places and transitions are numbered from 0.
  * Several arcs may join the same place and transition in the same direction: what a transition takes from a place, or
- * adds to it, is the sum of their weights, in every call.
+ * adds to it, is the sum of their weights, in every call. A place that has a cap never holds more tokens: a firing that
+ * would leave it above its cap is not enabled.
  *
  * What a caller sees to
  * - A byte string, a list and a lent buffer are each a pointer and a count of entries. As many entries can be read there, and
@@ -37,7 +38,7 @@
 #include <stdint.h>
 
 /* One more with each change of a call, of a number or of the files, so that a program can refuse to be built with another. */
-#define NESFOAL_VERSION 7
+#define NESFOAL_VERSION 8
 
 /* The limits of a file, and of a list that a call takes. */
 #define NESFOAL_MAX_FILE_BYTES 65536
@@ -47,11 +48,11 @@
 #define NESFOAL_MAX_LIST_ENTRIES 65535
 
 /* Room that always suffices, whatever the plan and the list, so that 13 is not met: bytes for the slice that a cut writes,
- * 40,976 (4 for a marking, 8 for an arc, 2 for an origin, 16 for the trailer); entries for a marking, of a replay or of what
- * nesfoal_together leaves; entries for a shadow; entries for the positions of a run cut.
+ * 45,072 (8 for a marking and a cap, 8 for an arc, 2 for an origin, 16 for the trailer); entries for a marking, of a replay or
+ * of what nesfoal_together leaves; entries for a shadow; entries for the positions of a run cut.
  */
 #define NESFOAL_SLICE_ROOM \
-    (4 * NESFOAL_MAX_PLACES + 8 * NESFOAL_MAX_ARCS + 2 * NESFOAL_MAX_PLACES + 2 * NESFOAL_MAX_TRANSITIONS + 16)
+    (8 * NESFOAL_MAX_PLACES + 8 * NESFOAL_MAX_ARCS + 2 * NESFOAL_MAX_PLACES + 2 * NESFOAL_MAX_TRANSITIONS + 16)
 #define NESFOAL_MARKING_ROOM NESFOAL_MAX_PLACES
 #define NESFOAL_SHADOW_ROOM NESFOAL_MAX_LIST_ENTRIES
 #define NESFOAL_POSITIONS_ROOM NESFOAL_MAX_LIST_ENTRIES
@@ -72,8 +73,8 @@
 #define NESFOAL_STACK_ARCS 1024
 
 /* What the calls return, but for nesfoal_arcs. In the order of checking: files come first (plan before slice), then
- * criterion, list or transition, marking, and last the buffer; each file is gone through from 1 to 8, its arcs one by one,
- * 6 before 7.
+ * criterion, list or transition, marking, and last the buffer; each file is gone through from 1 to 5, then 16, then its arcs
+ * one by one, 6 before 7, then 8. So a plan is refused with 1 to 7 or 16, a slice with 1 to 8 or 16: 'of the file' below.
  */
 enum {
     NESFOAL_DONE = 0,
@@ -96,11 +97,14 @@ enum {
     NESFOAL_REFUSED_BUFFER = 13,     /* buffer: shorter than what the call writes; always the last */
     NESFOAL_REFUSED_STUCK = 14,      /* list of a run cut: it sticks; comes after 12 */
     NESFOAL_REFUSED_MARKING = 15,    /* marking: not as many entries as the plan has places */
-    NESFOAL_LAST_REFUSAL = 15,       /* answers from 1 to this one are refusals */
+    NESFOAL_REFUSED_CAP = 16,        /* a place: its marking above its cap, if that is not 0; comes after 5 */
+    NESFOAL_REFUSED_CAPPED = 17,     /* plan of a run cut: some place has a cap; comes after the plan's own */
+    NESFOAL_LAST_REFUSAL = 17,       /* answers from 1 to this one are refusals */
 
-    NESFOAL_STUCK = 100,     /* of a replay or a run with its shadow: a transition is not enabled */
+    NESFOAL_STUCK = 100,     /* of a replay or a run with its shadow: a transition lacks tokens */
+    NESFOAL_FULL = 101,      /* of the same: it has them, and would leave a place above its cap */
     NESFOAL_UNLIMITED = 100, /* of nesfoal_together: the transition takes nothing */
-    NESFOAL_RULE = 100       /* of a check: plus the number of the broken rule, 1 to 8 */
+    NESFOAL_RULE = 100       /* of a check: plus the number of the broken rule, 1 to 10 */
 };
 
 #ifdef __cplusplus
@@ -114,12 +118,14 @@ extern "C" {
  *
  * criterion: places of the plan, strictly rising, 2 bytes each, low byte first. There may be none: then 105 and 106 do not
  * occur, and the slice of 16 bytes with no places and no transitions is the smallest that is accepted.
- * Returns 0 accepted; 1 to 10 a refusal (9 an odd count of bytes); 100 plus the number of the first rule broken:
+ * Returns 0 accepted; 1 to 10 or 16 a refusal (9 an odd count of bytes); 100 plus the number of the first rule broken:
  *   101 an origin that is no place of the plan        105 a place of the criterion that is not kept
  *   102 an origin that is no transition of the plan   106 a transition left out that changes a place of the criterion
- *   103 a marking other than the plan's               107 a kept transition with an input place that is not kept
+ *   103 a marking or a cap other than the plan's      107 a kept transition with an input place that is not kept
  *   104 arcs other than the plan's to kept places     108 a transition left out that raises a kept place
- * Rule 104 compares arc by arc: parallel arcs in another order, or joined into one, are other arcs.
+ *   109 a kept transition that adds to a place with a cap that is not kept
+ *   110 a transition left out that changes a kept place with a cap
+ * Rule 104 compares arc by arc: parallel arcs in another order, or joined into one, are other arcs. Editions are not compared.
  */
 uint32_t nesfoal_check(const uint8_t *plan, size_t plan_length,
                        const uint8_t *slice, size_t slice_length,
@@ -127,7 +133,7 @@ uint32_t nesfoal_check(const uint8_t *plan, size_t plan_length,
 
 /* The same with the criterion as numbers (criterion_count of them), and with the lowest number that breaks the rule put
  * into *number: the slice's place or transition for 101 and 102, the plan's place for 103 and 105, the plan's transition
- * for 104, 106, 107 and 108; 0 where the slice is accepted or the call is refused.
+ * for 104 and 106 to 110; 0 where the slice is accepted or the call is refused.
  */
 uint32_t nesfoal_verdict(const uint8_t *plan, size_t plan_length,
                          const uint8_t *slice, size_t slice_length,
@@ -136,7 +142,7 @@ uint32_t nesfoal_verdict(const uint8_t *plan, size_t plan_length,
 
 /* The effect of a transition on a place of a plan or a slice: by how much one firing changes the place's tokens.
  *
- * Returns 0 and puts the effect, from -268,431,360 to 268,431,360, into *effect; or returns a refusal: 1 to 8 of the
+ * Returns 0 and puts the effect, from -268,431,360 to 268,431,360, into *effect; or returns a refusal: that of the
  * file, then 10 for an unknown place, then 12 for an unknown transition, with 0 in *effect.
  */
 uint32_t nesfoal_effect(const uint8_t *file, size_t file_length,
@@ -145,11 +151,13 @@ uint32_t nesfoal_effect(const uint8_t *file, size_t file_length,
 
 /* Fires a list of transitions of a plan or a slice, one after the other, from the initial marking.
  *
- * Returns 0 where all fired; NESFOAL_STUCK where one is not enabled, with its index (from 0) in *index, the lowest-numbered
- * place that is short in *place and the tokens missing there, at least 1, in *amount; or a refusal: 1 to 8, 11, 12, and
- * 13 where marking has fewer entries than the net has places. *index, *place and *amount are 0 but where it is stuck.
+ * Returns 0 where all fired; NESFOAL_STUCK where one lacks tokens, with its index (from 0) in *index, the lowest-numbered
+ * place that is short in *place and the tokens missing there, at least 1, in *amount; NESFOAL_FULL where it lacks none but
+ * would leave a place above its cap, with its index, the lowest-numbered such place and the tokens above the cap, at least 1;
+ * or a refusal: that of the file, 11, 12, and 13 where marking has fewer entries than the net has places. *index, *place and
+ * *amount are 0 but where it is stuck or full.
  * The first entries of marking, one for each place, become the marking after all firings, or the one before the firing
- * that sticks; later entries keep their values. Every entry of such a marking is below 2 to the power 45.
+ * that is stuck or full; later entries keep their values. Every entry of such a marking is below 2 to the power 45.
  */
 uint32_t nesfoal_replay(const uint8_t *file, size_t file_length,
                         const uint16_t *list, size_t list_count,
@@ -158,12 +166,12 @@ uint32_t nesfoal_replay(const uint8_t *file, size_t file_length,
 
 /* A run and its shadow: fires a list of a plan's transitions as nesfoal_replay does, and carries what fired over to a slice.
  * The shadow is the slice's own number for each transition fired that the slice has, in order; the others are dropped. Where
- * the list sticks, that is the firings before the index.
- * In a slice that nesfoal_check accepts for the plan and a criterion the shadow always fires, whether the list sticks or not,
- * and ends there with the tokens of the marking written, on each place of the criterion.
+ * the list is stuck or full, that is the firings before the index.
+ * In a slice that nesfoal_check accepts for the plan and a criterion the shadow always fires, whether the list fires whole or
+ * not, and ends there with the tokens of the marking written, on each place of the criterion.
  *
- * Returns 0 or NESFOAL_STUCK, with marking, *index, *place and *amount as of nesfoal_replay, and puts how many numbers were
- * written to out into *count; or a refusal: 1 to 7 of the plan, 1 to 8 of the slice, 11, 12 (by the plan's transitions), 13
+ * Returns 0, NESFOAL_STUCK or NESFOAL_FULL, with marking, *index, *place and *amount as of nesfoal_replay, and puts how many
+ * numbers were written to out into *count; or a refusal: that of the plan, of the slice, 11, 12 (by the plan's transitions), 13
  * where marking has fewer entries than the plan has places, and then 13 where out has fewer than the shadow.
  * Later entries of marking and of out keep their values.
  */
@@ -176,11 +184,11 @@ uint32_t nesfoal_shadow(const uint8_t *plan, size_t plan_length,
 
 /* How many times can the inputs of a transition of a plan be taken together from a marking, and what is then left? The
  * answer is the largest k for which every place holds k times what the transition takes from it: for k + 1 some place is
- * short. What the transition adds does not count, nor does the plan's own marking.
+ * short. What the transition adds does not count, nor do caps, nor the plan's own marking.
  *
  * marking: the tokens of each place, as many entries as the plan has places, any numbers.
  * Returns 0, with k, from 0 to 2^64 - 1, in *times; NESFOAL_UNLIMITED, exactly where the transition takes nothing from any
- * place; or a refusal: 1 to 7, 12 for an unknown transition, 15 where marking_count is not the number of places, and 13
+ * place; or a refusal: that of the plan, 12 for an unknown transition, 15 where marking_count is not the number of places, and 13
  * where rest has fewer entries than that. *times is 0 but where k is put there.
  * The first entries of rest, one for each place, become the tokens less k times what is taken there, exactly; where it is
  * unlimited, the marking. Later entries keep their values.
@@ -192,11 +200,11 @@ uint32_t nesfoal_together(const uint8_t *plan, size_t plan_length,
                           uint64_t *times);
 
 /* The safety cut of a plan for a criterion (places of the plan, strictly rising): the smallest slice that nesfoal_check
- * accepts for them, written as a slice file without note. For no place either cut is the slice of 16 bytes with no places
- * and no transitions.
+ * accepts for them, written as a slice file without note, of the plan's edition. For no place either cut is the slice of 16
+ * bytes with no places and no transitions.
  *
  * Returns 0, with the file's length in *length and the numbers of kept places and transitions in *places and
- * *transitions; or a refusal: 1 to 7, 10, and 13 where slice is shorter than the file.
+ * *transitions; or a refusal: that of the plan, 10, and 13 where slice is shorter than the file.
  * Bytes of slice past the file's length keep their values.
  */
 uint32_t nesfoal_safety(const uint8_t *plan, size_t plan_length,
@@ -217,12 +225,12 @@ uint32_t nesfoal_branching(const uint8_t *plan, size_t plan_length,
  * where the chosen firings stand in the list, from 0 and rising. For no place it is the slice of 16 bytes, with none chosen.
  * Fired in order from the slice's marking, the chosen firings all fire, and leave each place of the criterion at least the
  * tokens that the list leaves there in the plan.
- * This slice is for that run: it says nothing of others, and nesfoal_check need not accept it.
+ * This slice is for that run: it says nothing of others, and nesfoal_check need not accept it. Plans with caps are refused.
  *
  * Returns 0, with *length, *places and *transitions as of nesfoal_safety and the number of positions written in *count; or a
- * refusal: 1 to 7, 10, 11, 12, 14 where the list sticks, with *index, *place and *amount as of nesfoal_replay, 13 where slice
- * is shorter than the file, and then 13 where positions has fewer entries than are chosen. Of *length, *places, *transitions
- * and *count all are 0 where it is refused; *index, *place and *amount are 0 but for 14.
+ * refusal: that of the plan, 17 where a place has a cap, 10, 11, 12, 14 where the list sticks, with *index, *place and *amount
+ * as of nesfoal_replay, 13 where slice is shorter than the file, and then 13 where positions has fewer entries than are chosen.
+ * Of *length, *places, *transitions and *count all are 0 where it is refused; *index, *place and *amount are 0 but for 14.
  * Later bytes of slice and later entries of positions keep their values.
  */
 uint32_t nesfoal_run_cut(const uint8_t *plan, size_t plan_length,

@@ -1,4 +1,4 @@
--- The shadow's promise, as a C program reads the answer: 0 and 100 are no refusals.
+-- The shadow's promise, as a C program reads the answer: 0, 100 and 101 are no refusals.
 use Prim.Native.Nat.{ℕ, zero, suc, _≤_}
 use mathlib.Core.Bool.{false}
 use mathlib.Core.List.{List}
@@ -21,9 +21,9 @@ at-0 : (n : ℕ) (a : Answer) (c : ℕ) → replayCode (shadowOr n a c .run) ≡
 at-0 zero a c e = told a
 at-0 (suc n) a c e = absurd (omega (arith, e))
 
-at-100 : (n : ℕ) (a : Answer) (c : ℕ) → n ≤ 13 → replayCode (shadowOr n a c .run) ≡ 100 → shadowOr n a c .run .refused ≡ false
-at-100 zero a c few e = told a
-at-100 (suc n) a c few e = absurd (omega (arith, e, few))
+stuck-at : (n : ℕ) (a : Answer) (c k : ℕ) → n ≤ 16 → 100 ≤ k → replayCode (shadowOr n a c .run) ≡ k → shadowOr n a c .run .refused ≡ false
+stuck-at zero a c k few high e = told a
+stuck-at (suc n) a c k few high e = absurd (omega (arith, e, few))
 
 module _ (plan slice list : List ℕ) (room space : ℕ) where
   abbrev answer : ShadowAnswer
@@ -33,9 +33,9 @@ module _ (plan slice list : List ℕ) (room space : ℕ) where
   unfolding shadowAnswer
   none-at-0 = at-0 (shadowRefusal plan slice list room space) (replay (netOf plan) list .answer) (length (shadowOf (netOf plan) (sliceOf slice) list))
 
-  none-at-100 : replayCode (answer .run) ≡ 100 → answer .run .refused ≡ false
+  none-stuck : (k : ℕ) → 100 ≤ k → replayCode (answer .run) ≡ k → answer .run .refused ≡ false
   unfolding shadowAnswer
-  none-at-100 = at-100 (shadowRefusal plan slice list room space) (replay (netOf plan) list .answer) (length (shadowOf (netOf plan) (sliceOf slice) list)) (shadow-le plan slice list room space)
+  none-stuck k = stuck-at (shadowRefusal plan slice list room space) (replay (netOf plan) list .answer) (length (shadowOf (netOf plan) (sliceOf slice) list)) k (shadow-le plan slice list room space)
 
   module _ (out : List ℕ) {m : List ℕ} {a : ShadowAnswer} {code count : ℕ} (e : a ≡ answer) (f : a .run .refused ≡ false → FollowedIn plan slice (take (a .count) out) m)
       (told : code ≡ replayCode (answer .run)) (counted : count ≡ answer .count) where
@@ -45,5 +45,5 @@ module _ (plan slice list : List ℕ) (room space : ℕ) where
     pub followed-fired : code ≡ 0 → FollowedIn plan slice (take count out) m
     followed-fired z = by (none-at-0 (sym told ∙ z))
 
-    pub followed-stuck : code ≡ 100 → FollowedIn plan slice (take count out) m
-    followed-stuck z = by (none-at-100 (sym told ∙ z))
+    pub followed-stuck : (k : ℕ) → 100 ≤ k → code ≡ k → FollowedIn plan slice (take count out) m
+    followed-stuck k high z = by (none-stuck k high (sym told ∙ z))

@@ -6,13 +6,14 @@ ghost use Rattle.replay.specs.Told.{outcomeNumbers};
 ghost use Rattle.nesfoal.specs.Replays.{replayCode};
 use replay::Outcome;
 
-// 0 where all fired, 100 where the list is stuck, else the number of a refusal.
+// 0 where all fired, 100 where the list is stuck on a place that is short, 101 on one that is full, else the number of a refusal.
 fn code(o: Outcome) -> u32
     ensures { λ r. ⌜ r ≡ replayCode (outcomeNumbers o) ⌝ }
 {
     match o {
         Outcome::Fired => 0,
-        Outcome::Stuck(_, _, _) => 100,
+        Outcome::Short(_, _, _) => 100,
+        Outcome::Full(_, _, _) => 101,
         Outcome::Refused(n) => n,
     }
 }
@@ -23,35 +24,38 @@ fn index_of(o: Outcome) -> u32
 {
     match o {
         Outcome::Fired => 0,
-        Outcome::Stuck(i, _, _) => i,
+        Outcome::Short(i, _, _) => i,
+        Outcome::Full(i, _, _) => i,
         Outcome::Refused(_) => 0,
     }
 }
 
-// The place that is short, 0 where the list is not stuck.
+// The place that is short or full, 0 where the list is not stuck.
 fn place_of(o: Outcome) -> u32
     ensures { λ r. ⌜ r ≡ outcomeNumbers o .place ⌝ }
 {
     match o {
         Outcome::Fired => 0,
-        Outcome::Stuck(_, p, _) => p,
+        Outcome::Short(_, p, _) => p,
+        Outcome::Full(_, p, _) => p,
         Outcome::Refused(_) => 0,
     }
 }
 
-// The tokens missing on that place, 0 where the list is not stuck.
+// The tokens missing on that place, or above its cap, 0 where the list is not stuck.
 fn amount_of(o: Outcome) -> u32
     ensures { λ r. ⌜ r ≡ outcomeNumbers o .amount ⌝ }
 {
     match o {
         Outcome::Fired => 0,
-        Outcome::Stuck(_, _, n) => n,
+        Outcome::Short(_, _, n) => n,
+        Outcome::Full(_, _, n) => n,
         Outcome::Refused(_) => 0,
     }
 }
 
-// Replay: 0 where all fired, 100 where the list is stuck, or the number of a refusal; index, place and the tokens
-// missing there go to the last three parameters, zeros where the list is not stuck.
+// Replay: 0 where all fired, 100 where the list is stuck on a place that is short, 101 on one that is full, or the number of a refusal; index,
+// place and the tokens missing there, or above its cap, go to the last three parameters, zeros where the list is not stuck.
 #[no_mangle]
 pub extern "C" fn nesfoal_replay(
     file: &[u8],

@@ -6,13 +6,14 @@ ghost use Rattle.shadow.specs.Told.{shadowNumbers};
 ghost use Rattle.nesfoal.specs.Replays.{replayCode};
 use shadow::Shadow;
 
-// 0 where all fired, 100 where the list is stuck, else the number of a refusal.
+// 0 where all fired, 100 where the list is stuck on a place that is short, 101 on one that is full, else the number of a refusal.
 fn code(s: Shadow) -> u32
     ensures { λ r. ⌜ r ≡ replayCode (shadowNumbers s .run) ⌝ }
 {
     match s {
         Shadow::Fired(_) => 0,
-        Shadow::Stuck(_, _, _, _) => 100,
+        Shadow::Short(_, _, _, _) => 100,
+        Shadow::Full(_, _, _, _) => 101,
         Shadow::Refused(n) => n,
     }
 }
@@ -23,29 +24,32 @@ fn index_of(s: Shadow) -> u32
 {
     match s {
         Shadow::Fired(_) => 0,
-        Shadow::Stuck(i, _, _, _) => i,
+        Shadow::Short(i, _, _, _) => i,
+        Shadow::Full(i, _, _, _) => i,
         Shadow::Refused(_) => 0,
     }
 }
 
-// The place that is short, 0 where the list is not stuck.
+// The place that is short or full, 0 where the list is not stuck.
 fn place_of(s: Shadow) -> u32
     ensures { λ r. ⌜ r ≡ shadowNumbers s .run .place ⌝ }
 {
     match s {
         Shadow::Fired(_) => 0,
-        Shadow::Stuck(_, p, _, _) => p,
+        Shadow::Short(_, p, _, _) => p,
+        Shadow::Full(_, p, _, _) => p,
         Shadow::Refused(_) => 0,
     }
 }
 
-// The tokens missing on that place, 0 where the list is not stuck.
+// The tokens missing on that place, or above its cap, 0 where the list is not stuck.
 fn amount_of(s: Shadow) -> u32
     ensures { λ r. ⌜ r ≡ shadowNumbers s .run .amount ⌝ }
 {
     match s {
         Shadow::Fired(_) => 0,
-        Shadow::Stuck(_, _, n, _) => n,
+        Shadow::Short(_, _, n, _) => n,
+        Shadow::Full(_, _, n, _) => n,
         Shadow::Refused(_) => 0,
     }
 }
@@ -56,13 +60,14 @@ fn count_of(s: Shadow) -> u32
 {
     match s {
         Shadow::Fired(n) => n,
-        Shadow::Stuck(_, _, _, n) => n,
+        Shadow::Short(_, _, _, n) => n,
+        Shadow::Full(_, _, _, n) => n,
         Shadow::Refused(_) => 0,
     }
 }
 
-// A run and its shadow: 0 where all fired, 100 where the list is stuck, or the number of a refusal; index, place and the tokens missing there go
-// to the next three parameters, zeros where the list is not stuck; the count of the shadow goes to the last, 0 where the call is refused.
+// A run and its shadow: 0, 100 or 101 as of replay, or the number of a refusal; index, place and amount go to the next three parameters,
+// zeros where the list is not stuck; the count of the shadow goes to the last, 0 where the call is refused.
 #[no_mangle]
 pub extern "C" fn nesfoal_shadow(
     plan: &[u8],
@@ -83,7 +88,8 @@ pub extern "C" fn nesfoal_shadow(
     ensures amount { λ _. ⌜ now (amount .exit) ≡ shadowAnswer (now (plan .entry)) (now (slice .entry)) (now (list .entry)) (length (now (marking .entry))) (length (now (out .entry))) .run .amount ⌝ }
     ensures count { λ _. ⌜ now (count .exit) ≡ shadowAnswer (now (plan .entry)) (now (slice .entry)) (now (list .entry)) (length (now (marking .entry))) (length (now (out .entry))) .count ⌝ }
     ensures fired { λ r. ⌜ (r ≡ 0 → FollowedIn (now (plan .entry)) (now (slice .entry)) (take (now (count .exit)) (now (out .exit))) (now (marking .exit))) ⌝ }
-    ensures stuck { λ r. ⌜ (r ≡ 100 → FollowedIn (now (plan .entry)) (now (slice .entry)) (take (now (count .exit)) (now (out .exit))) (now (marking .exit))) ⌝ }
+    ensures short { λ r. ⌜ (r ≡ 100 → FollowedIn (now (plan .entry)) (now (slice .entry)) (take (now (count .exit)) (now (out .exit))) (now (marking .exit))) ⌝ }
+    ensures full { λ r. ⌜ (r ≡ 101 → FollowedIn (now (plan .entry)) (now (slice .entry)) (take (now (count .exit)) (now (out .exit))) (now (marking .exit))) ⌝ }
 {
     let s = call_firing::shadows::shadow(plan, slice, list, marking, out);
     *index = index_of(s);

@@ -5,7 +5,7 @@ ghost use Rattle.file.specs.Layout.{netOf, sliceOf};
 ghost use Rattle.file.specs.Criterion.{criterionOf};
 ghost use Rattle.promise.specs.Calls.{checked, checkedBytes};
 
-// Check, the criterion as 2 bytes a place, low byte first: 0 accepted, 1 to 13 a refusal, 100 plus the rule otherwise.
+// Check, the criterion as 2 bytes a place, low byte first: 0 accepted, 1 to 10 or 16 a refusal, 100 plus the rule otherwise.
 #[no_mangle]
 pub extern "C" fn nesfoal_check(plan: &[u8], slice: &[u8], q: &[u8]) -> u32
     ensures answer { λ r. ⌜ r ≡ checkedBytes (now (plan .entry)) (now (slice .entry)) (now (q .entry)) ⌝ }

@@ -1,4 +1,5 @@
 use mathlib.Core.Path.{_∙_, ap}
+use native.Mathlib.Omega.{arith}
 use lib.ListN.{length}
 use Rattle.promise.specs.Shadow.{ShadowAnswer}
 use Rattle.nesfoal.specs.Replays.{replayCode}
@@ -55,7 +56,7 @@ returns c =
     let count = c .before .count-of .ensures ∙ ap (λ (x : ShadowAnswer). x .count) (e .0) in
     let fired = followed-fired (a .plan .now) (a .slice .now) (a .list .now) (length (a .marking .now)) (length (a .out .now)) out (e .0) (e .1 .1 .1) code count in
     let stuck = followed-stuck (a .plan .now) (a .slice .now) (a .list .now) (length (a .marking .now)) (length (a .out .now)) out (e .0) (e .1 .1 .1) code count in
-    (code, (e .1 .0, (e .1 .1 .0, (index, (place, (amount, (count, (fired, stuck))))))))
+    (code, (e .1 .0, (e .1 .1 .0, (index, (place, (amount, (count, (fired, (stuck 100 (omega arith), stuck 101 (omega arith))))))))))
 
 pub nesfoal-shadow-spec : {M : Type 1} → statement M
 nesfoal-shadow-spec =
