@@ -87,7 +87,7 @@ is_text() {
 # entries NAME FILE TO: the numbers of a text, as many bytes each as the width says, into the file TO; of an answer of shadow, or, for a
 # marking, of replay or together, the numbers that end it. As many as a list may have, and one more.
 entries() {
-    local codes most=65536 largest=65535 first='^(fired|stuck|shadow)$' last='^shadow$'
+    local codes most=65536 largest=65535 first='^(fired|stuck|full|shadow)$' last='^shadow$'
     if [ "$width" -eq 8 ]; then most=1025 largest=18446744073709551615 first='^(fired|taken|unlimited,)$' last='^(ending|leaving)$'; fi
     codes=$(head -c $((longest + 1)) -- "$2" | tr -s '\11-\15\40' '\n' | awk -v width="$width" -v most="$most" -v largest="$largest" \
         -v first="$first" -v last="$last" '

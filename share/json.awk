@@ -84,7 +84,7 @@ function arcs(s,    w, n, i, out, part) {
     return "[" out "]"
 }
 
-# A place or transition of show: `place 0 (the plan's 4): 2 tokens`
+# A place or transition of show: `place 0 (the plan's 4): 2 tokens, holds 3`
 function item(s,    w, own) {
     split(s, w, " ")
     own = w[2]
@@ -94,7 +94,7 @@ function item(s,    w, own) {
         split(after(s, "(the plan's "), w, ")")
         own = own field("origin", w[1])
     }
-    if (s ~ /^place/) return own field("tokens", count(s, "token"))
+    if (s ~ /^place/) return own field("tokens", count(s, "token")) (s ~ /, holds [0-9]+$/ ? field("cap", after(s, ", holds ")) : "")
     return own ",\"arcs\":" arcs(after(s, ": "))
 }
 
@@ -123,10 +123,10 @@ function ended(s) {
     return substr(s, 1, length(s) - length(lines[NR]) - 1)
 }
 
-# `stuck at index 3: transition 0, place 0 is short of 1`
+# `stuck at index 3: transition 0, place 0 is short of 1`, `full at index 3: transition 1, place 3 is over by 1`
 function stuck(s,    w) {
     split(s, w, " ")
-    return field("index", w[4] + 0) field("transition", w[6] + 0) field("place", w[8]) field("short", w[12])
+    return field("index", w[4] + 0) field("transition", w[6] + 0) field("place", w[8]) field(w[10], w[12])
 }
 
 # How many bytes the note of show's first line has.
@@ -147,7 +147,7 @@ function shown(    n, left) {
 function each(    i, s) {
     for (i = 1; i <= NR; i++) {
         s = lines[i]
-        shadow = s ~ /^(fired|stuck) / && i < NR && lines[i + 1] ~ /^shadow( |$)/ ? ",\"shadow\":" numbers(substr(lines[++i], 7)) : ""
+        shadow = s ~ /^(fired|stuck|full) / && i < NR && lines[i + 1] ~ /^shadow( |$)/ ? ",\"shadow\":" numbers(substr(lines[++i], 7)) : ""
         if (s != "") told(s)
     }
 }
@@ -165,8 +165,7 @@ function told(s,    w) {
         object("arcs", field("transition", w[5]) text("file", w[8]) ",\"arcs\":" arcs(after(s, ": ")))
     }
     else if (w[1] == "fired") object("fired", field("fired", w[2]) ",\"marking\":" numbers(after(s, ", ending")) shadow)
-    else if (w[1] == "stuck")
-        object("stuck", stuck(s) shadow)
+    else if (w[1] == "stuck" || w[1] == "full") object(w[1], stuck(s) shadow)
     else if (w[1] == "taken") object("taken", field("times", w[2]) ",\"leaving\":" numbers(after(s, ", leaving")))
     else if (w[1] == "unlimited,") object("unlimited", ",\"leaving\":" numbers(after(s, ", leaving")))
     else if (w[1] == "written") object("written", written(s))

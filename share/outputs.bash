@@ -55,7 +55,7 @@ cut_each() {
     make_room
     ask safety "$2" "$room/slice" 0 # refused for the plan's own sake, or because there is no place 0
     case $answer in
-        'error: '* | 'refused '[1-8]:*)
+        'error: '* | 'refused '[1-8]:* | 'refused 16:'*)
             tell "$answer"
             return
             ;;

@@ -1,8 +1,8 @@
 // run: the slice written to OUT, argument 3, and below it the chosen positions; or why not.
 use crate::cuts;
 use crate::lists;
+use crate::replays;
 use terminal::phrases;
-use terminal::say;
 use terminal::whole;
 use words::refusal;
 
@@ -27,14 +27,7 @@ pub fn written(
 }
 
 pub fn sticks(list: &[u16], index: u32, place: u32, amount: u32) {
-    let i = index as usize;
-    say::four(
-        phrases::STICKS,
-        i,
-        blame::numbers::entry(list, i),
-        place as usize,
-        amount as usize,
-    );
+    replays::at(phrases::STICKS, list, index, place, amount);
 }
 
 pub fn refused(n: u32, plan: &[u8], criterion: &[u16], list: &[u16]) {

@@ -29,13 +29,22 @@ pub fn fired(count: usize, marking: &[u64], places: usize) {
     tokens(marking, places);
 }
 
-pub fn stuck(list: &[u16], index: u32, place: u32, amount: u32) {
+// A form with the index, the transition there, the place and the amount.
+pub fn at(form: usize, list: &[u16], index: u32, place: u32, amount: u32) {
     let i = index as usize;
     say::four(
-        phrases::STUCK,
+        form,
         i,
         blame::numbers::entry(list, i),
         place as usize,
         amount as usize,
     );
+}
+
+pub fn full(list: &[u16], index: u32, place: u32, amount: u32) {
+    at(phrases::FULL, list, index, place, amount);
+}
+
+pub fn stuck(list: &[u16], index: u32, place: u32, amount: u32) {
+    at(phrases::STUCK, list, index, place, amount);
 }

@@ -4,9 +4,9 @@ use mathlib.Core.Path.{_≡_, refl, sym, ap, _∙_}
 use mathlib.Core.Bool.{true, false}
 use mathlib.Core.List.{List}
 use lib.ListN.{length}
-use lib.Dec.{ltb}
+use lib.Dec.{eqb, ltb}
 use native.Mathlib.Omega.{arith}
-use borrow.Author.Tests.{ltb-false, lt-ltb, le-ltb}
+use borrow.Author.Tests.{ltb-false, lt-ltb, le-ltb, eq-eqb}
 use Rattle.file.specs.Layout.{trailerOf, headerOf}
 use Rattle.file.specs.Refusal.{refuse, lengthWrong, trailerRefusal}
 use Rattle.file.specs.Facts.{Placed}
@@ -17,13 +17,15 @@ use Rattle.file.specs.declared.Reading.{Reading}
 use Rattle.file.specs.declared.Reading.the-variants.{Whole, Refused}
 use Rattle.file.proofs.Opening.{refuse-0, or-false, answer-whole, trailer-placed}
 use Rattle.file.proofs.Laws.{slice-part}
-use Rattle.file.specs.Word.{byteAt, le16}
-use Rattle.file.specs.Layout.{arcAt}
+use Rattle.file.specs.Word.{byteAt, le16, le32}
+use Rattle.file.specs.Layout.{placesLength, arcAt}
 use Rattle.net.specs.declared.Arc.{Arc}
 use Rattle.blame.specs.Head.{headRefusal, heading}
 use Rattle.blame.specs.Arcs.{arcsPassed, arcOf}
 use Rattle.blame.specs.Origins.{tablePassed, inTables, originOf, ofKind}
+use Rattle.blame.specs.Capacity.{capsPassed, placeOf}
 use Rattle.blame.specs.declared.arcs.BadArc.{BadArc}
+use Rattle.blame.specs.declared.capacity.BadPlace.{BadPlace}
 use Rattle.blame.specs.declared.origins.BadOrigin.{BadOrigin}
 
 answer-stop : (n : ℕ) (g : Header) → (n ≡ 0 → ⊥) → Refused n ≡ answer n g
@@ -61,6 +63,13 @@ module _ (s : List ℕ) where
 pub tables-inside : {n : ℕ} {h : Header} → Placed n h → (h .kind ≡ 0 → ⊥) → h .originstart + 2 * h .places + 2 * h .transitions + 16 ≤ n
 tables-inside {n} {h} p z = omega (arith, p .originsFit, slice-part (h .kind) (2 * h .places + 2 * h .transitions) z)
 
+-- the places of edition 2, with their caps, lie before it too
+pub places-inside : {n : ℕ} {h : Header} → Placed n h → h .edition ≡ 2 → h .markstart + 8 * h .places + 16 ≤ n
+places-inside {n} {h} p z = omega (arith, p .markingsFit, p .arcsFit, p .originsFit, two)
+  where
+    two : placesLength (h .edition) (h .places) ≡ 8 * h .places
+    two = rw (eq-eqb (h .edition) 2 z)
+
 -- the answers, by their fields
 module _ (s : List ℕ) {r : Reading} {h : Header} (read : r ≡ heading s) (whole : r ≡ Whole h) where
   whole-is : heading s ≡ Whole h
@@ -71,6 +80,15 @@ module _ (s : List ℕ) {r : Reading} {h : Header} (read : r ≡ heading s) (who
       → _≡_ {A = BadArc} (record { index = k; arc = a; spare = spare }) (arcOf s (heading s))
   unfolding arcOf
   arc-answer k spare a e f g = rw (whole-is, f, g, e)
+
+  pub no-places : eqb (h .edition) 2 ≡ false → _≡_ {A = BadPlace} (record { place = 0; marking = 0; cap = 0 }) (placeOf s (heading s))
+  unfolding placeOf
+  no-places e = rw (whole-is, e)
+
+  pub place-answer : eqb (h .edition) 2 ≡ true → (p m c : ℕ) → p ≡ capsPassed s (h .markstart) (h .places) → m ≡ le32 s (h .markstart + 8 * p) → c ≡ le32 s (h .markstart + 8 * p + 4)
+      → _≡_ {A = BadPlace} (record { place = p; marking = m; cap = c }) (placeOf s (heading s))
+  unfolding placeOf
+  place-answer two p m c e f g = rw (whole-is, two, f, g, e)
 
   pub no-tables : h .kind ≡ 0 → _≡_ {A = BadOrigin} (record { table = 0; index = 0; number = 0 }) (originOf s (heading s))
   unfolding originOf

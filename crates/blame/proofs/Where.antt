@@ -1,7 +1,7 @@
 -- The counts of specs/ say where a refusal stands: the entries before pass, and with the one named the refusal is that of the whole.
 use Prim.Native.Nat.{ℕ, zero, suc, _+_, _*_, _≤_, _<_}
 use mathlib.Core.Path.{_≡_, refl, sym, ap, _∙_}
-use mathlib.Core.Bool.{Bool, true, false, _||_}
+use mathlib.Core.Bool.{Bool, true, false, not, _||_, _&&_}
 use mathlib.Core.List.{List, [], _∷_}
 use native.Mathlib.Omega.{arith}
 use lib.Dec.{eqb, ltb, leb}
@@ -9,9 +9,9 @@ use lib.ListN.{length, take}
 use borrow.Author.Tests.{eqb-true, eq-eqb, ltb-false, le-ltb, not-false}
 use Rattle.net.specs.Numbers.{any}
 use Rattle.net.proofs.Numbers.{by-cases}
-use Rattle.file.specs.Word.{byteAt, le16}
-use Rattle.file.specs.Layout.{trailerOf, headerOf, arcAt, inSlice}
-use Rattle.file.specs.Refusal.{refuse, orElse, key, arcWrong, lengthWrong, lettersWrong, kindWrong, countsWrong, bodyWrong, trailerRefusal, arcsRefusal, tableRefusal, originsRefusal, bodyRefusal, fileRefusal}
+use Rattle.file.specs.Word.{byteAt, le16, le32}
+use Rattle.file.specs.Layout.{pick, trailerOf, headerOf, arcAt, inSlice}
+use Rattle.file.specs.Refusal.{refuse, orElse, key, arcWrong, lengthWrong, lettersWrong, kindWrong, countsWrong, bodyWrong, trailerRefusal, arcsRefusal, tableRefusal, originsRefusal, capsRefusal, linksRefusal, bodyRefusal, fileRefusal}
 use Rattle.file.specs.Criterion.{placesRefusal}
 use Rattle.file.specs.declared.Due.{Due}
 use Rattle.file.specs.declared.Due.the-variants.{Plan, Slice, Either}
@@ -22,6 +22,7 @@ use Rattle.file.proofs.Opening.{refuse-0}
 use Rattle.blame.specs.Head.{unless, passed, headRefusal, heading}
 use Rattle.blame.specs.Arcs.{arcsPassed, arcOf}
 use Rattle.blame.specs.Origins.{tablePassed}
+use Rattle.blame.specs.Capacity.{capsPassed}
 use Rattle.blame.specs.Numbers.{placesPassed, listPassed}
 
 -- of n entries, of which the first m are refused with f m, entry k is the first that is turned back
@@ -96,6 +97,18 @@ pub table-stands : (s : List ℕ) (at n : ℕ) → (tableRefusal s at 0 n ≡ 0 
 unfolding tableRefusal
 table-stands s at n h = stands (tableRefusal s at 0) refl (table-stays s at 0) n h
 
+-- the places, by refusal 16
+caps-stay : (s : List ℕ) (at m n : ℕ) → m ≤ n → (capsRefusal s at m ≡ 0 → ⊥) → capsRefusal s at n ≡ capsRefusal s at m
+unfolding capsRefusal
+caps-stay s at zero n l h = absurd (h refl)
+caps-stay s at (suc m) zero l h = absurd (omega arith)
+caps-stay s at (suc m) (suc n) l h =
+    two-stay false (not (eqb (le32 s (at + 4)) 0) && ltb (le32 s (at + 4)) (le32 s at)) 0 15 _ _ (caps-stay s (at + 8) m n (omega arith)) h
+
+pub caps-stand : (s : List ℕ) (at n : ℕ) → (capsRefusal s at n ≡ 0 → ⊥) → Stands (capsRefusal s at) n (capsPassed s at n)
+unfolding capsRefusal
+caps-stand s at n h = stands (capsRefusal s at) refl (caps-stay s at) n h
+
 refuse-or : (a b : Bool) (n rest : ℕ) → refuse (a || b) n rest ≡ refuse a n (refuse b n rest)
 refuse-or true b n rest = refl
 refuse-or false b n rest = refl
@@ -162,6 +175,20 @@ origins-8 s h l = in-slice (h .kind) _ (either-8 _ _ (table-8 s _ 0 _) (table-8 
     in-slice zero n f l = refl
     in-slice (suc k) n f l = f l
 
+-- what the caps refuse is 16
+caps-16 : (s : List ℕ) (at n : ℕ) → capsRefusal s at n < 16 → capsRefusal s at n ≡ 0
+unfolding capsRefusal
+caps-16 s at zero h = refl
+caps-16 s at (suc n) h = entry-16 (not (eqb (le32 s (at + 4)) 0) && ltb (le32 s (at + 4)) (le32 s at)) _ (caps-16 s (at + 8) n) h
+  where
+    entry-16 : (b : Bool) (rest : ℕ) → (rest < 16 → rest ≡ 0) → refuse b 16 rest < 16 → refuse b 16 rest ≡ 0
+    entry-16 true rest f h = absurd (omega arith)
+    entry-16 false rest f h = f h
+
+pick-16 : (b : Bool) (n : ℕ) → (n < 16 → n ≡ 0) → pick b n 0 < 16 → pick b n 0 ≡ 0
+pick-16 true n f h = f h
+pick-16 false n f h = refl
+
 -- a trailer that passes for the kind due passes for either
 kind-either : (due : Due) (k : ℕ) → kindWrong due k ≡ false → kindWrong Either k ≡ false
 kind-either Plan k e = let z = eqb-true k 0 (not-false (eqb k 0) e) in le-ltb 1 k (omega arith)
@@ -191,8 +218,11 @@ module _ (due : Due) (s : List ℕ) (n : ℕ) (refused : fileRefusal due s ≡ n
       (a .0, b .0, b .1)
 
   arcs-are : arcsRefusal s (headerOf s .places) (headerOf s .transitions) (headerOf s .arcstart) 0 (headerOf s .arcs) ≡ n
-  unfolding bodyRefusal
-  arcs-are = by-arcs _ _ (body-is .2) (origins-8 s (headerOf s))
+  unfolding bodyRefusal linksRefusal
+  arcs-are =
+      let h = headerOf s in
+      let none = pick-16 (eqb (h .edition) 2) (capsRefusal s (h .markstart) (h .places)) (caps-16 s (h .markstart) (h .places)) in
+      by-arcs _ _ (second-is (pick (eqb (h .edition) 2) (capsRefusal s (h .markstart) (h .places)) 0) _ n (body-is .2) (λ q. let z = none (omega arith) in omega arith) .1) (origins-8 s h)
     where
       by-arcs : (a b : ℕ) → orElse a b ≡ n → (b < 8 → b ≡ 0) → a ≡ n
       by-arcs zero b e f = absurd (let z = f (omega arith) in omega arith)

@@ -3,7 +3,6 @@ ghost use mathlib.Core.Path.{_≡_};
 ghost use Prim.Native.Nat.{_≤_};
 ghost use lib.ListN.{length};
 ghost use Rattle.file.specs.Facts.{Counts};
-ghost use Rattle.file.specs.Layout.{bodyLength};
 ghost use Rattle.blame.specs.Conditions.{arcCondition, bodyCondition, countsCondition, trailerCondition, conditionOf};
 use crate::arcs::BadArc;
 use file::Trailer;
@@ -16,23 +15,11 @@ pub struct Condition {
     pub due: usize,
 }
 
-// The body's length by the counts.
-fn body_length(t: Trailer) -> usize
-    requires { ⌜ Counts t ⌝ }
-    ensures { λ r. ⌜ r ≡ bodyLength t ⌝ }
-{
-    let net = 4 * t.places + 8 * t.arcs;
-    if t.kind == 0 {
-        return net;
-    }
-    net + (2 * t.places + 2 * t.transitions)
-}
-
 fn of_body(t: Trailer, n: usize) -> Condition
     requires { ⌜ Counts t × (16 ≤ n) ⌝ }
     ensures { λ r. ⌜ r ≡ bodyCondition t n ⌝ }
 {
-    let due = body_length(t);
+    let due = tail::body_length(t);
     if t.body != due {
         return Condition {
             condition: 11,

@@ -33,11 +33,18 @@ fn tokens(n: usize) {
     }
 }
 
+fn cap(n: usize) {
+    if n != 0 {
+        say::one(phrases::HOLDS, n);
+    }
+}
+
 fn place(file: &[u8], h: Header, p: usize, s: u8)
     requires { ⌜ Sound (now file) h × (p < h .places) ⌝ }
 {
     say::two(phrases::CIRCLE, p, p);
     tokens(file::marking(file, h, p));
+    cap(file::cap(file, h, p));
     colour(s);
 }
 

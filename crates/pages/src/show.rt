@@ -35,12 +35,21 @@ fn origin(file: &[u8], h: Header, k: usize)
     }
 }
 
+// The tokens, and the cap where there is one.
+fn tokens(marking: usize, cap: usize) {
+    if cap == 0 {
+        say::one(phrases::TOKENS, marking);
+        return;
+    }
+    say::two(phrases::TOKENS_HELD, marking, cap);
+}
+
 fn place(file: &[u8], h: Header, p: usize)
     requires { ⌜ Sound (now file) h × (p < h .places) ⌝ }
 {
     say::one(phrases::PLACE, p);
     origin(file, h, p);
-    say::one(phrases::TOKENS, file::marking(file, h, p));
+    tokens(file::marking(file, h, p), file::cap(file, h, p));
 }
 
 fn places(file: &[u8], h: Header)

@@ -8,7 +8,8 @@ pub fn answer(file: &[u8], list: &[u16]) {
     let o = call_firing::replays::replay(file, list, &mut marking);
     match o {
         Outcome::Fired => replays::fired(list.len(), &marking, blame::numbers::places(file)),
-        Outcome::Stuck(i, p, n) => replays::stuck(list, i, p, n),
+        Outcome::Short(i, p, n) => replays::stuck(list, i, p, n),
+        Outcome::Full(i, p, n) => replays::full(list, i, p, n),
         Outcome::Refused(n) => refusal::one(n, 2, file, list),
     }
 }

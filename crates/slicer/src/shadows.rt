@@ -11,7 +11,8 @@ pub fn answer(plan: &[u8], slice: &[u8], list: &[u16]) {
     let places = blame::numbers::places(plan);
     match s {
         Shadow::Fired(n) => shadows::fired(list.len(), &marking, places, &out, n),
-        Shadow::Stuck(i, p, a, n) => shadows::stuck(list, i, p, a, &out, n),
+        Shadow::Short(i, p, a, n) => shadows::stuck(list, i, p, a, &out, n),
+        Shadow::Full(i, p, a, n) => shadows::full(list, i, p, a, &out, n),
         Shadow::Refused(n) => refusal::two(n, plan, slice, list),
     }
 }

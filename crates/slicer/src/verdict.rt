@@ -18,5 +18,7 @@ pub fn answer(plan: &[u8], slice: &[u8], criterion: &[u16]) {
         Outcome::ChangerMissing(n) => say::one(phrases::RULE + 5, n as usize),
         Outcome::InputMissing(n) => say::one(phrases::RULE + 6, n as usize),
         Outcome::RaiserMissing(n) => say::one(phrases::RULE + 7, n as usize),
+        Outcome::OutputMissing(n) => say::one(phrases::RULE + 8, n as usize),
+        Outcome::CapChangerMissing(n) => say::one(phrases::RULE + 9, n as usize),
     }
 }

@@ -1,4 +1,4 @@
-// Refusals in words: the table "Turned back, by place of checking" of paper 01, with the arc, origin or number that is turned back.
+// Refusals in words: the table "Turned back, by place of checking" of paper 01, with the arc, origin, place or number that is turned back.
 use file::Due;
 use terminal::phrases;
 use terminal::say;
@@ -28,6 +28,12 @@ fn origin(file: &[u8]) {
     say::two(phrases::TRANSITION_ORIGIN, o.index, o.number);
 }
 
+// Which place it is.
+fn over(file: &[u8]) {
+    let b = blame::capacity::first(file);
+    say::three(phrases::OVER_CAP, b.place, b.marking, b.cap);
+}
+
 // Which condition of the rule it is.
 fn condition(n: u32, file: &[u8]) {
     let c = blame::conditions::broken(n, file);
@@ -43,6 +49,14 @@ pub fn of_file(n: u32, i: usize, file: &[u8]) {
     say::two(phrases::REFUSED, n as usize, i);
     if n == 8 {
         origin(file);
+        return;
+    }
+    if n == 16 {
+        over(file);
+        return;
+    }
+    if n == 17 {
+        say::plain(phrases::CAPS);
         return;
     }
     if 5 < n {
@@ -82,7 +96,7 @@ pub fn one(n: u32, i: usize, file: &[u8], list: &[u16]) {
 // The same for a call on a plan and a slice, arguments 2 and 3: the plan comes first.
 pub fn two(n: u32, plan: &[u8], slice: &[u8], list: &[u16]) {
     let first = file::number(file::read(plan, Due::Plan));
-    if (first == 0) & (n < 9) {
+    if (first == 0) & ((n < 9) | (n == 16)) {
         of_file(n, 3, slice);
         return;
     }
