@@ -2,8 +2,8 @@
  *
  *   box PLAN PLACE.. < slices
  *
- * PLAN is a plan file, PLACE.. the criterion; standard input names a slice file a line. For each, one line says what the
- * check answers. Nothing else is decided here: NESFOAL_ACCEPTED is the only answer that lets a slice in.
+ * PLAN is a plan file, PLACE.. the criterion; standard input names a slice file a line, of either edition. For each, one line
+ * says what the check answers. Nothing else is decided here: NESFOAL_ACCEPTED is the only answer that lets a slice in.
  * Status 2, and no slice is looked at, where the plan or the criterion is refused or cannot be read.
  */
 #include "nesfoal.h"
@@ -67,17 +67,48 @@ static int line(char *to, int room)
     return -1;
 }
 
+/* What is wrong with a file or with the criterion. */
+static const char *refusal(uint32_t answer)
+{
+    switch (answer) {
+    case NESFOAL_REFUSED_LENGTH:
+        return "below 16 or above 65,536 bytes";
+    case NESFOAL_REFUSED_LETTERS:
+        return "no plan or slice of an edition that is known";
+    case NESFOAL_REFUSED_KIND:
+        return "a plan where a slice is due, or a slice where a plan is";
+    case NESFOAL_REFUSED_COUNTS:
+        return "too many places, transitions or arcs, or none in a plan";
+    case NESFOAL_REFUSED_BODY:
+        return "a body of another length than its counts give";
+    case NESFOAL_REFUSED_ARC:
+        return "an arc with a number out of range";
+    case NESFOAL_REFUSED_ORDER:
+        return "an arc below the one before";
+    case NESFOAL_REFUSED_ORIGINS:
+        return "origins that do not rise";
+    case NESFOAL_REFUSED_CAP:
+        return "a marking above its cap";
+    case NESFOAL_REFUSED_PLACE:
+        return "a number that is no place of the plan, or numbers that do not rise";
+    default:
+        return "a refusal that this program does not know";
+    }
+}
+
 static const char *rule(uint32_t answer)
 {
     static const char *const text[] = {
         "an origin that is no place of the plan",
         "an origin that is no transition of the plan",
-        "a marking other than the plan's",
+        "a marking or a cap other than the plan's",
         "arcs other than the plan's",
         "a place of the criterion is not kept",
         "a transition left out changes a place of the criterion",
         "a kept transition lacks an input place",
         "a transition left out raises a kept place",
+        "a kept transition adds to a place with a cap that is not kept",
+        "a transition left out changes a kept place with a cap",
     };
     uint32_t i = answer - NESFOAL_RULE - 1;
     return i < sizeof text / sizeof *text ? text[i] : "a rule that this program does not know";
@@ -117,7 +148,8 @@ int main(int argc, char **argv)
     /* Of a slice that can be read, a refusal is the plan's, then the criterion's. */
     answer = check(readable, sizeof readable);
     if (answer >= 1 && answer <= NESFOAL_LAST_REFUSAL) {
-        fprintf(stderr, "%s: refused %u\n", answer < NESFOAL_REFUSED_CRITERION ? argv[1] : "criterion", (unsigned)answer);
+        const char *what = answer == NESFOAL_REFUSED_CRITERION || answer == NESFOAL_REFUSED_PLACE ? "criterion" : argv[1];
+        fprintf(stderr, "%s: refused %u: %s\n", what, (unsigned)answer, refusal(answer));
         return 2;
     }
 
@@ -135,7 +167,7 @@ int main(int argc, char **argv)
         if (answer == NESFOAL_ACCEPTED)
             printf("%s: accepted\n", name);
         else if (answer <= NESFOAL_LAST_REFUSAL)
-            printf("%s: refused %u\n", name, (unsigned)answer);
+            printf("%s: refused %u: %s\n", name, (unsigned)answer, refusal(answer));
         else
             printf("%s: rule %u broken: %s\n", name, (unsigned)(answer - NESFOAL_RULE), rule(answer));
     }

@@ -1,4 +1,4 @@
-/* Uses the library as a C program would, on the small kerb of paper 01. */
+/* Uses the library as a C program would, on the small kerb of paper 01, and with a cap on one of its places (02, A9). */
 
 #include "nesfoal.h"
 
@@ -40,6 +40,35 @@ static const uint8_t cut[78] = {
 
 /* The slice with no places and no transitions: the cut of every plan for no place. */
 static const uint8_t empty[16] = {0, 0, 0, 0, 0, 0, 0, 0, 0, 0, 1, 1, 'B', 'E', 'L', 'L'};
+
+/* The kerb in edition 2, with a cap of 1 on place 3: each place has its marking and its cap. */
+static const uint8_t capped[128] = {
+    2, 0, 0, 0, 0, 0, 0, 0,  1, 0, 0, 0, 0, 0, 0, 0,  0, 0, 0, 0, 0, 0, 0, 0,  0, 0, 0, 0, 1, 0, 0, 0,  0, 0, 0, 0, 0, 0, 0, 0,
+    0, 0,  0, 0,  0, 0,  1, 0,
+    0, 0,  0, 0,  1, 0,  1, 0,
+    0, 0,  1, 0,  2, 0,  1, 0,
+    1, 0,  0, 0,  2, 0,  1, 0,
+    1, 0,  1, 0,  1, 0,  1, 0,
+    1, 0,  1, 0,  3, 0,  1, 0,
+    2, 0,  0, 0,  3, 0,  2, 0,
+    2, 0,  1, 0,  4, 0,  1, 0,
+    3, 0,  0, 0,  0, 0,  1, 0,
+    112, 0, 0, 0,  5, 0,  4, 0,  9, 0,  0, 2,  'B', 'E', 'L', 'L',
+};
+
+/* Its safety cut for place 2: transition 1 adds to place 3, which is capped, and transition 2 changes that. */
+static const uint8_t capped_cut[118] = {
+    2, 0, 0, 0, 0, 0, 0, 0,  1, 0, 0, 0, 0, 0, 0, 0,  0, 0, 0, 0, 0, 0, 0, 0,  0, 0, 0, 0, 1, 0, 0, 0,
+    0, 0,  0, 0,  0, 0,  1, 0,
+    0, 0,  0, 0,  1, 0,  1, 0,
+    0, 0,  1, 0,  2, 0,  1, 0,
+    1, 0,  0, 0,  2, 0,  1, 0,
+    1, 0,  1, 0,  1, 0,  1, 0,
+    1, 0,  1, 0,  3, 0,  1, 0,
+    2, 0,  0, 0,  3, 0,  2, 0,
+    0, 0,  1, 0,  2, 0,  3, 0,   0, 0,  1, 0,  2, 0,
+    102, 0, 0, 0,  4, 0,  3, 0,  7, 0,  1, 2,  'B', 'E', 'L', 'L',
+};
 
 static unsigned passed, failed;
 
@@ -90,7 +119,9 @@ static void effects(void)
         uint32_t number;
     } faults[] = {
         {"letter", 104, 'b', NESFOAL_REFUSED_LETTERS},
-        {"edition", 103, 2, NESFOAL_REFUSED_LETTERS},
+        {"edition 0", 103, 0, NESFOAL_REFUSED_LETTERS},
+        {"edition 3", 103, 3, NESFOAL_REFUSED_LETTERS},
+        {"edition 2, places of 4 bytes", 103, 2, NESFOAL_REFUSED_BODY},
         {"kind", 102, 2, NESFOAL_REFUSED_KIND},
         {"P above its limit", 97, 8, NESFOAL_REFUSED_COUNTS},
         {"body length", 92, 93, NESFOAL_REFUSED_BODY},
@@ -440,11 +471,12 @@ static void parallels(void)
 /* As many places, transitions and arcs as there may be: transition t takes 1 from places t and t + 1, round a ring, and adds 2 to each. */
 static void largest(void)
 {
-    static uint8_t ring[4 * NESFOAL_MAX_PLACES + 8 * NESFOAL_MAX_ARCS + 16], room[NESFOAL_SLICE_ROOM];
-    const uint8_t trailer[16] = {0, 144, 0, 0, 0, 4, 0, 4, 0, 16, 0, 1, 'B', 'E', 'L', 'L'};
+    static uint8_t ring[8 * NESFOAL_MAX_PLACES + 8 * NESFOAL_MAX_ARCS + 16], room[NESFOAL_SLICE_ROOM];
+    const uint8_t trailer[16] = {0, 160, 0, 0, 0, 4, 0, 4, 0, 16, 0, 2, 'B', 'E', 'L', 'L'};
+    const uint8_t trailer_of_1[16] = {0, 144, 0, 0, 0, 4, 0, 4, 0, 16, 0, 1, 'B', 'E', 'L', 'L'};
     const uint16_t criterion[] = {0};
     uint32_t length, places, transitions, number;
-    uint8_t *arc = ring + 4 * NESFOAL_MAX_PLACES;
+    uint8_t *arc = ring + 8 * NESFOAL_MAX_PLACES;
     for (int t = 0; t < NESFOAL_MAX_TRANSITIONS; t++) {
         int end = t == NESFOAL_MAX_PLACES - 1;
         int ends[2] = {end ? 0 : t, end ? t : t + 1};
@@ -458,7 +490,8 @@ static void largest(void)
         }
     }
     memcpy(arc, trailer, 16);
-    expect("the room that always suffices", NESFOAL_SLICE_ROOM, 40976);
+    memset(ring + 4, 255, 4); /* place 0 has the largest cap */
+    expect("the room that always suffices", NESFOAL_SLICE_ROOM, 45072);
     expect("the largest slice", nesfoal_safety(ring, sizeof ring, criterion, 1, room, sizeof room, &length, &places, &transitions), NESFOAL_DONE);
     expect("the largest slice, bytes", length, NESFOAL_SLICE_ROOM);
     expect("the largest slice, places", places, NESFOAL_MAX_PLACES);
@@ -467,6 +500,240 @@ static void largest(void)
     expect("one byte less", nesfoal_safety(ring, sizeof ring, criterion, 1, room, sizeof room - 1, &length, &places, &transitions), NESFOAL_REFUSED_BUFFER);
     expect("the largest, branching", nesfoal_branching(ring, sizeof ring, criterion, 1, room, sizeof room, &length, &places, &transitions), NESFOAL_DONE);
     expect("the largest, branching, bytes", length, NESFOAL_SLICE_ROOM);
+    /* In edition 1, where the note is the first half of the places. */
+    memcpy(arc, trailer_of_1, 16);
+    expect("the largest of edition 1", nesfoal_safety(ring, sizeof ring, criterion, 1, room, sizeof room, &length, &places, &transitions), NESFOAL_DONE);
+    expect("the largest of edition 1, bytes", length, 40976);
+}
+
+/* The place that starts at this offset of a file of edition 2. */
+static void hold(uint8_t *file, size_t at, uint32_t tokens, uint32_t cap)
+{
+    for (int i = 0; i < 4; i++) {
+        file[at + i] = (uint8_t)(tokens >> 8 * i);
+        file[at + 4 + i] = (uint8_t)(cap >> 8 * i);
+    }
+}
+
+/* What a replay of a file of edition 2 with two places answers. */
+static void fires(const char *what, const uint8_t *file, size_t n, const uint16_t *list, size_t firings, uint32_t answer,
+                  uint32_t index, uint32_t place, uint32_t amount, uint64_t first, uint64_t second)
+{
+    uint64_t marking[3] = {7, 7, 7};
+    uint32_t r[3] = {99, 99, 99};
+    expect(what, nesfoal_replay(file, n, list, firings, marking, 3, &r[0], &r[1], &r[2]), answer);
+    expect(what, r[0] == index && r[1] == place && r[2] == amount, 1);
+    expect(what, marking[0] == first && marking[1] == second && marking[2] == 7, 1);
+}
+
+static void capped_replays(void)
+{
+    const struct {
+        const char *what;
+        uint16_t list[5];
+        size_t n;
+        uint32_t answer, index, place, amount;
+        uint64_t marking[6];
+    } cases[] = {
+        {"capped, 0,1,0,1", {0, 1, 0, 1}, 4, NESFOAL_FULL, 3, 3, 1, {0, 0, 1, 1, 0, 7}},
+        {"capped, 0,1,0,1,2", {0, 1, 0, 1, 2}, 5, NESFOAL_FULL, 3, 3, 1, {0, 0, 1, 1, 0, 7}},
+        {"capped, 0,1,0", {0, 1, 0}, 3, 0, 0, 0, 0, {0, 0, 1, 1, 0, 7}},
+        {"capped, 0,1,2", {0, 1, 2}, 3, NESFOAL_STUCK, 2, 3, 1, {1, 1, 0, 1, 0, 7}},
+    };
+    uint32_t index, place, amount, count;
+    for (size_t i = 0; i < sizeof cases / sizeof cases[0]; i++) {
+        uint64_t marking[6] = {7, 7, 7, 7, 7, 7};
+        uint16_t out[5] = {7, 7, 7, 7, 7};
+        index = place = amount = 99;
+        expect(cases[i].what, nesfoal_replay(capped, 128, cases[i].list, cases[i].n, marking, 6, &index, &place, &amount), cases[i].answer);
+        expect(cases[i].what, index == cases[i].index && place == cases[i].place && amount == cases[i].amount, 1);
+        expect(cases[i].what, memcmp(marking, cases[i].marking, sizeof marking), 0);
+        /* The shadow is of what fired: here of all before the index. */
+        memset(marking, 0, sizeof marking);
+        marking[5] = 7;
+        expect(cases[i].what, nesfoal_shadow(capped, 128, capped_cut, 118, cases[i].list, cases[i].n, marking, 6, out, 5, &index, &place, &amount, &count), cases[i].answer);
+        expect(cases[i].what, index == cases[i].index && place == cases[i].place && amount == cases[i].amount, 1);
+        expect(cases[i].what, memcmp(marking, cases[i].marking, sizeof marking), 0);
+        expect(cases[i].what, count, cases[i].answer == 0 ? (long long)cases[i].n : cases[i].index);
+        expect(cases[i].what, memcmp(out, cases[i].list, 2 * count), 0);
+        expect(cases[i].what, count == 5 || out[count] == 7, 1);
+    }
+    static uint16_t zeros[NESFOAL_MAX_LIST_ENTRIES];
+    const uint16_t unknown[] = {0, 1, 0, 1, 4};
+    uint64_t marking[4];
+    expect("capped, in the slice", nesfoal_replay(capped_cut, 118, cases[0].list, 4, marking, 4, &index, &place, &amount), NESFOAL_FULL);
+    expect("capped, in the slice, results", index == 3 && place == 3 && amount == 1 && marking[2] == 1 && marking[3] == 1, 1);
+    expect("capped, an unknown transition after", nesfoal_replay(capped, 128, unknown, 5, marking, 4, &index, &place, &amount), NESFOAL_REFUSED_TRANSITION);
+
+    /* Two places; transition 0 takes 1 from place 1, and adds 3 to place 0 and 3 to place 1. */
+    uint8_t two[56] = {
+        0, 0, 0, 0, 0, 0, 0, 0,  0, 0, 0, 0, 0, 0, 0, 0,
+        0, 0,  0, 0,  1, 0,  1, 0,
+        0, 0,  1, 0,  0, 0,  3, 0,
+        0, 0,  1, 0,  1, 0,  3, 0,
+        40, 0, 0, 0,  2, 0,  1, 0,  3, 0,  0, 2,  'B', 'E', 'L', 'L',
+    };
+    const uint32_t most = UINT32_MAX;
+    hold(two, 0, 5, 5);
+    fires("short, though a lower place is full", two, 56, zeros, 1, NESFOAL_STUCK, 0, 1, 1, 5, 0);
+    hold(two, 8, 1, 1);
+    fires("both are full: the lower one", two, 56, zeros, 1, NESFOAL_FULL, 0, 0, 3, 5, 1);
+    hold(two, 0, 5, 0);
+    fires("the excess of a self loop", two, 56, zeros, 1, NESFOAL_FULL, 0, 1, 2, 5, 1);
+    hold(two, 8, 1, 2);
+    fires("the excess of a self loop, one", two, 56, zeros, 1, NESFOAL_FULL, 0, 1, 1, 5, 1);
+    hold(two, 8, 1, 5);
+    fires("a self loop up to the cap", two, 56, zeros, 2, 0, 0, 0, 0, 11, 5);
+    fires("and once more", two, 56, zeros, 3, NESFOAL_FULL, 2, 1, 2, 11, 5);
+    hold(two, 0, most, 0);
+    hold(two, 8, 1, 0);
+    fires("cap 0 binds nothing", two, 56, zeros, 2, 0, 0, 0, 0, 4294967301, 5);
+    hold(two, 0, most - 3, most);
+    fires("up to the largest cap", two, 56, zeros, 1, 0, 0, 0, 0, most, 3);
+    fires("above the largest cap", two, 56, zeros, 2, NESFOAL_FULL, 1, 0, 3, most, 3);
+    hold(two, 0, most, most);
+    fires("at the largest cap", two, 56, zeros, 1, NESFOAL_FULL, 0, 0, 3, most, 1);
+    hold(two, 0, 0, most);
+    hold(two, 8, 1, most);
+    fires("65,535 firings", two, 56, zeros, NESFOAL_MAX_LIST_ENTRIES, 0, 0, 0, 0, 196605, 131071);
+    hold(two, 8, 1, 131070);
+    fires("65,535 firings, full at the last", two, 56, zeros, NESFOAL_MAX_LIST_ENTRIES, NESFOAL_FULL, 65534, 1, 1, 196602, 131069);
+}
+
+static void capped_cuts(void)
+{
+    const uint16_t two[] = {2}, list[] = {3, 0, 1};
+    const uint8_t two_bytes[] = {2, 0};
+    uint8_t room[140], plain[128], other[118];
+    uint16_t positions[3];
+    uint32_t length, places, transitions, number, r[7];
+    memset(room, 0xAA, sizeof room);
+    expect("capped, safety", nesfoal_safety(capped, 128, two, 1, room, 118, &length, &places, &transitions), 0);
+    expect("capped, safety, counts", length == 118 && places == 4 && transitions == 3, 1);
+    expect("capped, safety, the file", memcmp(room, capped_cut, 118), 0);
+    expect("capped, safety, past the file", room[118], 0xAA);
+    expect("capped, one byte short", nesfoal_safety(capped, 128, two, 1, room, 117, &length, &places, &transitions), NESFOAL_REFUSED_BUFFER);
+    expect("capped, branching", nesfoal_branching(capped, 128, two, 1, room, 140, &length, &places, &transitions), 0);
+    expect("capped, branching, counts", length == 128 && places == 4 && transitions == 4, 1);
+    expect("capped, branching, accepted", nesfoal_check(capped, 128, room, 128, two_bytes, 2), NESFOAL_ACCEPTED);
+    expect("capped, for no place", nesfoal_safety(capped, 128, NULL, 0, room, 16, &length, &places, &transitions), 0);
+    expect("capped, for no place, its edition", length == 16 && room[10] == 1 && room[11] == 2, 1);
+    expect("capped, for no place, accepted", nesfoal_check(capped, 128, room, 16, NULL, 0), NESFOAL_ACCEPTED);
+
+    /* The ten rules: a cap is compared, and what it draws in is asked for. Editions are not compared. */
+    expect("capped, accepted", nesfoal_verdict(capped, 128, capped_cut, 118, two, 1, &number), NESFOAL_ACCEPTED);
+    expect("capped, the base slice, rule 9", nesfoal_verdict(capped, 128, cut, 78, two, 1, &number), NESFOAL_RULE + 9);
+    expect("capped, the base slice, transition", number, 1);
+    expect("capped, the base slice, check", nesfoal_check(capped, 128, cut, 78, two_bytes, 2), NESFOAL_RULE + 9);
+    memcpy(other, capped_cut, 118);
+    other[28] = 2;
+    expect("capped, another cap, rule 3", nesfoal_verdict(capped, 128, other, 118, two, 1, &number), NESFOAL_RULE + 3);
+    expect("capped, another cap, place", number, 3);
+    /* Without transition 2 and its one arc. */
+    memcpy(other + 80, capped_cut + 88, 12);
+    memcpy(other + 92, capped_cut + 102, 16);
+    other[28] = 1;
+    other[92] = 92;
+    other[98] = 2;
+    other[100] = 6;
+    expect("capped, rule 10", nesfoal_verdict(capped, 128, other, 108, two, 1, &number), NESFOAL_RULE + 10);
+    expect("capped, rule 10, transition", number, 2);
+    expect("capped, rule 10, check", nesfoal_check(capped, 128, other, 108, two_bytes, 2), NESFOAL_RULE + 10);
+    memcpy(plain, capped, 128);
+    plain[28] = 0;
+    expect("edition 1 of edition 2 without caps", nesfoal_verdict(plain, 128, cut, 78, two, 1, &number), NESFOAL_ACCEPTED);
+    expect("edition 2 without caps", nesfoal_safety(plain, 128, two, 1, room, 90, &length, &places, &transitions), 0);
+    expect("edition 2 without caps, counts", length == 90 && places == 3 && transitions == 2, 1);
+    expect("edition 2 of edition 2 without caps", nesfoal_verdict(plain, 128, room, 90, two, 1, &number), NESFOAL_ACCEPTED);
+    expect("edition 2 of edition 1", nesfoal_verdict(plan, 108, room, 90, two, 1, &number), NESFOAL_ACCEPTED);
+    expect("edition 2 of edition 1, a cap", nesfoal_verdict(plan, 108, capped_cut, 118, two, 1, &number), NESFOAL_RULE + 3);
+
+    /* The run cut takes a plan without caps, in either edition. */
+    memset(r, 0xAA, sizeof r);
+    memset(room, 0xAA, sizeof room);
+    expect("capped, run", nesfoal_run_cut(capped, 128, two, 1, list, 3, room, 140, positions, 3, &r[0], &r[1], &r[2], &r[3], &r[4], &r[5], &r[6]), NESFOAL_REFUSED_CAPPED);
+    expect("capped, run, zeros", r[0] + r[1] + r[2] + r[3] + r[4] + r[5] + r[6], 0);
+    expect("capped, run, untouched", room[0], 0xAA);
+    expect("capped, run, before criterion, list and buffers", nesfoal_run_cut(capped, 128, (const uint16_t[]){9, 9}, 2, (const uint16_t[]){9}, 1, NULL, 0, NULL, 0, &r[0], &r[1], &r[2], &r[3], &r[4], &r[5], &r[6]), NESFOAL_REFUSED_CAPPED);
+    expect("edition 2 without caps, run", nesfoal_run_cut(plain, 128, two, 1, list, 3, room, 140, positions, 3, &r[0], &r[1], &r[2], &r[3], &r[4], &r[5], &r[6]), 0);
+    expect("edition 2 without caps, run, results", r[0] == 72 && r[1] == 3 && r[2] == 1 && r[3] == 1 && positions[0] == 1 && room[67] == 2, 1);
+
+    /* Inputs alone are taken together, whatever the caps. */
+    const uint64_t held[] = {0, 0, 7, 5, 0};
+    uint64_t rest[5], times;
+    expect("capped, together", nesfoal_together(capped, 128, 2, held, 5, rest, 5, &times), 0);
+    expect("capped, together, twice", times == 2 && rest[3] == 1, 1);
+    expect("capped, together, its output capped", nesfoal_together(capped, 128, 1, held, 5, rest, 5, &times), 0);
+    expect("capped, together, seven times", times == 7 && rest[2] == 0, 1);
+    effect_is("capped, effect of 2 on 3", capped, 128, 3, 2, 0, -2);
+    run_is("capped, plan, transition 2", capped, 128, capped_cut, 118, false, 2, 16, 88);
+    run_is("capped, slice, transition 2", capped, 128, capped_cut, 118, true, 2, 8, 80);
+}
+
+/* A marking above its cap: every call refuses the file with 16, plan or slice, after 5 and before any arc. */
+static void above_caps(void)
+{
+    const uint16_t two[] = {2}, list[] = {0};
+    const uint8_t two_bytes[] = {2, 0};
+    const uint64_t held[] = {2, 1, 0, 0, 0};
+    uint8_t above[128], above_cut[118], room[140];
+    uint16_t out[2] = {7, 7};
+    uint64_t marking[5] = {7, 7, 7, 7, 7}, times;
+    uint32_t r[7];
+    memcpy(above, capped, 128);
+    memcpy(above_cut, capped_cut, 118);
+    above[24] = above_cut[24] = 2;
+    memset(room, 0xAA, sizeof room);
+    effect_is("above, effect", above, 128, 3, 2, NESFOAL_REFUSED_CAP, 0);
+    effect_is("above, effect, slice", above_cut, 118, 3, 2, NESFOAL_REFUSED_CAP, 0);
+    effect_is("above, before an unknown place", above, 128, 9, 9, NESFOAL_REFUSED_CAP, 0);
+    run_is("above, arcs", above, 128, capped_cut, 118, true, 0, 0, 0);
+    run_is("above, arcs, slice", capped, 128, above_cut, 118, false, 0, 0, 0);
+    expect("above, replay", nesfoal_replay(above, 128, list, 1, marking, 5, &r[0], &r[1], &r[2]), NESFOAL_REFUSED_CAP);
+    expect("above, replay, zeros", r[0] + r[1] + r[2], 0);
+    expect("above, replay, slice", nesfoal_replay(above_cut, 118, list, 1, marking, 5, &r[0], &r[1], &r[2]), NESFOAL_REFUSED_CAP);
+    expect("above, safety", nesfoal_safety(above, 128, two, 1, room, 140, &r[0], &r[1], &r[2]), NESFOAL_REFUSED_CAP);
+    expect("above, safety, zeros", r[0] + r[1] + r[2], 0);
+    expect("above, branching", nesfoal_branching(above, 128, two, 1, room, 140, &r[0], &r[1], &r[2]), NESFOAL_REFUSED_CAP);
+    expect("above, run", nesfoal_run_cut(above, 128, two, 1, list, 1, room, 140, out, 2, &r[0], &r[1], &r[2], &r[3], &r[4], &r[5], &r[6]), NESFOAL_REFUSED_CAP);
+    expect("above, shadow", nesfoal_shadow(above, 128, NULL, 0, list, 1, marking, 5, out, 2, &r[0], &r[1], &r[2], &r[3]), NESFOAL_REFUSED_CAP);
+    expect("above, shadow, slice", nesfoal_shadow(capped, 128, above_cut, 118, list, 1, marking, 5, out, 2, &r[0], &r[1], &r[2], &r[3]), NESFOAL_REFUSED_CAP);
+    expect("above, together", nesfoal_together(above, 128, 0, held, 5, marking, 5, &times), NESFOAL_REFUSED_CAP);
+    expect("above, check", nesfoal_check(above, 128, NULL, 0, two_bytes, 2), NESFOAL_REFUSED_CAP);
+    expect("above, check, slice", nesfoal_check(capped, 128, above_cut, 118, two_bytes, 1), NESFOAL_REFUSED_CAP);
+    expect("above, verdict", nesfoal_verdict(above, 128, capped_cut, 118, two, 1, &r[0]), NESFOAL_REFUSED_CAP);
+    expect("above, verdict, slice", nesfoal_verdict(capped, 128, above_cut, 118, two, 1, &r[0]), NESFOAL_REFUSED_CAP);
+    expect("above, untouched", marking[0] == 7 && marking[4] == 7 && out[0] == 7 && room[0] == 0xAA, 1);
+
+    /* Where else it stands: 4, 5 and the kind due come before it, 6, 7 and 8 after it. */
+    above[112] = 113;
+    effect_is("above, body length", above, 128, 3, 2, NESFOAL_REFUSED_BODY, 0);
+    above[112] = 112;
+    above[46] = 0;
+    effect_is("above, before an arc", above, 128, 3, 2, NESFOAL_REFUSED_CAP, 0);
+    above[24] = 1;
+    effect_is("at the cap, an arc", above, 128, 3, 2, NESFOAL_REFUSED_ARC, 0);
+    expect("above, a slice is no plan", nesfoal_check(above_cut, 118, NULL, 0, NULL, 0), NESFOAL_REFUSED_KIND);
+    above_cut[88] = 1;
+    effect_is("above, before origins", above_cut, 118, 3, 2, NESFOAL_REFUSED_CAP, 0);
+    above_cut[24] = 1;
+    effect_is("at the cap, origins", above_cut, 118, 3, 2, NESFOAL_REFUSED_ORIGINS, 0);
+    memcpy(above, capped, 128);
+    hold(above, 32, UINT32_MAX, UINT32_MAX - 1);
+    effect_is("above the largest cap but one, the last place", above, 128, 3, 2, NESFOAL_REFUSED_CAP, 0);
+    hold(above, 32, UINT32_MAX, UINT32_MAX);
+    effect_is("at the largest cap", above, 128, 3, 2, 0, -2);
+    hold(above, 32, UINT32_MAX, 0);
+    effect_is("no cap", above, 128, 3, 2, 0, -2);
+    hold(above, 32, 0x1000000, 0xFFFFFF);
+    effect_is("above by the highest byte", above, 128, 3, 2, NESFOAL_REFUSED_CAP, 0);
+    hold(above, 32, 0xFFFFFF, 0x1000000);
+    effect_is("below by the highest byte", above, 128, 3, 2, 0, -2);
+    memcpy(above, capped, 128);
+    above[123] = 3;
+    effect_is("edition 3, places of 8 bytes", above, 128, 3, 2, NESFOAL_REFUSED_LETTERS, 0);
+    above[123] = 1;
+    effect_is("edition 1, places of 8 bytes", above, 128, 3, 2, NESFOAL_REFUSED_BODY, 0);
 }
 
 /* For no place both cuts are the empty slice, the smallest that is accepted; rules other than 5 and 6 bind still. */
@@ -589,6 +856,9 @@ int main(void)
     checks();
     shadows();
     no_place();
+    capped_replays();
+    capped_cuts();
+    above_caps();
     nulls();
     shared();
     printf("%u passed, %u failed\n", passed, failed);

@@ -1,7 +1,7 @@
 //! A case of each call: what is handed in, and the whole answer of the second implementation.
 
 use crate::cut::{cut, Cut};
-use crate::replay::Replayed;
+use crate::replay::{Hindrance, Replayed};
 use crate::run_cut::RunCut;
 use crate::together::Together;
 use crate::{arcs, check, effect, replay, run_cut, shadow, together};
@@ -193,6 +193,15 @@ impl Case for ArcsCase {
     }
 }
 
+/// The number of a list that sticks: a place is short, or full.
+fn stuck_number(why: &Hindrance) -> u32 {
+    if why.full {
+        101
+    } else {
+        100
+    }
+}
+
 #[derive(Clone, Debug)]
 pub struct ReplayCase {
     pub file: Lent<u8>,
@@ -205,7 +214,9 @@ impl Case for ReplayCase {
         let mut lent = self.marking.clone();
         let (number, index, place, amount) = match replay::replay(self.file.part(), self.list.part(), lent.part_mut()) {
             Ok(Replayed::Fired) => (0, 0, 0, 0),
-            Ok(Replayed::Stuck { index, place, amount }) => (100, index as i64, i64::from(place), amount as i64),
+            Ok(Replayed::Stuck { index, why }) => {
+                (stuck_number(&why), index as i64, i64::from(why.place), why.amount as i64)
+            }
             Err(refusal) => (refusal, 0, 0, 0),
         };
         Answer::new(number, [index, place, amount], vec![Cells::Longs(lent.cells)])
@@ -222,10 +233,16 @@ impl Case for ReplayCase {
             0 if self.list.len == 0 => "fired-none".into(),
             0 if self.list.len >= 64 => "fired-64-or-more".into(),
             0 => "fired".into(),
-            100 if self.list.len >= 64 => "stuck-of-64-or-more".into(),
-            100 if answer.outs[0] == 0 => "stuck-first".into(),
-            100 => "stuck-later".into(),
-            n => n.to_string(),
+            n if n < 100 => n.to_string(),
+            n => {
+                let why = if n == 100 { "short" } else { "full" };
+                let when = match answer.outs[0] {
+                    _ if self.list.len >= 64 => "of-64-or-more",
+                    0 => "first",
+                    _ => "later",
+                };
+                format!("{why}-{when}")
+            }
         }
     }
 }
@@ -311,8 +328,8 @@ impl Case for ShadowCase {
         let (plan, slice, list) = (self.plan.part(), self.slice.part(), self.list.part());
         let (number, outs) = match shadow::shadow(plan, slice, list, marking.part_mut(), out.part_mut()) {
             Ok((Replayed::Fired, count)) => (0, [0, 0, 0, count as i64]),
-            Ok((Replayed::Stuck { index, place, amount }, count)) => {
-                (100, [index as i64, i64::from(place), amount as i64, count as i64])
+            Ok((Replayed::Stuck { index, why }, count)) => {
+                (stuck_number(&why), [index as i64, i64::from(why.place), why.amount as i64, count as i64])
             }
             Err(refusal) => (refusal, [0; 4]),
         };
@@ -330,7 +347,8 @@ impl Case for ShadowCase {
         let none = if answer.outs[3] == 0 { "-none" } else { "" };
         match answer.number {
             0 => format!("fired{none}"),
-            100 => format!("stuck{none}"),
+            100 => format!("short{none}"),
+            101 => format!("full{none}"),
             13 => {
                 let places = crate::read::read(self.plan.part(), None).map_or(0, |net| net.places());
                 if self.marking.len < places { "13-marking" } else { "13-out" }.into()

@@ -7,6 +7,8 @@ use crate::gen::{to_bytes, Draft, DraftArc};
 use crate::published;
 use crate::read::read;
 
+pub mod capped;
+
 /// A case and the answer that the papers give; `cells` only where the example states them.
 pub struct Fixed<C> {
     pub name: String,
@@ -140,7 +142,7 @@ pub fn bad_files(slice: bool) -> Vec<(String, Vec<u8>, u32)> {
         ("15 bytes", bytes[n - 15..].to_vec(), 1),
         ("65,537 bytes", counted(&good, |d| d.note = vec![7; 65_537 - n]), 1),
         ("edition 0", changed(&good, |d| d.edition = 0), 2),
-        ("edition 2", changed(&good, |d| d.edition = 2), 2),
+        ("edition 3", changed(&good, |d| d.edition = 3), 2),
         ("first letter", changed(&good, |d| d.letters[0] = b'b'), 2),
         ("second letter", changed(&good, |d| d.letters[1] = b'F'), 2),
         ("third letter", changed(&good, |d| d.letters[2] = 0), 2),
@@ -211,16 +213,19 @@ pub fn bad_files(slice: bool) -> Vec<(String, Vec<u8>, u32)> {
             ("arcs before origins", changed(&good, |d| (d.arcs[0].weight, d.place_origins[2]) = (0, 0)), 6),
         ]);
     }
-    files.into_iter().map(|(name, bytes, number)| (name.into(), bytes, number)).collect()
+    let files = files.into_iter().map(|(name, bytes, number)| (name.into(), bytes, number));
+    files.chain(capped::bad_files(slice)).collect()
 }
 
 /// Files that are refused with 3 where the other kind is due.
 fn other_kind(slice: bool) -> Vec<(String, Vec<u8>, u32)> {
-    if slice {
+    let mut files = if slice {
         vec![("the other kind".into(), small_plan().bytes(), 3)]
     } else {
         vec![("the other kind".into(), small_safety().bytes(), 3), ("the empty slice".into(), empty_slice(), 3)]
-    }
+    };
+    files.extend(capped::other_kind(slice));
+    files
 }
 
 fn bad_plans() -> Vec<(String, Vec<u8>, u32)> {
@@ -325,6 +330,7 @@ pub fn effects() -> Vec<Fixed<EffectCase>> {
     let mut null = case(&[], 0, 0);
     null.file.null = true;
     list.push(fixed("null file", null, 1, [0]));
+    list.extend(capped::effects());
     list
 }
 
@@ -399,6 +405,7 @@ pub fn arc_runs() -> Vec<Fixed<ArcsCase>> {
             at += 8 * run;
         }
     }
+    list.extend(capped::arc_runs());
     list
 }
 
@@ -512,6 +519,7 @@ pub fn replays() -> Vec<Fixed<ReplayCase>> {
             );
         }
     }
+    list.extend(capped::replays());
     list
 }
 
@@ -598,6 +606,7 @@ pub fn cuts(which: Cut) -> Vec<Fixed<CutCase>> {
             list.push(fixed(format!("{} for {:?}", net.name, c.q), case(&net.plan, &c.q, sets.bytes + 9), 0, outs));
         }
     }
+    list.extend(capped::cuts(which));
     list
 }
 
@@ -685,6 +694,7 @@ pub fn shadows() -> Vec<Fixed<ShadowCase>> {
     for (name, bad, number) in bad_slices() {
         refused(format!("slice: {name}"), &plan, &bad, &[9], (0, 0), number);
     }
+    list.extend(capped::shadows());
     list
 }
 
@@ -822,10 +832,12 @@ pub fn run_cuts() -> Vec<Fixed<RunCutCase>> {
     list.push(fixed("null pointers", null.clone(), 1, [0; 7]));
     (null.plan, null.slice) = (lent(plan), buffer(16));
     list.push(fixed("null criterion, list and positions", null, 0, [16, 0, 0, 0, 0, 0, 0]));
+    list.extend(capped::run_cuts());
     list
 }
 
-/// The slice of a plan with these places and transitions, both rising, and every arc between them, put down by hand.
+/// The slice of a plan with these places and transitions, both rising, and every arc between them, in the plan's edition, put
+/// down by hand.
 fn part_of(plan: &Draft, places: &[u16], transitions: &[u16]) -> Draft {
     let number = |kept: &[u16], n: u16| kept.iter().position(|&k| k == n);
     let marking = places.iter().map(|&p| plan.marking[usize::from(p)]).collect();
@@ -833,7 +845,11 @@ fn part_of(plan: &Draft, places: &[u16], transitions: &[u16]) -> Draft {
         let (t, p) = (number(transitions, a.transition)?, number(places, a.place)?);
         Some(DraftArc::new(t, a.direction, p, a.weight))
     });
-    Draft::plan(marking, transitions.len(), arcs.collect()).into_slice(places.to_vec(), transitions.to_vec())
+    let mut slice =
+        Draft::plan(marking, transitions.len(), arcs.collect()).into_slice(places.to_vec(), transitions.to_vec());
+    slice.caps = places.iter().map(|&p| plan.cap(usize::from(p))).collect();
+    slice.set_edition(plan.edition);
+    slice
 }
 
 pub fn takings() -> Vec<Fixed<TogetherCase>> {
@@ -929,6 +945,7 @@ pub fn takings() -> Vec<Fixed<TogetherCase>> {
     list.push(fixed("null marking", null.clone(), 15, [0]));
     null.plan = Lent { null: true, ..lent([]) };
     list.push(fixed("null plan", null, 1, [0]));
+    list.extend(capped::takings());
     list
 }
 
@@ -1049,6 +1066,7 @@ fn judged() -> Vec<(String, Vec<u8>, Vec<u8>, Vec<u16>, u32, i64)> {
     for (name, bad, number) in bad_slices() {
         list.push((format!("slice: {name}"), plan.bytes(), bad, vec![], number, 0));
     }
+    list.extend(capped::judged());
     list
 }
 

@@ -1,4 +1,4 @@
-//! A net as its file gives it: markings, arcs, and in a slice the origins.
+//! A net as its file gives it: markings, caps, arcs, and in a slice the origins.
 
 /// Limits of a file.
 pub const MAX_FILE: usize = 65_536;
@@ -35,7 +35,11 @@ pub struct Arc {
 #[derive(Clone, Debug)]
 pub struct Net {
     pub kind: Kind,
+    /// 1 or 2.
+    pub edition: u8,
     pub marking: Vec<u32>,
+    /// The most tokens of each place, 0 for none; all 0 in edition 1.
+    pub caps: Vec<u32>,
     /// In order by (transition, direction, place); equal neighbours are parallel arcs.
     pub arcs: Vec<Arc>,
     /// The arcs of transition t are those from starts[t] up to starts[t + 1].
@@ -54,6 +58,23 @@ impl Net {
 
     pub fn transitions(&self) -> usize {
         self.starts.len() - 1
+    }
+
+    /// A place's cap, where it has one.
+    pub fn cap(&self, place: usize) -> Option<u64> {
+        match self.caps[place] {
+            0 => None,
+            cap => Some(u64::from(cap)),
+        }
+    }
+
+    pub fn has_caps(&self) -> bool {
+        self.caps.iter().any(|&cap| cap > 0)
+    }
+
+    /// Of a set of places, those with a cap.
+    pub fn capped_of(&self, set: &[bool]) -> Vec<bool> {
+        set.iter().enumerate().map(|(p, &member)| member && self.cap(p).is_some()).collect()
     }
 
     /// The arcs of a transition: its input arcs, then its output arcs, each in order by place.
@@ -98,6 +119,12 @@ impl Net {
             }
             see(usize::from(place), effect);
         }
+    }
+
+    /// The capped places with out above 0 from the transition, one for each arc.
+    pub fn capped_outputs(&self, transition: usize) -> impl Iterator<Item = usize> + '_ {
+        let (_, outs) = self.in_and_out(transition);
+        outs.iter().map(|a| usize::from(a.place)).filter(|&p| self.cap(p).is_some())
     }
 
     /// Whether the transition has a wanted effect on a place of the set.

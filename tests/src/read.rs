@@ -1,4 +1,4 @@
-//! Reading a file: a net, or the first refusal of 1 to 8.
+//! Reading a file: a net, or the first refusal of 1 to 8 and 16.
 
 use crate::net::*;
 
@@ -16,7 +16,8 @@ pub fn read(file: &[u8], due: Option<Kind>) -> Result<Net, Refusal> {
         return Err(1);
     }
     let trailer = &file[file.len() - TRAILER..];
-    if &trailer[12..16] != b"BELL" || trailer[11] != 1 {
+    let edition = trailer[11];
+    if &trailer[12..16] != b"BELL" || !(edition == 1 || edition == 2) {
         return Err(2);
     }
     let kind = match trailer[10] {
@@ -37,7 +38,8 @@ pub fn read(file: &[u8], due: Option<Kind>) -> Result<Net, Refusal> {
     if kind == Kind::Plan && places == 0 && transitions == 0 {
         return Err(4);
     }
-    let mut length = 4 * places + 8 * arc_count;
+    let each = if edition == 2 { 8 } else { 4 };
+    let mut length = each * places + 8 * arc_count;
     if kind == Kind::Slice {
         length += 2 * places + 2 * transitions;
     }
@@ -47,9 +49,16 @@ pub fn read(file: &[u8], due: Option<Kind>) -> Result<Net, Refusal> {
     }
 
     let body_at = file.len() - TRAILER - length;
-    let arcs_at = body_at + 4 * places;
+    let arcs_at = body_at + each * places;
     let origins_at = arcs_at + 8 * arc_count;
-    let marking = (0..places).map(|p| four(file, body_at + 4 * p)).collect();
+    let (mut marking, mut caps) = (Vec::new(), Vec::new());
+    for place in file[body_at..arcs_at].chunks_exact(each) {
+        marking.push(four(place, 0));
+        caps.push(if edition == 2 { four(place, 4) } else { 0 });
+    }
+    if marking.iter().zip(&caps).any(|(&marking, &cap)| cap != 0 && marking > cap) {
+        return Err(16);
+    }
     let arcs = read_arcs(&file[arcs_at..origins_at], places, transitions)?;
     let (mut place_origins, mut transition_origins) = (Vec::new(), Vec::new());
     if kind == Kind::Slice {
@@ -58,7 +67,7 @@ pub fn read(file: &[u8], due: Option<Kind>) -> Result<Net, Refusal> {
         transition_origins = read_origins(&file[from..from + 2 * transitions])?;
     }
     let starts = find_starts(&arcs, transitions);
-    Ok(Net { kind, marking, arcs, starts, arcs_at, place_origins, transition_origins })
+    Ok(Net { kind, edition, marking, caps, arcs, starts, arcs_at, place_origins, transition_origins })
 }
 
 /// Arcs one by one, each for 6 and then for 7.

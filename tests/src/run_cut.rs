@@ -11,7 +11,7 @@ use crate::{criterion, list};
 pub enum RunCut {
     /// What a cut answers, and the count of the chosen positions.
     Written(Written, usize),
-    /// 14: the list sticks in replay.
+    /// 14: the list sticks in replay; a place is short, since a plan with caps is refused.
     Sticks { index: usize, place: u16, amount: u64 },
 }
 
@@ -24,11 +24,14 @@ pub fn run_cut(
     positions: &mut [u16],
 ) -> Result<RunCut, Refusal> {
     let net = read(plan, Some(Kind::Plan))?;
+    if net.has_caps() {
+        return Err(17);
+    }
     criterion::check(q, net.places())?;
     list::check(numbers, net.transitions())?;
     let (answer, end) = fire_list(&net, numbers);
-    if let Replayed::Stuck { index, place, amount } = answer {
-        return Ok(RunCut::Sticks { index, place, amount });
+    if let Replayed::Stuck { index, why } = answer {
+        return Ok(RunCut::Sticks { index, place: why.place, amount: why.amount });
     }
     let (kept, chosen) = go_back(&net, q, numbers, end);
     let slice = slice_bytes(&net, &kept);

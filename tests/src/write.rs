@@ -3,14 +3,17 @@
 use crate::cut::Kept;
 use crate::net::{Direction, Net};
 
-/// Kept places and transitions renumbered in rising order, their markings, every plan arc between
-/// them, and the origins.
+/// Kept places and transitions renumbered in rising order, their markings, in edition 2 their caps, every plan arc between
+/// them, and the origins; in the plan's edition.
 pub fn slice_bytes(plan: &Net, kept: &Kept) -> Vec<u8> {
     let (place_number, place_origins) = renumber(&kept.places);
     let (transition_number, transition_origins) = renumber(&kept.transitions);
     let mut body = Vec::new();
     for &p in &place_origins {
         body.extend(plan.marking[usize::from(p)].to_le_bytes());
+        if plan.edition == 2 {
+            body.extend(plan.caps[usize::from(p)].to_le_bytes());
+        }
     }
     let mut arcs = 0u16;
     for arc in &plan.arcs {
@@ -35,7 +38,7 @@ pub fn slice_bytes(plan: &Net, kept: &Kept) -> Vec<u8> {
     file.extend((transition_origins.len() as u16).to_le_bytes());
     file.extend(arcs.to_le_bytes());
     file.push(1);
-    file.push(1);
+    file.push(plan.edition);
     file.extend(b"BELL");
     file
 }

@@ -46,7 +46,7 @@ fn rich_slice(rng: &mut Rng) -> Draft {
 
 /// A damaged file of the kind, or of either.
 fn bad_file(rng: &mut Rng, kind: Option<Kind>) -> Vec<u8> {
-    let refusal = rng.below(9) as u32;
+    let refusal = any_refusal(rng);
     let slice = match kind {
         Some(kind) => kind == Kind::Slice,
         None => refusal == 8 || rng.percent(50),
@@ -98,7 +98,7 @@ fn some_slice(rng: &mut Rng, plan: &Net) -> Draft {
     if rng.percent(80) {
         honest_slice(rng, plan, &q)
     } else {
-        let rule = rng.range(1, 8) as u32;
+        let rule = any_rule(rng, 1);
         slice_against(rng, plan, &q, rule)
     }
 }
@@ -172,7 +172,7 @@ pub fn cut_case(rng: &mut Rng, which: Cut) -> CutCase {
 
 pub fn shadow_case(rng: &mut Rng) -> ShadowCase {
     let aim = rng.below(100);
-    let draft = plan_with_arcs(rng);
+    let draft = if rng.percent(15) { capped_plan(rng) } else { plan_with_arcs(rng) };
     let net = net_of(&draft);
     let slice_draft = some_slice(rng, &net);
     let (mut plan_file, mut slice_file) = (draft.bytes(), slice_draft.bytes());
@@ -220,7 +220,11 @@ fn lively_plan(rng: &mut Rng) -> Draft {
 
 pub fn run_cut_case(rng: &mut Rng) -> RunCutCase {
     let aim = rng.below(100);
-    let draft = if rng.percent(90) { lively_plan(rng) } else { plan(rng) };
+    let mut draft = if rng.percent(90) { lively_plan(rng) } else { plan(rng) };
+    // Caps are refused: mostly there are none.
+    if draft.has_caps() && rng.percent(80) {
+        draft.caps.clear();
+    }
     let net = net_of(&draft);
     let mut file = draft.bytes();
     if aim < 24 {
@@ -304,18 +308,18 @@ fn change_length(rng: &mut Rng, marking: &mut Vec<u64>) {
 /// Plan, slice and criterion for the checker.
 fn check_parts(rng: &mut Rng) -> (Vec<u8>, Vec<u8>, Vec<u16>) {
     let aim = rng.below(100);
-    let mut draft = plan_with_arcs(rng);
+    // Rules 1 to 10, the ones that need room in the net more often.
+    let rules = [1, 2, 3, 4, 4, 5, 6, 6, 7, 7, 8, 8, 8, 9, 9, 9, 9, 10, 10, 10, 10];
+    let rule = *rng.pick(&rules);
+    let against = (36..=75).contains(&aim);
+    let mut draft = if against && rule > 8 { capped_plan(rng) } else { plan_with_arcs(rng) };
     if draft.marking.is_empty() {
         draft = rich_plan(rng);
     }
     let net = net_of(&draft);
     let mut q = good_criterion(rng, net.places());
     let slice_draft = match aim {
-        // Rules 1 to 8, the ones that need room in the net more often.
-        36..=75 => {
-            let rule = *rng.pick(&[1, 2, 3, 4, 4, 5, 6, 6, 7, 7, 8, 8, 8]);
-            slice_against(rng, &net, &q, rule)
-        }
+        _ if against => slice_against(rng, &net, &q, rule),
         76..=77 => any_slice(rng),
         78..=79 => empty_slice(rng),
         _ => honest_slice(rng, &net, &q),
@@ -362,14 +366,14 @@ pub struct GuaranteeCase {
 }
 
 pub fn guarantee_case(rng: &mut Rng) -> GuaranteeCase {
-    let plan = plan_with_arcs(rng).bytes();
+    let plan = if rng.percent(20) { capped_plan(rng) } else { plan_with_arcs(rng) }.bytes();
     let net = read(&plan, Some(Kind::Plan)).expect("a good plan");
     let q = good_criterion(rng, net.places());
     // Mostly honest; some tampered ones that the checker has to tell apart.
     let draft = if rng.percent(85) {
         honest_slice(rng, &net, &q)
     } else {
-        let rule = rng.range(3, 8) as u32;
+        let rule = any_rule(rng, 3);
         slice_against(rng, &net, &q, rule)
     };
     let slice_net = net_of(&draft);
@@ -403,14 +407,15 @@ mod tests {
 
     #[test]
     fn every_outcome_has_its_share() {
-        share("effect", effect_case, &[0, 1, 2, 3, 4, 5, 6, 7, 8, 10, 12]);
-        share("replay", replay_case, &[0, 100, 1, 2, 3, 4, 5, 6, 7, 8, 11, 12, 13]);
-        share("safety", |rng| cut_case(rng, Cut::Safety), &[0, 1, 2, 3, 4, 5, 6, 7, 10, 13]);
-        share("branching", |rng| cut_case(rng, Cut::Branching), &[0, 1, 2, 3, 4, 5, 6, 7, 10, 13]);
-        share("shadow", shadow_case, &[0, 100, 1, 2, 3, 4, 5, 6, 7, 8, 11, 12, 13]);
-        share("run_cut", run_cut_case, &[0, 14, 1, 2, 3, 4, 5, 6, 7, 10, 11, 12, 13]);
-        share("together", together_case, &[0, 100, 1, 2, 3, 4, 5, 6, 7, 12, 13, 15]);
-        let mut checker = vec![0, 1, 2, 3, 4, 5, 6, 7, 8, 10, 101, 102, 103, 104, 105, 106, 107, 108];
+        share("effect", effect_case, &[0, 1, 2, 3, 4, 5, 6, 7, 8, 10, 12, 16]);
+        share("replay", replay_case, &[0, 100, 101, 1, 2, 3, 4, 5, 6, 7, 8, 11, 12, 13, 16]);
+        share("safety", |rng| cut_case(rng, Cut::Safety), &[0, 1, 2, 3, 4, 5, 6, 7, 10, 13, 16]);
+        share("branching", |rng| cut_case(rng, Cut::Branching), &[0, 1, 2, 3, 4, 5, 6, 7, 10, 13, 16]);
+        share("shadow", shadow_case, &[0, 100, 101, 1, 2, 3, 4, 5, 6, 7, 8, 11, 12, 13, 16]);
+        share("run_cut", run_cut_case, &[0, 14, 1, 2, 3, 4, 5, 6, 7, 10, 11, 12, 13, 16, 17]);
+        share("together", together_case, &[0, 100, 1, 2, 3, 4, 5, 6, 7, 12, 13, 15, 16]);
+        let mut checker = vec![0, 1, 2, 3, 4, 5, 6, 7, 8, 10, 16];
+        checker.extend(101..=110);
         share("verdict", verdict_case, &checker);
         // An odd number of bytes.
         checker.push(9);
@@ -425,7 +430,7 @@ mod tests {
             let case = shadow_case(&mut Rng::for_case(9, "shadow", number));
             let answer = case.second();
             let outcome = case.outcome(&answer);
-            if outcome.starts_with("stuck") {
+            if outcome.starts_with("short") || outcome.starts_with("full") {
                 let slice = read(case.slice.part(), Some(Kind::Slice)).unwrap();
                 if strike_out(&slice.transition_origins, case.list.part()).len() > case.out.len {
                     *counts.entry("stuck with less room".to_string()).or_insert(0) += 1;
@@ -433,9 +438,24 @@ mod tests {
             }
             *counts.entry(outcome).or_insert(0) += 1;
         }
-        for outcome in ["fired", "fired-none", "stuck", "stuck-none", "stuck with less room", "13-marking", "13-out"] {
+        let stuck = ["short", "short-none", "full", "full-none", "stuck with less room"];
+        for outcome in ["fired", "fired-none", "13-marking", "13-out"].into_iter().chain(stuck) {
             let count = counts.get(outcome).copied().unwrap_or(0);
             assert!(100 * count >= CASES, "{outcome} came {count} times in {CASES}");
+        }
+    }
+
+    /// Replays that are full at once, later, and in lists that are long enough for another way of firing.
+    #[test]
+    fn full_places_of_every_sort_have_their_share() {
+        let mut counts = BTreeMap::new();
+        for number in 0..CASES {
+            let case = replay_case(&mut Rng::for_case(13, "replay", number));
+            *counts.entry(case.outcome(&case.second())).or_insert(0) += 1;
+        }
+        for outcome in ["full-first", "full-later", "full-of-64-or-more"] {
+            let count = counts.get(outcome).copied().unwrap_or(0);
+            assert!(500 * count >= CASES, "{outcome} came {count} times in {CASES}");
         }
     }
 
@@ -472,19 +492,22 @@ mod tests {
         }
     }
 
-    /// Of the lists whose shadow has to fire, a good part sticks in the plan, some after firings.
+    /// Of the lists whose shadow has to fire, a good part sticks in the plan, some after firings; some find a place full.
     #[test]
     fn lists_that_stick_have_their_share() {
         let stuck = |case: &GuaranteeCase| {
             let plan = read(&case.plan, Some(Kind::Plan)).expect("a good plan");
             match fire_list(&plan, &case.plan_list).0 {
                 Replayed::Fired => None,
-                Replayed::Stuck { index, .. } => Some(index),
+                Replayed::Stuck { index, why } => Some((index, why.full)),
             }
         };
-        let at_all = percent("guarantee", guarantee_case, |c| stuck(c).is_some());
-        let later = percent("guarantee", guarantee_case, |c| stuck(c) > Some(0));
+        let share =
+            |test: fn((usize, bool)) -> bool| percent("guarantee", guarantee_case, |c| stuck(c).is_some_and(test));
+        let (at_all, later, full) = (share(|_| true), share(|(index, _)| index > 0), share(|(_, full)| full));
+        let full_later = share(|(index, full)| full && index > 0);
         assert!(at_all > 15.0 && later > 5.0, "{at_all} of a hundred stick, {later} after firings");
+        assert!(full > 4.0 && full_later > 2.0, "{full} of a hundred are full, {full_later} after firings");
     }
 
     /// The largest numbers come: a marking of 2^64 - 1, so many takings, and the last place that decides.
@@ -586,6 +609,47 @@ mod tests {
             equal >= 500 && falling >= 500 && heaviest >= 1,
             "{equal} equal, {falling} falling, {heaviest} heaviest"
         );
+    }
+
+    /// Of the plans a third is of edition 2. Of these some have no cap, some have places that are at their caps, some that are
+    /// soon, and some have the largest cap.
+    #[test]
+    fn caps_have_their_share() {
+        let (mut second, mut none, mut tight, mut soon, mut largest) = (0, 0, 0, 0, 0);
+        for number in 0..CASES {
+            let draft = plan(&mut Rng::for_case(11, "caps", number));
+            if draft.edition == 1 {
+                assert!(draft.caps.is_empty());
+                continue;
+            }
+            second += 1;
+            let left = |p: usize| draft.cap(p).checked_sub(draft.marking[p]);
+            let some =
+                |test: &dyn Fn(usize) -> bool| u64::from((0..draft.marking.len()).any(|p| draft.cap(p) > 0 && test(p)));
+            none += u64::from(!draft.has_caps());
+            tight += some(&|p| left(p) == Some(0));
+            soon += some(&|p| (1..5).contains(&left(p).unwrap()));
+            largest += some(&|p| draft.cap(p) == u32::MAX);
+        }
+        assert!((30 * CASES..40 * CASES).contains(&(100 * second)), "{second} of edition 2");
+        let sorts = [none, tight, soon, largest];
+        assert!(sorts.iter().all(|&count| 20 * count > CASES), "{sorts:?}");
+    }
+
+    /// Plan and slice of an accepted pair are of each edition; where they differ no kept place has a cap.
+    #[test]
+    fn editions_are_mixed() {
+        let mut pairs = BTreeMap::new();
+        for number in 0..CASES {
+            let case = verdict_case(&mut Rng::for_case(12, "editions", number));
+            if case.second().number == 0 {
+                let [plan, slice] = [&case.plan, &case.slice].map(|file| read(file.part(), None).unwrap());
+                assert!(plan.edition == slice.edition || !slice.has_caps());
+                *pairs.entry((plan.edition, slice.edition)).or_insert(0) += 1;
+            }
+        }
+        let counts: Vec<u64> = [(1, 1), (1, 2), (2, 1), (2, 2)].map(|pair| pairs[&pair]).to_vec();
+        assert!(counts.iter().all(|&count| 100 * count >= CASES), "{counts:?}");
     }
 
     #[test]

@@ -4,10 +4,15 @@ use super::draft::{Draft, DraftArc};
 use crate::net::{MAX_ARCS, MAX_FILE, MAX_PLACES, MAX_TRANSITIONS};
 use crate::rng::Rng;
 
-/// Damages a good file at random or aimed at refusals 1 to 8; `slice` tells the kind due.
-pub fn damaged(rng: &mut Rng, draft: &Draft) -> Vec<u8> {
-    let refusal = rng.below(9) as u32;
-    damage(rng, draft, refusal)
+/// The refusals of a file, in the order of checking.
+const ORDER: [u32; 9] = [1, 2, 3, 4, 5, 16, 6, 7, 8];
+
+/// One of them, or 0.
+pub fn any_refusal(rng: &mut Rng) -> u32 {
+    match rng.below(10) as u32 {
+        9 => 16,
+        refusal => refusal,
+    }
 }
 
 /// Damages a good file so that this refusal is likely the first; 0 is damage at random.
@@ -15,7 +20,8 @@ pub fn damage(rng: &mut Rng, draft: &Draft, refusal: u32) -> Vec<u8> {
     let mut draft = draft.clone();
     // Now and then a later fault stands there too.
     if rng.percent(20) && refusal > 0 {
-        let later = rng.range(refusal as usize, 8) as u32;
+        let at = ORDER.iter().position(|&r| r == refusal).expect("a refusal of a file");
+        let later = *rng.pick(&ORDER[at..]);
         spoil_field(rng, &mut draft, later);
     }
     spoil_field(rng, &mut draft, refusal);
@@ -38,7 +44,7 @@ fn spoil_field(rng: &mut Rng, draft: &mut Draft, refusal: u32) {
     match refusal {
         2 => {
             if rng.percent(50) {
-                draft.edition = *rng.pick(&[0, 2, 3, 129, 255]);
+                draft.edition = *rng.pick(&[0, 3, 4, 129, 255]);
             } else {
                 draft.letters[rng.below(4)] ^= 1 << rng.below(8);
             }
@@ -55,8 +61,32 @@ fn spoil_field(rng: &mut Rng, draft: &mut Draft, refusal: u32) {
         6 => wrong_arc(rng, draft),
         7 => wrong_order(rng, draft),
         8 => wrong_origins(rng, draft),
+        16 => wrong_cap(rng, draft),
         _ => (),
     }
+}
+
+/// A place with more tokens than its cap, in edition 2.
+fn wrong_cap(rng: &mut Rng, draft: &mut Draft) {
+    let places = draft.marking.len();
+    if places == 0 {
+        return;
+    }
+    draft.caps.resize(places, 0);
+    if !draft.wide {
+        draft.note.drain(..draft.note.len().min(4 * places));
+        draft.set_edition(2);
+    }
+    let any = rng.below(places);
+    let p = *rng.pick(&[0, places - 1, any]);
+    let any = rng.range(1, u32::MAX as usize) as u32;
+    let cap = match draft.cap(p) {
+        0 | u32::MAX => *rng.pick(&[1, 2, 255, 256, u32::MAX - 1, any - any / 2]),
+        cap => cap,
+    };
+    let above = cap + 1 + rng.below((u32::MAX - cap) as usize) as u32;
+    draft.caps[p] = cap;
+    draft.marking[p] = *rng.pick(&[cap + 1, above, u32::MAX]);
 }
 
 fn wrong_counts(rng: &mut Rng, draft: &mut Draft) {
@@ -84,7 +114,9 @@ fn wrong_body_length(rng: &mut Rng, draft: &mut Draft) {
         let n = usize::from(n);
         *rng.pick(&[n + 1, n + 1, n.saturating_sub(1), limit]) as u16
     };
-    match rng.below(8) {
+    match rng.below(9) {
+        // The other edition, the body as it was.
+        8 => draft.edition = 3 - draft.edition.clamp(1, 2),
         0 => draft.body_length = draft.body_length.wrapping_add(1),
         1 => draft.body_length = draft.body_length.wrapping_sub(1),
         2 => draft.body_length ^= 1 << rng.below(32),
@@ -216,7 +248,8 @@ fn spoil_bytes(rng: &mut Rng, file: &mut Vec<u8>) {
             // Random bytes before a good end of a trailer.
             let n = rng.below(60);
             *file = rng.bytes(n);
-            file.extend(b"\x00\x01BELL");
+            file.extend([0, rng.range(1, 2) as u8]);
+            file.extend(b"BELL");
         }
         10 if rng.percent(5) => {
             // 65,535 to 65,537 bytes.

@@ -21,6 +21,10 @@ impl DraftArc {
 pub struct Draft {
     pub note: Vec<u8>,
     pub marking: Vec<u32>,
+    /// The caps of the first places; those of the others are 0.
+    pub caps: Vec<u32>,
+    /// Whether a place has 8 bytes, marking and cap, or only 4.
+    pub wide: bool,
     pub arcs: Vec<DraftArc>,
     pub place_origins: Vec<u16>,
     pub transition_origins: Vec<u16>,
@@ -34,11 +38,13 @@ pub struct Draft {
 }
 
 impl Draft {
-    /// A plan without a note, its trailer right.
+    /// A plan of edition 1 without a note, its trailer right.
     pub fn plan(marking: Vec<u32>, transitions: usize, arcs: Vec<DraftArc>) -> Draft {
         let mut draft = Draft {
             note: Vec::new(),
             marking,
+            caps: Vec::new(),
+            wide: false,
             arcs,
             place_origins: Vec::new(),
             transition_origins: Vec::new(),
@@ -63,6 +69,28 @@ impl Draft {
         self
     }
 
+    /// The same in edition 2, with these caps.
+    pub fn with_caps(mut self, caps: Vec<u32>) -> Draft {
+        self.caps = caps;
+        self.set_edition(2);
+        self
+    }
+
+    /// Edition 1 or 2, and the places written so; in edition 1 caps are lost.
+    pub fn set_edition(&mut self, edition: u8) {
+        self.edition = edition;
+        self.wide = edition == 2;
+        self.measure();
+    }
+
+    pub fn cap(&self, place: usize) -> u32 {
+        self.caps.get(place).copied().unwrap_or(0)
+    }
+
+    pub fn has_caps(&self) -> bool {
+        self.wide && self.caps.iter().any(|&cap| cap > 0)
+    }
+
     pub fn of(net: &Net) -> Draft {
         let arc = |a: &crate::net::Arc| DraftArc {
             transition: a.transition,
@@ -71,7 +99,10 @@ impl Draft {
             place: a.place,
             weight: a.weight,
         };
-        let draft = Draft::plan(net.marking.clone(), net.transitions(), net.arcs.iter().map(arc).collect());
+        let mut draft = Draft::plan(net.marking.clone(), net.transitions(), net.arcs.iter().map(arc).collect());
+        if net.edition == 2 {
+            draft = draft.with_caps(net.caps.clone());
+        }
         match net.kind {
             crate::net::Kind::Plan => draft,
             crate::net::Kind::Slice => draft.into_slice(net.place_origins.clone(), net.transition_origins.clone()),
@@ -91,14 +122,18 @@ impl Draft {
     /// Sets the body length to what the trailer's counts ask for.
     pub fn measure(&mut self) {
         let (p, t, a) = (u32::from(self.places), u32::from(self.transitions), u32::from(self.arc_count));
-        self.body_length = 4 * p + 8 * a + if self.kind == 1 { 2 * p + 2 * t } else { 0 };
+        let each = if self.wide { 8 } else { 4 };
+        self.body_length = each * p + 8 * a + if self.kind == 1 { 2 * p + 2 * t } else { 0 };
     }
 
     pub fn bytes(&self) -> Vec<u8> {
         let mut file = Vec::with_capacity(self.note.len() + self.body_length as usize % 65_536 + 32);
         file.extend(&self.note);
-        for m in &self.marking {
+        for (p, m) in self.marking.iter().enumerate() {
             file.extend(m.to_le_bytes());
+            if self.wide {
+                file.extend(self.cap(p).to_le_bytes());
+            }
         }
         for a in &self.arcs {
             file.extend(a.transition.to_le_bytes());

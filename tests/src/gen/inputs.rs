@@ -2,7 +2,7 @@
 
 use crate::cases::Lent;
 use crate::net::{Net, MAX_LIST};
-use crate::replay::{fire, initial, short_place};
+use crate::replay::{fire, hindrance, initial};
 use crate::rng::Rng;
 
 /// A good criterion, empty where there is no place, and now and then else.
@@ -104,6 +104,27 @@ fn fire_on(rng: &mut Rng, net: &Net, most: usize) -> (Vec<u16>, Vec<u64>) {
     (list, marking)
 }
 
+/// A list whose last number finds a place full, where that comes soon, after other firings if there can be any.
+fn filling_list(rng: &mut Rng, net: &Net, most: usize) -> Vec<u16> {
+    let mut marking = initial(net);
+    let mut list = Vec::new();
+    let mut first = None;
+    for _ in 0..8 * most {
+        let t = rng.below(net.transitions());
+        match fire(net, t, &mut marking) {
+            Ok(()) => list.push(t as u16),
+            Err(why) if why.full && !list.is_empty() => {
+                list.push(t as u16);
+                return list;
+            }
+            Err(why) if why.full => first = Some(t as u16),
+            Err(_) => (),
+        }
+    }
+    list.extend(first.filter(|_| list.is_empty()));
+    list
+}
+
 /// A list for replay: none, any numbers, one that fires, or one that sticks after some firings.
 pub fn list_for(rng: &mut Rng, net: &Net) -> Vec<u16> {
     let transitions = net.transitions();
@@ -118,6 +139,12 @@ pub fn list_for(rng: &mut Rng, net: &Net) -> Vec<u16> {
     };
     match rng.below(10) {
         0..=1 => (0..rng.range(1, 12)).map(|_| rng.below(transitions) as u16).collect(),
+        2..=5 if net.has_caps() && rng.percent(60) => {
+            let mut list = filling_list(rng, net, 12);
+            let rest = if rng.percent(15) { rng.range(60, 80) } else { 0 };
+            list.extend((0..rest).map(|_| rng.below(transitions) as u16));
+            list
+        }
         2..=5 => {
             let count = if most > 24 { most } else { rng.range(1, most) };
             firing_list(rng, net, count)
@@ -125,10 +152,12 @@ pub fn list_for(rng: &mut Rng, net: &Net) -> Vec<u16> {
         _ => {
             let count = rng.range(0, most - 1);
             let (mut list, marking) = fire_on(rng, net, count);
-            let stuck: Vec<usize> =
-                (0..transitions.min(64)).filter(|&t| short_place(net, t, &marking).is_some()).collect();
+            let hindered = (0..transitions.min(64)).filter_map(|t| Some((t, hindrance(net, t, &marking)?)));
+            let (full, short): (Vec<_>, Vec<_>) = hindered.partition(|(_, why)| why.full);
+            // Full rather than short, where there is both.
+            let stuck = if short.is_empty() || !full.is_empty() && rng.percent(70) { full } else { short };
             if !stuck.is_empty() {
-                list.push(*rng.pick(&stuck) as u16);
+                list.push(rng.pick(&stuck).0 as u16);
             }
             // Lists of 64 entries and more are fired through by another way than shorter ones.
             let rest = if rng.percent(5) { rng.range(60, 80) } else { rng.below(4) };

@@ -8,8 +8,8 @@ mod plan;
 mod slice;
 
 pub use calls::*;
-pub use damage::{damage, damaged};
+pub use damage::{any_refusal, damage};
 pub use draft::{Draft, DraftArc};
 pub use inputs::*;
-pub use plan::{limit_plan, plan};
+pub use plan::{capped_plan, limit_plan, plan};
 pub use slice::*;

@@ -2,7 +2,7 @@
 //! of a size at which the library's tables change, or near it.
 
 use super::draft::{Draft, DraftArc};
-use crate::net::{MAX_ARCS, MAX_FILE, MAX_PLACES, MAX_TRANSITIONS};
+use crate::net::{MAX_ARCS, MAX_FILE, MAX_PLACES, MAX_TRANSITIONS, TRAILER};
 use crate::rng::Rng;
 use std::sync::OnceLock;
 
@@ -23,8 +23,48 @@ pub fn plan(rng: &mut Rng) -> Draft {
     if draft.note.is_empty() && rng.percent(40) {
         add_parallels(rng, &mut draft);
     }
+    if rng.percent(35) {
+        let share = *rng.pick(&[0, 20, 50, 100]);
+        add_caps(rng, &mut draft, share);
+    }
     add_note(rng, &mut draft);
     draft
+}
+
+/// A plan of edition 2 with an arc and a cap.
+pub fn capped_plan(rng: &mut Rng) -> Draft {
+    loop {
+        let mut draft = plan(rng);
+        if draft.arcs.is_empty() {
+            continue;
+        }
+        let share = *rng.pick(&[30, 60, 100]);
+        add_caps(rng, &mut draft, share);
+        if draft.has_caps() {
+            return draft;
+        }
+    }
+}
+
+/// Makes it edition 2, with caps on so many of a hundred places: the marking itself, a little more, the largest cap, or any.
+fn add_caps(rng: &mut Rng, draft: &mut Draft, share: usize) {
+    let style = rng.below(6);
+    let cap = |rng: &mut Rng, held: u32| {
+        let soon = held.saturating_add(rng.range(1, 4) as u32);
+        let any = held.max(rng.next() as u32);
+        let cap = match style {
+            0 => held,
+            1 => soon,
+            2 => u32::MAX,
+            _ => *rng.pick(&[held, held, soon, soon, soon, any, u32::MAX - 1, u32::MAX]),
+        };
+        cap.max(held).max(1)
+    };
+    draft.caps = draft.marking.iter().map(|&held| if rng.percent(share) { cap(rng, held) } else { 0 }).collect();
+    draft.set_edition(2);
+    // A note that fills the file gives way.
+    let length = draft.note.len() + draft.body_length as usize + TRAILER;
+    draft.note.drain(..length.saturating_sub(MAX_FILE));
 }
 
 /// Some arcs several times, in any order of their weights: a few, or now and then one arc as often as there is room.

@@ -30,6 +30,9 @@ pub fn empty_slice(rng: &mut Rng) -> Draft {
     let mut slice = Draft::plan(Vec::new(), 0, Vec::new()).into_slice(Vec::new(), Vec::new());
     let n = rng.below(40).saturating_sub(30);
     slice.note = rng.bytes(n);
+    if rng.percent(35) {
+        slice.set_edition(2);
+    }
     slice
 }
 
@@ -73,7 +76,7 @@ pub fn slice_of(plan: &Net, kept: &Kept) -> Draft {
     Draft::of(&read(&slice_bytes(plan, kept), Some(Kind::Slice)).expect("a good slice"))
 }
 
-/// An accepted slice, now and then with a note.
+/// An accepted slice, now and then with a note, or in the other edition where that loses no cap.
 pub fn honest_slice(rng: &mut Rng, plan: &Net, q: &[u16]) -> Draft {
     let kept = honest_sets(rng, plan, q);
     let mut slice = slice_of(plan, &kept);
@@ -81,15 +84,27 @@ pub fn honest_slice(rng: &mut Rng, plan: &Net, q: &[u16]) -> Draft {
         let n = rng.range(1, 9);
         slice.note = rng.bytes(n);
     }
+    if !slice.has_caps() && rng.percent(25) {
+        slice.set_edition(3 - slice.edition);
+    }
     slice
+}
+
+/// Any rule of the checker.
+pub fn any_rule(rng: &mut Rng, from: usize) -> u32 {
+    rng.range(from, 10) as u32
 }
 
 /// A slice meant to break this rule first; where the net has no room for that, it breaks another or none.
 pub fn slice_against(rng: &mut Rng, plan: &Net, q: &[u16], rule: u32) -> Draft {
     let mut kept = honest_sets(rng, plan, q);
     match rule {
-        5..=8 => {
+        5..=10 => {
             leave_out(rng, plan, q, rule, &mut kept);
+            // Rules 9 and 10 together, now and then.
+            if rule == 9 && rng.percent(15) {
+                leave_out(rng, plan, q, 10, &mut kept);
+            }
             slice_of(plan, &kept)
         }
         _ => {
@@ -105,7 +120,7 @@ pub fn slice_against(rng: &mut Rng, plan: &Net, q: &[u16], rule: u32) -> Draft {
     }
 }
 
-/// Leaves places or transitions out of closed sets so that rule 5, 6, 7 or 8 is broken.
+/// Leaves places or transitions out of closed sets so that a rule from 5 to 10 is broken; of 9 and 10 that one alone.
 fn leave_out(rng: &mut Rng, plan: &Net, q: &[u16], rule: u32, kept: &mut Kept) {
     let mut in_q = vec![false; plan.places()];
     q.iter().for_each(|&p| in_q[usize::from(p)] = true);
@@ -135,6 +150,29 @@ fn leave_out(rng: &mut Rng, plan: &Net, q: &[u16], rule: u32, kept: &mut Kept) {
                     kept.transitions[t] = true;
                 }
             }
+            9 => {
+                let (mut inputs, mut outputs) = (in_q.clone(), vec![false; plan.places()]);
+                for t in kept_transitions(kept) {
+                    plan.in_and_out(t).0.iter().for_each(|a| inputs[usize::from(a.place)] = true);
+                    plan.capped_outputs(t).for_each(|p| outputs[p] = true);
+                }
+                let those: Vec<usize> = kept_places(kept).into_iter().filter(|&p| outputs[p] && !inputs[p]).collect();
+                if !those.is_empty() {
+                    kept.places[*rng.pick(&those)] = false;
+                }
+            }
+            10 => {
+                let capped = plan.capped_of(&kept.places);
+                let alone = |t: &usize| {
+                    plan.has_effect(*t, &capped, changes)
+                        && !plan.has_effect(*t, &in_q, changes)
+                        && !plan.has_effect(*t, &kept.places, raises)
+                };
+                let those: Vec<usize> = kept_transitions(kept).into_iter().filter(alone).collect();
+                if !those.is_empty() {
+                    kept.transitions[*rng.pick(&those)] = false;
+                }
+            }
             _ => {
                 let those: Vec<usize> = kept_transitions(kept)
                     .into_iter()
@@ -159,16 +197,38 @@ fn tamper(rng: &mut Rng, plan: &Net, slice: &mut Draft, rule: u32) {
             slice.transition_origins.push(beyond);
         }
         2 => raise_origins(rng, &mut slice.transition_origins, plan.transitions()),
+        3 if slice.marking.is_empty() => (),
+        3 if rng.percent(40) => tamper_caps(rng, slice),
         3 => {
-            if !slice.marking.is_empty() {
-                let p = rng.below(slice.marking.len());
-                let bit = if rng.percent(50) { 0 } else { rng.below(32) };
-                slice.marking[p] ^= 1 << bit;
+            let p = rng.below(slice.marking.len());
+            let bit = if rng.percent(50) { 0 } else { rng.below(32) };
+            let (held, cap) = (slice.marking[p], slice.cap(p));
+            slice.marking[p] ^= 1 << bit;
+            // Above its cap the file would be refused.
+            if cap > 0 && slice.marking[p] > cap {
+                slice.marking[p] = if held > 0 { held - 1 } else { cap };
             }
         }
         _ => tamper_arcs(rng, plan, slice),
     }
     slice.count();
+}
+
+/// Another cap for a place: none, one token more or less, the largest, or one that just holds its tokens. Or all caps lost, by
+/// edition 1.
+fn tamper_caps(rng: &mut Rng, slice: &mut Draft) {
+    if slice.has_caps() && rng.percent(20) {
+        slice.set_edition(1);
+        return;
+    }
+    slice.caps.resize(slice.marking.len(), 0);
+    slice.set_edition(2);
+    let p = rng.below(slice.marking.len());
+    let (held, cap) = (slice.marking[p], slice.caps[p]);
+    let fit = |other: &u32| *other != cap && (*other == 0 || *other >= held);
+    let others = [0, held, held.saturating_add(1), cap.saturating_sub(1), cap.saturating_add(1), u32::MAX];
+    let others: Vec<u32> = others.into_iter().filter(fit).collect();
+    slice.caps[p] = *rng.pick(&others);
 }
 
 /// Moves the last few origins out of the plan's range.
@@ -275,7 +335,52 @@ fn join_parallels(rng: &mut Rng, slice: &mut Draft) -> bool {
 mod tests {
     use super::*;
     use crate::check::{judge, Verdict};
-    use crate::gen::good_criterion;
+    use crate::gen::{capped_plan, good_criterion};
+
+    /// Slices against rule 9 or 10 break that one and no rule before; against 9, now and then 10 besides.
+    #[test]
+    fn rules_9_and_10_are_broken_alone() {
+        let (mut ninth, mut tenth) = (0, 0);
+        for seed in 0..20_000 {
+            let mut rng = Rng::new(seed);
+            let plan = net_of(&capped_plan(&mut rng));
+            let q = good_criterion(&mut rng, plan.places());
+            let mut against = |rule| judge(&plan, &net_of(&slice_against(&mut rng, &plan, &q, rule)), &q);
+            match against(9) {
+                Verdict::Accepted => (),
+                Verdict::Broken { rule: 9, .. } => ninth += 1,
+                Verdict::Broken { rule, .. } => assert_eq!(rule, 10, "seed {seed}"),
+            }
+            match against(10) {
+                Verdict::Accepted => (),
+                Verdict::Broken { rule, .. } => {
+                    assert_eq!(rule, 10, "seed {seed}");
+                    tenth += 1;
+                }
+            }
+        }
+        assert!(ninth > 1_000 && tenth > 1_000, "{ninth} against 9, {tenth} against 10");
+    }
+
+    /// Another cap, or none, breaks rule 3; the file stays good.
+    #[test]
+    fn other_caps_break_rule_3() {
+        let mut broken = 0;
+        for seed in 0..5_000 {
+            let mut rng = Rng::new(seed);
+            let plan = net_of(&capped_plan(&mut rng));
+            let q = good_criterion(&mut rng, plan.places());
+            let mut slice = honest_slice(&mut rng, &plan, &q);
+            if slice.marking.is_empty() {
+                continue;
+            }
+            tamper_caps(&mut rng, &mut slice);
+            let verdict = judge(&plan, &net_of(&slice), &q);
+            assert!(matches!(verdict, Verdict::Broken { rule: 3, .. }), "seed {seed}: {verdict:?}");
+            broken += 1;
+        }
+        assert!(broken > 1_000, "{broken}");
+    }
 
     /// Rule 4 compares arcs with their repeats, in order.
     #[test]

@@ -1,6 +1,6 @@
 //! The comparison of nesfoal_arcs.
 
-use crate::frame::Call;
+use crate::frame::{Call, Spoil};
 use crate::library;
 use nesfoal_tests::cases::*;
 use nesfoal_tests::fixed::{self, Fixed};
@@ -12,6 +12,14 @@ pub struct Arcs;
 impl Call for Arcs {
     type Case = ArcsCase;
     const NAME: &'static str = "arcs";
+    const SPOILS: &'static [Spoil] = &[
+        // The start of long runs one arc off.
+        ("start", |answer| {
+            if answer.number > 16 {
+                answer.outs[0] += 8;
+            }
+        }),
+    ];
 
     fn fixed() -> Vec<Fixed<ArcsCase>> {
         fixed::arc_runs()
@@ -23,12 +31,5 @@ impl Call for Arcs {
 
     fn library(case: &ArcsCase) -> Answer {
         library::arcs(case)
-    }
-
-    /// The start of long runs one arc off.
-    fn spoil(answer: &mut Answer) {
-        if answer.number > 16 {
-            answer.outs[0] += 8;
-        }
     }
 }

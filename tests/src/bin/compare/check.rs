@@ -1,6 +1,6 @@
 //! The comparison of nesfoal_check.
 
-use crate::frame::Call;
+use crate::frame::{above, forget, Call, Spoil};
 use crate::library;
 use nesfoal_tests::cases::*;
 use nesfoal_tests::fixed::{self, Fixed};
@@ -12,6 +12,12 @@ pub struct Check;
 impl Call for Check {
     type Case = CheckCase;
     const NAME: &'static str = "check";
+    const SPOILS: &'static [Spoil] = &[
+        ("rule_8", |answer| forget(answer, 108)),
+        ("rule_9", |answer| forget(answer, 109)),
+        ("rule_10", |answer| forget(answer, 110)),
+        ("above", above),
+    ];
 
     fn fixed() -> Vec<Fixed<CheckCase>> {
         fixed::checks()
@@ -23,12 +29,5 @@ impl Call for Check {
 
     fn library(case: &CheckCase) -> Answer {
         library::check(case)
-    }
-
-    /// Rule 8 is forgotten.
-    fn spoil(answer: &mut Answer) {
-        if answer.number == 108 {
-            answer.number = 0;
-        }
     }
 }

@@ -1,6 +1,6 @@
 //! The comparison of nesfoal_effect.
 
-use crate::frame::Call;
+use crate::frame::{above, Call, Spoil};
 use crate::library;
 use nesfoal_tests::cases::*;
 use nesfoal_tests::fixed::{self, Fixed};
@@ -12,6 +12,7 @@ pub struct Effect;
 impl Call for Effect {
     type Case = EffectCase;
     const NAME: &'static str = "effect";
+    const SPOILS: &'static [Spoil] = &[("sign", |answer| answer.outs[0] = -answer.outs[0]), ("above", above)];
 
     fn fixed() -> Vec<Fixed<EffectCase>> {
         fixed::effects()
@@ -23,10 +24,5 @@ impl Call for Effect {
 
     fn library(case: &EffectCase) -> Answer {
         library::effect(case)
-    }
-
-    /// A wrong sign.
-    fn spoil(answer: &mut Answer) {
-        answer.outs[0] = -answer.outs[0];
     }
 }

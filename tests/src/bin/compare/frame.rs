@@ -1,6 +1,6 @@
 //! The frame of a comparison: fixed cases, random cases on two threads, differences, histogram.
 
-use nesfoal_tests::cases::{Answer, Case};
+use nesfoal_tests::cases::{Answer, Case, Cells};
 use nesfoal_tests::fixed::Fixed;
 use nesfoal_tests::rng::Rng;
 use std::collections::BTreeMap;
@@ -48,8 +48,58 @@ pub trait Call {
     fn random(rng: &mut Rng) -> Self::Case;
     /// The library's answer.
     fn library(case: &Self::Case) -> Answer;
-    /// A small change of some answers, for `--break`.
-    fn spoil(answer: &mut Answer);
+    /// Small changes of some answers, each by its name, for `--break`: each has to be found.
+    const SPOILS: &'static [Spoil];
+}
+
+pub type Spoil = (&'static str, fn(&mut Answer));
+
+/// A guard byte after the buffer is taken as written.
+#[allow(dead_code)]
+pub fn past_the_end(answer: &mut Answer) {
+    if let (0, [Cells::Bytes(cells)]) = (answer.number, &mut answer.cells[..]) {
+        *cells.last_mut().unwrap() ^= 1;
+    }
+}
+
+/// A number is forgotten: all is well.
+pub fn forget(answer: &mut Answer, number: u32) {
+    if answer.number == number {
+        answer.number = 0;
+    }
+}
+
+/// A marking above its cap is no fault.
+#[allow(dead_code)]
+pub fn above(answer: &mut Answer) {
+    forget(answer, 16);
+}
+
+/// The number of a full place is that of a short one.
+#[allow(dead_code)]
+pub fn full_as_short(answer: &mut Answer) {
+    if answer.number == 101 {
+        answer.number = 100;
+    }
+}
+
+/// One token more is above the cap.
+#[allow(dead_code)]
+pub fn more_above(answer: &mut Answer) {
+    if answer.number == 101 {
+        answer.outs[2] += 1;
+    }
+}
+
+/// A slice of edition 2 is written as one of edition 1.
+#[allow(dead_code)]
+pub fn edition_1(answer: &mut Answer) {
+    const END: &[u8] = b"\x01\x02BELL";
+    if let (0, Some(Cells::Bytes(cells))) = (answer.number, answer.cells.first_mut()) {
+        if let Some(at) = cells.windows(END.len()).rposition(|end| end == END) {
+            cells[at + 1] = 1;
+        }
+    }
 }
 
 /// What a comparison has found so far.
@@ -99,14 +149,8 @@ pub fn on_threads(cases: u64, each: impl Fn(u64, &mut Histogram) + Sync) -> Hist
 pub fn compare<C: Call>(settings: &Settings) -> bool {
     let name = C::NAME;
     let start = Instant::now();
-    let found = Found::default();
-    let second = |case: &C::Case| {
-        let mut answer = case.second();
-        if settings.broken {
-            C::spoil(&mut answer);
-        }
-        answer
-    };
+    let spoils: &[Spoil] = if settings.broken { C::SPOILS } else { &[("", |_| ())] };
+    let sides: Vec<Side> = spoils.iter().map(|spoil| Side::new(name, spoil)).collect();
 
     let fixed = C::fixed();
     println!("compare {name}: {} fixed cases, then {} random ones", fixed.len(), settings.cases);
@@ -114,12 +158,15 @@ pub fn compare<C: Call>(settings: &Settings) -> bool {
         if settings.trace {
             println!("{name}, fixed case: {}\n{}", one.name, one.case.show());
         }
-        let (theirs, ours) = (C::library(&one.case), second(&one.case));
+        let theirs = C::library(&one.case);
         let due = one.fault(&theirs);
-        if theirs != ours || due.is_some() {
-            found.difference(name, &format!("fixed case: {}", one.name), || {
-                show(&one.case, &theirs, &ours) + &due.unwrap_or_default()
-            });
+        for side in &sides {
+            let ours = side.spoilt(one.case.second());
+            if theirs != ours || due.is_some() {
+                side.found.difference(&side.name, &format!("fixed case: {}", one.name), || {
+                    show(&one.case, &theirs, &ours) + due.as_deref().unwrap_or_default()
+                });
+            }
         }
     }
 
@@ -129,17 +176,42 @@ pub fn compare<C: Call>(settings: &Settings) -> bool {
         if settings.trace {
             println!("{name}, seed {} case {number}\n{}", settings.seed, case.show());
         }
-        let (ours, theirs) = (second(&case), C::library(&case));
-        if theirs != ours {
-            found.difference(name, &format!("seed {} case {number}", settings.seed), || show(&case, &theirs, &ours));
+        let (second, theirs) = (case.second(), C::library(&case));
+        *histogram.entry(case.outcome(&second)).or_insert(0) += 1;
+        for side in &sides {
+            let ours = side.spoilt(second.clone());
+            if theirs != ours {
+                let at = format!("seed {} case {number}", settings.seed);
+                side.found.difference(&side.name, &at, || show(&case, &theirs, &ours));
+            }
         }
-        *histogram.entry(case.outcome(&ours)).or_insert(0) += 1;
     });
     print_histogram(name, &histogram);
     let seconds = start.elapsed().as_secs_f64();
     let cases = settings.cases + fixed.len() as u64;
-    println!("compare {name}: {cases} cases, {} differences ({seconds:.1} s)", found.count());
-    found.count() == 0
+    for side in &sides {
+        println!("compare {}: {cases} cases, {} differences ({seconds:.1} s)", side.name, side.found.count());
+    }
+    sides.iter().all(|side| side.found.count() == 0)
+}
+
+/// The second implementation's answers, as they are or spoilt in one way.
+struct Side {
+    name: String,
+    spoil: fn(&mut Answer),
+    found: Found,
+}
+
+impl Side {
+    fn new(call: &str, (name, spoil): &Spoil) -> Side {
+        let name = if name.is_empty() { call.to_string() } else { format!("{call}_{name}") };
+        Side { name, spoil: *spoil, found: Found::default() }
+    }
+
+    fn spoilt(&self, mut answer: Answer) -> Answer {
+        (self.spoil)(&mut answer);
+        answer
+    }
 }
 
 fn show<C: Case>(case: &C, library: &Answer, second: &Answer) -> String {

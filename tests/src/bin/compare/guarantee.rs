@@ -3,7 +3,8 @@
 //!
 //! The shadow of a list, of one that sticks too, fires in the slice; tokens on a kept place are then at
 //! least those that the run in the plan left, and the same on Q. A list that fires in the slice fires in the plan
-//! and leaves the same tokens on every kept place. And every accepted slice has all that our safety cut has.
+//! and leaves the same tokens on every kept place. And every accepted slice has all that our safety cut has. Firing is by the
+//! caps, where there are any.
 //!
 //! Of our branching cut: it is accepted and leaves out nothing that changes a kept place; a list that fires
 //! in the plan leaves the plan's tokens on all its places (`exact`); and every accepted slice that leaves
@@ -17,6 +18,7 @@ use nesfoal_tests::cut::{kept, Cut};
 use nesfoal_tests::gen::{guarantee_case, GuaranteeCase};
 use nesfoal_tests::net::{changes, Kind, Net};
 use nesfoal_tests::read::read;
+use nesfoal_tests::replay::{fire_list, Replayed};
 use nesfoal_tests::rng::Rng;
 use nesfoal_tests::write::slice_bytes;
 use std::sync::atomic::{AtomicU64, Ordering};
@@ -29,7 +31,7 @@ const CONTAINED: &str = "contained";
 pub fn compare(settings: &Settings) -> bool {
     let start = Instant::now();
     let found = [NAME, EXACT, CONTAINED].map(|name| (name, Found::default()));
-    let [accepted, others, changers, other_changers] = [(); 4].map(|()| AtomicU64::new(0));
+    let [accepted, others, changers, other_changers, capped, full] = [(); 6].map(|()| AtomicU64::new(0));
     println!("compare {NAME}: {} random cases", settings.cases);
     let histogram = on_threads(settings.cases, |number, histogram| {
         let mut rng = Rng::for_case(settings.seed, NAME, number);
@@ -42,6 +44,8 @@ pub fn compare(settings: &Settings) -> bool {
                 (&others, seen.safety != case.slice),
                 (&changers, seen.keeps_changers),
                 (&other_changers, seen.keeps_changers && seen.branching != case.slice),
+                (&capped, seen.slice.has_caps()),
+                (&full, seen.slice.has_caps() && seen.is_full()),
             ] {
                 count.fetch_add(u64::from(counts), Ordering::Relaxed);
             }
@@ -57,12 +61,13 @@ pub fn compare(settings: &Settings) -> bool {
         *histogram.entry(verdict.to_string()).or_insert(0) += 1;
     });
     print_histogram(NAME, &histogram);
-    let [accepted, others, changers, other_changers] =
-        [accepted, others, changers, other_changers].map(AtomicU64::into_inner);
+    let [accepted, others, changers, other_changers, capped, full] =
+        [accepted, others, changers, other_changers, capped, full].map(AtomicU64::into_inner);
     println!("  accepted slices: {accepted}, of which {others} are not our own safety cut");
     println!(
         "  {changers} keep all that changes their places, of which {other_changers} are not our own branching cut"
     );
+    println!("  {capped} have caps; for {full} of them the plan's list finds a place full");
     let seconds = start.elapsed().as_secs_f64();
     for (name, found) in &found {
         println!("compare {name}: {} cases, {} differences ({seconds:.1} s)", settings.cases, found.count());
@@ -92,6 +97,11 @@ impl Accepted<'_> {
         let keeps_changers = keeps_changers(&plan, &slice);
         let (safety, branching) = (our_cut(case, &plan, Cut::Safety), our_cut(case, &plan, Cut::Branching));
         Accepted { case, plan, slice, keeps_changers, safety, branching }
+    }
+
+    /// Whether the plan's list finds a place full.
+    fn is_full(&self) -> bool {
+        matches!(fire_list(&self.plan, &self.case.plan_list).0, Replayed::Stuck { why, .. } if why.full)
     }
 
     /// Fails where the checker's guarantee does.

@@ -1,6 +1,6 @@
 //! The comparison of nesfoal_replay.
 
-use crate::frame::Call;
+use crate::frame::{above, full_as_short, more_above, Call, Spoil};
 use crate::library;
 use nesfoal_tests::cases::*;
 use nesfoal_tests::fixed::{self, Fixed};
@@ -12,6 +12,23 @@ pub struct Replay;
 impl Call for Replay {
     type Case = ReplayCase;
     const NAME: &'static str = "replay";
+    const SPOILS: &'static [Spoil] = &[
+        // Another short place, where a later firing sticks.
+        ("place", |answer| {
+            if answer.number == 100 && answer.outs[0] > 0 {
+                answer.outs[1] += 1;
+            }
+        }),
+        // One token too many is missing.
+        ("amount", |answer| {
+            if answer.number == 100 {
+                answer.outs[2] += 1;
+            }
+        }),
+        ("full", full_as_short),
+        ("excess", more_above),
+        ("above", above),
+    ];
 
     fn fixed() -> Vec<Fixed<ReplayCase>> {
         fixed::replays()
@@ -23,13 +40,5 @@ impl Call for Replay {
 
     fn library(case: &ReplayCase) -> Answer {
         library::replay(case)
-    }
-
-    /// Another short place where a later firing sticks; where the first does, one token too many.
-    fn spoil(answer: &mut Answer) {
-        if answer.number == 100 {
-            let which = if answer.outs[0] > 0 { 1 } else { 2 };
-            answer.outs[which] += 1;
-        }
     }
 }

@@ -1,6 +1,6 @@
 //! The comparison of nesfoal_run_cut.
 
-use crate::frame::Call;
+use crate::frame::{above, edition_1, forget, Call, Spoil};
 use crate::library;
 use nesfoal_tests::cases::*;
 use nesfoal_tests::fixed::{self, Fixed};
@@ -12,6 +12,23 @@ pub struct RunCut;
 impl Call for RunCut {
     type Case = RunCutCase;
     const NAME: &'static str = "run_cut";
+    const SPOILS: &'static [Spoil] = &[
+        // One transition too many is kept.
+        ("kept", |answer| {
+            if answer.number == 0 {
+                answer.outs[2] += 1;
+            }
+        }),
+        // One token too few is missing.
+        ("amount", |answer| {
+            if answer.number == 14 {
+                answer.outs[6] -= 1;
+            }
+        }),
+        ("edition", edition_1),
+        ("above", above),
+        ("capped", |answer| forget(answer, 17)),
+    ];
 
     fn fixed() -> Vec<Fixed<RunCutCase>> {
         fixed::run_cuts()
@@ -23,14 +40,5 @@ impl Call for RunCut {
 
     fn library(case: &RunCutCase) -> Answer {
         library::run_cut(case)
-    }
-
-    /// One transition too many is kept; where the list sticks, one token too few is missing.
-    fn spoil(answer: &mut Answer) {
-        match answer.number {
-            0 => answer.outs[2] += 1,
-            14 => answer.outs[6] -= 1,
-            _ => (),
-        }
     }
 }

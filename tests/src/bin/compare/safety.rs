@@ -1,6 +1,6 @@
 //! The comparison of nesfoal_safety.
 
-use crate::frame::Call;
+use crate::frame::{above, edition_1, past_the_end, Call, Spoil};
 use crate::library;
 use nesfoal_tests::cases::*;
 use nesfoal_tests::cut::Cut;
@@ -13,6 +13,7 @@ pub struct Safety;
 impl Call for Safety {
     type Case = CutCase;
     const NAME: &'static str = "safety";
+    const SPOILS: &'static [Spoil] = &[("guard", past_the_end), ("edition", edition_1), ("above", above)];
 
     fn fixed() -> Vec<Fixed<CutCase>> {
         fixed::cuts(Cut::Safety)
@@ -24,12 +25,5 @@ impl Call for Safety {
 
     fn library(case: &CutCase) -> Answer {
         library::safety(case)
-    }
-
-    /// A guard byte after the buffer is taken as written.
-    fn spoil(answer: &mut Answer) {
-        if let (0, [Cells::Bytes(cells)]) = (answer.number, &mut answer.cells[..]) {
-            *cells.last_mut().unwrap() ^= 1;
-        }
     }
 }

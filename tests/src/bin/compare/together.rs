@@ -1,6 +1,6 @@
 //! The comparison of nesfoal_together.
 
-use crate::frame::Call;
+use crate::frame::{above, Call, Spoil};
 use crate::library;
 use nesfoal_tests::cases::*;
 use nesfoal_tests::fixed::{self, Fixed};
@@ -12,6 +12,21 @@ pub struct Together;
 impl Call for Together {
     type Case = TogetherCase;
     const NAME: &'static str = "together";
+    const SPOILS: &'static [Spoil] = &[
+        // One taking less.
+        ("times", |answer| {
+            if answer.number == 0 && answer.outs[0] > 0 {
+                answer.outs[0] -= 1;
+            }
+        }),
+        // None is unlimited.
+        ("never", |answer| {
+            if answer.number == 0 && answer.outs[0] == 0 {
+                answer.number = 100;
+            }
+        }),
+        ("above", above),
+    ];
 
     fn fixed() -> Vec<Fixed<TogetherCase>> {
         fixed::takings()
@@ -23,14 +38,5 @@ impl Call for Together {
 
     fn library(case: &TogetherCase) -> Answer {
         library::together(case)
-    }
-
-    /// One taking less; where there is none, unlimited.
-    fn spoil(answer: &mut Answer) {
-        match (answer.number, answer.outs[0]) {
-            (0, 0) => answer.number = 100,
-            (0, _) => answer.outs[0] -= 1,
-            _ => (),
-        }
     }
 }

@@ -3,7 +3,7 @@
 //! the files that it writes. First the fixed cases, which have to reach every case of the answer, then random ones.
 //!
 //! `program SLICER [--break]`. NESFOAL_SEED sets the seed, NESFOAL_CASES the random cases of each verb. `--break` spoils what is
-//! due a little, so that each verb has to fail.
+//! due a little, in each way by itself, so that each verb has to fail in each.
 
 mod room;
 mod verbs;
@@ -15,7 +15,7 @@ use std::path::{Path, PathBuf};
 use std::process::ExitCode;
 use std::sync::atomic::{AtomicU64, Ordering};
 use std::time::Instant;
-use verbs::{Asked, Verb};
+use verbs::{Asked, Spoil, Verb};
 
 const CASES: u64 = 500;
 const SEED: u64 = 20_250_101;
@@ -76,14 +76,17 @@ fn main() -> ExitCode {
 fn compare(verb: &Verb, settings: &Settings, folder: &Path) -> bool {
     let name = verb.name;
     let start = Instant::now();
-    let differences = AtomicU64::new(0);
-    let hold = |room: &Room, label: &str, mut asked: Asked, old: bool| {
-        if settings.broken {
-            (verb.spoil)(&mut asked.due);
-        }
-        if let Some(fault) = room.fault(&asked, old) {
-            if differences.fetch_add(1, Ordering::Relaxed) < PRINTED {
-                println!("DIFFERENCE in {name}, {label}\n{}{fault}", asked.show());
+    let spoils: &[Spoil] = if settings.broken { verb.spoils } else { &[("", |_| ())] };
+    let sides: Vec<(String, AtomicU64)> = spoils.iter().map(|(of, _)| (named(name, of), AtomicU64::new(0))).collect();
+    let hold = |room: &Room, label: &str, asked: Asked, old: bool| {
+        let ran = room.run(&asked, old);
+        for ((_, spoil), (name, differences)) in spoils.iter().zip(&sides) {
+            let mut due = asked.due.clone();
+            spoil(&mut due);
+            if let Some(fault) = ran.fault(&due) {
+                if differences.fetch_add(1, Ordering::Relaxed) < PRINTED {
+                    println!("DIFFERENCE in {name}, {label}\n{}{fault}", asked.show());
+                }
             }
         }
     };
@@ -115,8 +118,21 @@ fn compare(verb: &Verb, settings: &Settings, folder: &Path) -> bool {
             });
         }
     });
-    let differences = differences.into_inner();
     let seconds = start.elapsed().as_secs_f64();
-    println!("program {name}: {count} cases, {differences} differences ({seconds:.1} s)");
-    differences == 0 && missed.is_empty()
+    let mut none = missed.is_empty();
+    for (name, differences) in &sides {
+        let differences = differences.load(Ordering::Relaxed);
+        println!("program {name}: {count} cases, {differences} differences ({seconds:.1} s)");
+        none &= differences == 0;
+    }
+    none
+}
+
+/// A verb, or a verb spoilt in one way.
+fn named(verb: &str, spoil: &str) -> String {
+    if spoil.is_empty() {
+        verb.into()
+    } else {
+        format!("{verb}_{spoil}")
+    }
 }

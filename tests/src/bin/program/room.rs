@@ -1,10 +1,10 @@
 //! A folder in which the program is run, one case after the other.
 
-use crate::verbs::{Asked, OUT};
+use crate::verbs::{Asked, Due, OUT};
 use std::collections::BTreeMap;
 use std::fs;
 use std::path::{Path, PathBuf};
-use std::process::{Command, Stdio};
+use std::process::{Command, Output, Stdio};
 
 pub struct Room<'a> {
     slicer: &'a Path,
@@ -23,8 +23,8 @@ impl Room<'_> {
         Room { slicer, folder }
     }
 
-    /// Runs the program in the room with the case's files, and with an old file OUT where wanted; what is not as due, if anything.
-    pub fn fault(&self, asked: &Asked, old: bool) -> Option<String> {
+    /// Runs the program in the room with the case's files, and with an old file OUT where wanted.
+    pub fn run(&self, asked: &Asked, old: bool) -> Ran {
         let mut before: Files = asked.files.iter().map(|(name, bytes)| (name.to_string(), bytes.clone())).collect();
         if old {
             before.insert(OUT.into(), OLD.to_vec());
@@ -32,32 +32,13 @@ impl Room<'_> {
         for (name, bytes) in &before {
             fs::write(self.folder.join(name), bytes).expect("a file is written");
         }
-        let mut due = before;
-        if let Some(bytes) = &asked.due.written {
-            due.insert(OUT.into(), bytes.clone());
-        }
-
         let run = Command::new(self.slicer)
             .args(&asked.words)
             .current_dir(&self.folder)
             .stdin(Stdio::null())
             .output()
             .expect("the program is started");
-        let said = String::from_utf8_lossy(&run.stdout);
-        let after = self.empty();
-        let fault = |text: &str| Some(format!("  says: {said}  due:  {}\n  {text}\n", asked.due.says));
-        if !run.status.success() || !run.stderr.is_empty() {
-            return fault(&format!("{}, standard error: {}", run.status, String::from_utf8_lossy(&run.stderr)));
-        }
-        if !asked.due.is_said(&said) {
-            return fault("it says something else");
-        }
-        if after != due {
-            let differ = |name: &&String| after.get(*name) != due.get(*name);
-            let names: Vec<&String> = after.keys().chain(due.keys()).filter(differ).collect();
-            return fault(&format!("files that are not as due: {names:?}"));
-        }
-        None
+        Ran { run, before, after: self.empty() }
     }
 
     /// Takes all files out of the room.
@@ -72,5 +53,37 @@ impl Room<'_> {
             fs::remove_file(entry.path()).expect("a file goes");
         }
         files
+    }
+}
+
+/// What the program did.
+pub struct Ran {
+    run: Output,
+    before: Files,
+    after: Files,
+}
+
+impl Ran {
+    /// What is not as due, if anything.
+    pub fn fault(&self, due: &Due) -> Option<String> {
+        let said = String::from_utf8_lossy(&self.run.stdout);
+        let fault = |text: &str| Some(format!("  says: {said}  due:  {}\n  {text}\n", due.says));
+        if !self.run.status.success() || !self.run.stderr.is_empty() {
+            let error = String::from_utf8_lossy(&self.run.stderr);
+            return fault(&format!("{}, standard error: {error}", self.run.status));
+        }
+        if !due.is_said(&said) {
+            return fault("it says something else");
+        }
+        let mut files = self.before.clone();
+        if let Some(bytes) = &due.written {
+            files.insert(OUT.into(), bytes.clone());
+        }
+        if self.after != files {
+            let differ = |name: &&String| self.after.get(*name) != files.get(*name);
+            let names: Vec<&String> = self.after.keys().chain(files.keys()).filter(differ).collect();
+            return fault(&format!("files that are not as due: {names:?}"));
+        }
+        None
     }
 }

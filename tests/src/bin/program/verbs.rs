@@ -6,7 +6,7 @@ use nesfoal_tests::cut::{cut, Cut, Written};
 use nesfoal_tests::fixed::{self, Fixed};
 use nesfoal_tests::net::{Kind, Refusal, MAX_FILE, MAX_LIST, MAX_PLACES};
 use nesfoal_tests::read::read;
-use nesfoal_tests::replay::{replay, Replayed};
+use nesfoal_tests::replay::{replay, Hindrance, Replayed};
 use nesfoal_tests::rng::Rng;
 use nesfoal_tests::run_cut::{run_cut, RunCut};
 use nesfoal_tests::shadow::shadow;
@@ -19,6 +19,7 @@ const LIST: &str = "list";
 const CRITERION: &str = "criterion";
 const MARKING: &str = "marking";
 
+#[derive(Clone)]
 pub struct Due {
     /// The case of the answer: a word, the number of a refusal, 100 plus a rule's.
     pub outcome: String,
@@ -95,91 +96,103 @@ pub struct Verb {
     pub outcomes: &'static str,
     pub fixed: fn() -> Vec<(String, Asked)>,
     pub random: fn(&mut Rng) -> Asked,
-    /// A small change of what is due, for `--break`.
-    pub spoil: fn(&mut Due),
+    /// Small changes of what is due, each by its name, for `--break`.
+    pub spoils: &'static [Spoil],
 }
+
+pub type Spoil = (&'static str, fn(&mut Due));
 
 pub fn all() -> Vec<Verb> {
     vec![
         Verb {
             name: "effect",
-            outcomes: "by 1 2 3 4 5 6 7 8 10 12",
+            outcomes: "by 1 2 3 4 5 6 7 8 10 12 16",
             fixed: || each(fixed::effects(), of_effect),
             random: |rng| of_effect(&gen::effect_case(rng)),
-            // A wrong sign.
-            spoil: |due| due.says = due.says.replacen("effect ", "effect -", 1),
+            spoils: &[("sign", |due| replace(due, "effect ", "effect -")), ABOVE],
         },
         Verb {
             name: "arcs",
-            outcomes: "run none unknown 1 2 3 4 5 6 7 8",
+            outcomes: "run none unknown 1 2 3 4 5 6 7 8 16",
             fixed: || each(fixed::arc_runs(), of_arcs),
             random: |rng| of_arcs(&gen::arcs_case(rng)),
-            // Takes and adds exchanged.
-            spoil: |due| due.says = due.says.replacen("takes", "adds", 1),
+            spoils: &[("direction", |due| replace(due, "takes", "adds")), ABOVE],
         },
         Verb {
             name: "replay",
-            outcomes: "fired stuck 1 2 3 4 5 6 7 8 11 12",
+            outcomes: "fired stuck full 1 2 3 4 5 6 7 8 11 12 16",
             fixed: || each(fixed::replays(), of_replay),
             random: |rng| of_replay(&gen::replay_case(rng)),
-            // Other tokens are missing.
-            spoil: |due| {
-                if due.outcome == "stuck" {
-                    due.says = due.says.replacen("short of ", "short of 0", 1);
-                }
-            },
+            spoils: &[("amount", |due| replace(due, "short of ", "short of 0")), EXCESS, ABOVE],
         },
         Verb {
             name: "together",
-            outcomes: "taken unlimited 1 2 3 4 5 6 7 12 15",
+            outcomes: "taken unlimited 1 2 3 4 5 6 7 12 15 16",
             fixed: || each(fixed::takings(), of_together),
             random: |rng| of_together(&gen::together_case(rng)),
-            // Another number of times.
-            spoil: |due| due.says = due.says.replacen("taken ", "taken 1", 1),
+            spoils: &[("times", |due| replace(due, "taken ", "taken 1")), ABOVE],
         },
         Verb {
             name: "safety",
-            outcomes: "written 1 2 3 4 5 6 7 10",
+            outcomes: "written 1 2 3 4 5 6 7 10 16",
             fixed: || each(fixed::cuts(Cut::Safety), of_cut),
             random: |rng| of_cut(&gen::cut_case(rng, Cut::Safety)),
-            spoil: another_letter,
+            spoils: &[("letter", another_letter), ABOVE],
         },
         Verb {
             name: "branching",
-            outcomes: "written 1 2 3 4 5 6 7 10",
+            outcomes: "written 1 2 3 4 5 6 7 10 16",
             fixed: || each(fixed::cuts(Cut::Branching), of_cut),
             random: |rng| of_cut(&gen::cut_case(rng, Cut::Branching)),
-            spoil: another_letter,
+            spoils: &[("letter", another_letter), ABOVE],
         },
         Verb {
             name: "run",
-            outcomes: "written 1 2 3 4 5 6 7 10 11 12 14",
+            outcomes: "written 1 2 3 4 5 6 7 10 11 12 14 16 17",
             fixed: || each(fixed::run_cuts(), of_run),
             random: |rng| of_run(&gen::run_cut_case(rng)),
-            // The first position is dropped.
-            spoil: |due| due.says = due.says.replacen("chosen 0", "chosen", 1),
+            spoils: &[
+                ("first", |due| replace(due, "chosen 0", "chosen")),
+                ("capped", |due| replace(due, "refused 17", "refused 10")),
+                ABOVE,
+            ],
         },
         Verb {
             name: "shadow",
-            outcomes: "fired stuck 1 2 3 4 5 6 7 8 11 12",
+            outcomes: "fired stuck full 1 2 3 4 5 6 7 8 11 12 16",
             fixed: || each(fixed::shadows(), of_shadow),
             random: |rng| of_shadow(&gen::shadow_case(rng)),
-            // The first number is dropped.
-            spoil: |due| due.says = due.says.replacen("shadow 0", "shadow", 1),
+            spoils: &[("first", |due| replace(due, "shadow 0", "shadow")), EXCESS, ABOVE],
         },
         Verb {
             name: "check",
-            outcomes: "accepted 1 2 3 4 5 6 7 8 10 101 102 103 104 105 106 107 108",
+            outcomes: "accepted 1 2 3 4 5 6 7 8 10 16 101 102 103 104 105 106 107 108 109 110",
             fixed: || each(fixed::verdicts(), of_verdict),
             random: |rng| of_verdict(&gen::verdict_case(rng)),
-            // Rule 8 is forgotten.
-            spoil: |due| {
-                if due.outcome == "108" {
-                    due.says = "accepted\n".into();
-                }
-            },
+            spoils: &[
+                ("rule_8", |due| forget(due, "108")),
+                ("rule_9", |due| forget(due, "109")),
+                ("rule_10", |due| forget(due, "110")),
+                ABOVE,
+            ],
         },
     ]
+}
+
+/// Another refusal than 16, and other tokens above a cap.
+const ABOVE: Spoil = ("above", |due| replace(due, "refused 16", "refused 6"));
+const EXCESS: Spoil = ("excess", |due| replace(due, "over by ", "over by 0"));
+
+/// Other words, where these are said.
+fn replace(due: &mut Due, from: &str, to: &str) {
+    due.says = due.says.replacen(from, to, 1);
+}
+
+/// A broken rule is forgotten.
+fn forget(due: &mut Due, rule: &str) {
+    if due.outcome == rule {
+        due.says = "accepted\n".into();
+    }
 }
 
 /// The written file ends otherwise.
@@ -201,7 +214,7 @@ fn counted(count: usize, thing: &str) -> String {
 /// A refusal of a file, a criterion or a list that came with it.
 fn refused(number: Refusal, file: &str) -> Due {
     let what = match number {
-        1..=8 => file,
+        1..=8 | 16 | 17 => file,
         10 => "criterion",
         _ => "list",
     };
@@ -280,9 +293,13 @@ fn replayed(answer: &Replayed, file: &[u8], list: &[u16], marking: &[u64]) -> Du
             let count = counted(list.len(), "transition");
             Due::new("fired", format!("fired {count}, ending{}\n", tokens.concat()))
         }
-        Replayed::Stuck { index, place, amount } => {
+        Replayed::Stuck { index, why: Hindrance { full: false, place, amount } } => {
             let t = list[index];
             Due::new("stuck", format!("stuck at index {index}: transition {t}, place {place} is short of {amount}\n"))
+        }
+        Replayed::Stuck { index, why: Hindrance { full: true, place, amount } } => {
+            let t = list[index];
+            Due::new("full", format!("full at index {index}: transition {t}, place {place} is over by {amount}\n"))
         }
     }
 }
@@ -344,7 +361,8 @@ fn of_run(case: &RunCutCase) -> Asked {
             due
         }
         Ok(RunCut::Sticks { index, place, amount }) => {
-            let stuck = replayed(&Replayed::Stuck { index, place, amount }, plan, list, &[]);
+            let why = Hindrance { full: false, place, amount };
+            let stuck = replayed(&Replayed::Stuck { index, why }, plan, list, &[]);
             Due::new(14, format!("refused 14: list: {}", stuck.says))
         }
         Err(n) => refused(n, "plan"),
