@@ -30,6 +30,8 @@ pub struct Input {
     pub tokens: Vec<u64>,
     /// Places, transitions and arcs of the plan and of the slice.
     pub counts: [[usize; 3]; 2],
+    /// The plan has caps, so that there is no run cut.
+    pub capped: bool,
 }
 
 impl Input {
@@ -65,6 +67,7 @@ impl Input {
             taking: input.expect("a transition with inputs").transition,
             tokens: (0..net.places()).map(|_| rng.next()).collect(),
             counts,
+            capped: net.has_caps(),
         }
     }
 
@@ -110,12 +113,12 @@ fn firing_list(net: &Net, firings: usize) -> Vec<u16> {
     list
 }
 
-/// The eight nets.
-pub fn eight() -> Vec<Input> {
-    EIGHT.iter().map(|make| make()).collect()
+/// The nine nets.
+pub fn nine() -> Vec<Input> {
+    NINE.iter().map(|make| make()).collect()
 }
 
-const EIGHT: [fn() -> Input; 8] = [
+const NINE: [fn() -> Input; 9] = [
     || small(2, 5),
     || random(100, 11),
     || random(1_000, 11),
@@ -124,12 +127,13 @@ const EIGHT: [fn() -> Input; 8] = [
     || readers_writers(22),
     || doubles(1_000, 11),
     || parallel(4_096),
+    || capped(1_000, 11),
 ];
 
-/// The first of the eight, then of the checks, whose name starts so; those after it are not made.
+/// The first of the nine, then of the checks, whose name starts so; those after it are not made.
 pub fn named(start: &str) -> Option<Input> {
     let starts = |input: &Input| input.name.starts_with(start);
-    EIGHT.iter().map(|make| make()).find(starts).or_else(|| checks().into_iter().find(starts))
+    NINE.iter().map(|make| make()).find(starts).or_else(|| checks().into_iter().find(starts))
 }
 
 /// Random nets of one kind, so many that the branches of none are learnt by heart when they are taken in turn.
@@ -221,6 +225,16 @@ pub fn doubles(size: usize, seed: u64) -> Input {
     weighted(&mut rng, &format!("doubles {size}"), size, &keys)
 }
 
+/// Random nets in edition 2: some three places of ten have a cap, which is met before long.
+pub fn capped(size: usize, seed: u64) -> Input {
+    let mut rng = Rng::new(seed);
+    let keys = keys(&mut rng, size, 4 * size);
+    let draft = weights(&mut rng, size, &keys);
+    let cap = |&held: &u32| if rng.percent(30) { held + rng.below(100) as u32 } else { 0 };
+    let caps = draft.marking.iter().map(cap).collect();
+    Input::new(&format!("capped {size}"), draft.with_caps(caps), None, MAX_LIST)
+}
+
 /// Transition, direction and place.
 type Key = (usize, u8, usize);
 
@@ -238,9 +252,13 @@ fn keys(rng: &mut Rng, size: usize, count: usize) -> Vec<Key> {
 }
 
 fn weighted(rng: &mut Rng, name: &str, size: usize, keys: &[Key]) -> Input {
+    Input::new(name, weights(rng, size, keys), None, MAX_LIST)
+}
+
+fn weights(rng: &mut Rng, size: usize, keys: &[Key]) -> Draft {
     let arcs = keys.iter().map(|&(t, d, p)| DraftArc::new(t, d, p, rng.range(1, 2) as u16)).collect();
     let marking = (0..size).map(|_| rng.range(50, 500) as u32).collect();
-    Input::new(name, Draft::plan(marking, size, arcs), None, MAX_LIST)
+    Draft::plan(marking, size, arcs)
 }
 
 /// One place and one transition: half of the arcs take, the others give one token more.
@@ -313,6 +331,20 @@ mod tests {
         assert_eq!(readers_writers(22).counts[0], [113, 1_013, 4_050]);
     }
 
+    /// Three of ten places have a cap, and the list meets it: without caps the same choice of transitions fires otherwise.
+    #[test]
+    fn caps_are_met() {
+        let input = capped(1_000, 11);
+        let net = read(&input.plan, Some(Kind::Plan)).unwrap();
+        let count = net.caps.iter().filter(|&&cap| cap > 0).count();
+        assert!((270..330).contains(&count), "{count}");
+        let uncapped = Net { caps: vec![0; 1_000], ..net.clone() };
+        assert_ne!(firing_list(&uncapped, MAX_LIST), input.list);
+        let slice = read(&input.slice, Some(Kind::Slice)).unwrap();
+        assert_eq!((net.edition, slice.edition), (2, 2));
+        assert!(slice.has_caps());
+    }
+
     #[test]
     fn checks_answer_as_told() {
         for input in checks() {
@@ -326,13 +358,14 @@ mod tests {
 
     #[test]
     fn nets_are_of_the_size_told() {
-        let nets = eight();
+        let nets = nine();
         let counts: Vec<[usize; 3]> = nets.iter().map(|n| n.counts[0]).collect();
         let wide = [1_024, 1, 2_048];
         assert_eq!(counts[..3], [[5, 4, 9], [100, 100, 400], [1_000, 1_000, 4_000]]);
         assert_eq!(counts[3..6], [[1_024, 1_023, 2_046], wide, [113, 1_013, 4_050]]);
-        assert_eq!(counts[6..], [[1_000, 1_000, 4_000], [1, 1, 4_096]]);
+        assert_eq!(counts[6..], [[1_000, 1_000, 4_000], [1, 1, 4_096], [1_000, 1_000, 4_000]]);
         assert!(nets[1..].iter().all(|n| n.list.len() == MAX_LIST));
+        assert_eq!(nets.iter().filter(|n| n.capped).count(), 1);
         assert_eq!(small(2, 5).plan.len(), 108);
     }
 }

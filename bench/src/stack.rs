@@ -13,9 +13,9 @@ pub fn print() {
         "Stack of each call in bytes, from the arguments that are handed over on the stack, not counted, down to the"
     );
     println!(
-        "lowest byte written, the return address included: the most on the eight nets, a full one and the checks'."
+        "lowest byte written, the return address included: the most on the nine nets, a full one and the checks'."
     );
-    let mut inputs = nets::eight();
+    let mut inputs = nets::nine();
     inputs.push(nets::random(1_024, 11));
     inputs.extend(nets::checks());
     println!();

@@ -6,7 +6,7 @@ use crate::time::{interleaved, Effort, Rounds, Side};
 use nesfoal_tests::net::MAX_LIST;
 
 pub fn print(effort: Effort) {
-    let mut entries: Vec<Vec<Input>> = nets::eight().into_iter().map(|input| vec![input]).collect();
+    let mut entries: Vec<Vec<Input>> = nets::nine().into_iter().map(|input| vec![input]).collect();
     entries.insert(3, nets::many(nets::random, 1_000));
     entries.push(vec![nets::small(65_535, MAX_LIST)]);
     println!("Times in microseconds, medians. ours : tuned is the median of the ratios of neighbouring rounds, and in");
@@ -29,6 +29,10 @@ pub fn print(effort: Effort) {
         for call in CALLS {
             // The refilled net is there for its long list alone.
             let extra = input.name == "small, refilled";
+            // There is no run cut of a plan with caps.
+            if input.capped && call == Call::RunCut {
+                continue;
+            }
             if !extra || call.only_reads() || matches!(call, Call::Replay | Call::RunCut | Call::Shadow) {
                 println!("{}", line(call.name(), call, inputs, effort));
             }

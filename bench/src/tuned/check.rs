@@ -1,4 +1,4 @@
-//! The checker: the eight rules, in order.
+//! The checker: the ten rules, in order.
 
 use super::bytes::*;
 use super::criterion;
@@ -20,7 +20,7 @@ pub fn verdict(plan: &[u8], slice: &[u8], q: &[u16], number: &mut u32) -> u32 {
 }
 
 /// The plan's places and transitions as the slice has them, as words that change a plan's arc into the slice's by
-/// exclusive or. An arc's bits 17 to 31 are 0; there they say what is left out and what is in Q.
+/// exclusive or. An arc's bits 17 to 31 are 0; there they say what is left out, what is in Q and what has a cap.
 #[derive(Clone, Copy)]
 struct Own {
     places: *mut u64,
@@ -30,6 +30,7 @@ struct Own {
 const PLACE_LEFT_OUT: u64 = 1 << 17;
 const TRANSITION_LEFT_OUT: u64 = 1 << 18;
 const IN_Q: u64 = 1 << 19;
+const CAPPED: u64 = 1 << 20;
 
 impl Own {
     #[inline(always)]
@@ -44,13 +45,17 @@ fn stays(change: u64) -> bool {
     change & (PLACE_LEFT_OUT | TRANSITION_LEFT_OUT) == 0
 }
 
-/// Whether such an arc can break a rule, by its direction (bit 0), place and transition left out (1, 2), and Q (3): from a
-/// place left out to a kept transition; of a transition left out, to a kept place or from one of Q.
-const ODD: u32 = 1 << 0b0010 | 1 << 0b0101 | 1 << 0b1101 | 1 << 0b1100;
+/// Whether such an arc can break a rule, by its direction (bit 0), place and transition left out (1, 2), Q (3) and a cap (4): from
+/// a place left out to a kept transition; of a transition left out, to a kept place or from one of Q. Where the place has a
+/// cap, also from a kept transition to a place left out, and from a kept place to a transition left out.
+const ODD: u32 = {
+    let plain = 1 << 0b0010 | 1 << 0b0101 | 1 << 0b1101 | 1 << 0b1100;
+    plain | (plain | 1 << 0b0011 | 1 << 0b0100) << 16
+};
 
 #[inline(always)]
 fn odd(changed: u64) -> u32 {
-    ODD >> (changed >> 16 & 15)
+    ODD >> (changed >> 16 & 31)
 }
 
 #[inline(always)]
@@ -103,7 +108,12 @@ unsafe fn judge(plan: &[u8], slice: &[u8], q: *const u8, q_count: usize, odd: bo
     for i in 0..s.places {
         let origin = s.place_origin(i);
         *own.places.add(origin) = ((i ^ origin) as u64) << 32;
-        marked &= s.marking(i) == p.marking(origin);
+        marked &= s.place(i) == p.place(origin);
+    }
+    if p.capped {
+        for i in 0..p.places {
+            *own.places.add(i) |= if p.wide_place(i) >> 32 != 0 { CAPPED } else { 0 };
+        }
     }
     for i in 0..s.transitions {
         let origin = s.transition_origin(i);
@@ -126,7 +136,7 @@ unsafe fn judge(plan: &[u8], slice: &[u8], q: *const u8, q_count: usize, odd: bo
     }
     // 3, 4, 5.
     if !marked {
-        let differs = |&i: &usize| s.marking(i) != p.marking(s.place_origin(i));
+        let differs = |&i: &usize| s.place(i) != p.place(s.place_origin(i));
         return broken(3, s.place_origin((0..s.places).find(differs).unwrap_unchecked()));
     }
     if !same {
@@ -140,9 +150,10 @@ unsafe fn judge(plan: &[u8], slice: &[u8], q: *const u8, q_count: usize, odd: bo
     if !odd {
         return 0;
     }
-    // 6, 7, 8.
+    // 6 to 10.
     let found = look(&p, own);
-    for (rule, by) in [(6, found.changes), (7, found.unfed), (8, found.raises)] {
+    let rules = [found.changes, found.unfed, found.raises, found.unheld, found.changes_capped];
+    for (rule, by) in (6..).zip(rules) {
         if by != NONE {
             return broken(rule, by);
         }
@@ -165,7 +176,7 @@ unsafe fn compare(p: &Header, s: &Header, own: Own) -> (bool, bool) {
         let changed = arc ^ change;
         oddity |= odd(changed);
         // Behind the arcs the trailer stands, so the word can be read.
-        let other = (get64(at) ^ changed) & !IN_Q;
+        let other = (get64(at) ^ changed) & !(IN_Q | CAPPED);
         differs |= if stays(change) { other } else { 0 };
         at = at.add(8 * usize::from(stays(change)));
         if at > end {
@@ -183,7 +194,7 @@ unsafe fn first_other(p: &Header, s: &Header, own: Own) -> usize {
         let arc = p.arc(j);
         let change = own.change(arc);
         if stays(change) {
-            let due = (arc ^ change) & !IN_Q;
+            let due = (arc ^ change) & !(IN_Q | CAPPED);
             let wanted = transition(due);
             if k == s.arcs {
                 return wanted;
@@ -198,18 +209,21 @@ unsafe fn first_other(p: &Header, s: &Header, own: Own) -> usize {
     transition(s.arc(k))
 }
 
-/// The first transition left out that changes a place of Q, the first kept one with an input left out, and the first
-/// left out that raises a kept place.
+/// The first transition left out that changes a place of Q, the first kept one with an input left out, the first left out
+/// that raises a kept place, the first kept one with a capped output left out, and the first left out that changes a kept
+/// capped place.
 struct Found {
     changes: usize,
     unfed: usize,
     raises: usize,
+    unheld: usize,
+    changes_capped: usize,
 }
 
 /// Goes through the arcs that want a closer look.
 #[inline(never)]
 unsafe fn look(p: &Header, own: Own) -> Found {
-    let mut found = Found { changes: NONE, unfed: NONE, raises: NONE };
+    let mut found = Found { changes: NONE, unfed: NONE, raises: NONE, unheld: NONE, changes_capped: NONE };
     let mut j = 0;
     while j < p.arcs {
         let arc = p.arc(j);
@@ -220,7 +234,8 @@ unsafe fn look(p: &Header, own: Own) -> Found {
         }
         let t = transition(arc);
         if change & TRANSITION_LEFT_OUT == 0 {
-            found.unfed = found.unfed.min(t);
+            let first = if direction(arc) == 0 { &mut found.unfed } else { &mut found.unheld };
+            *first = t.min(*first);
             j += 1;
             continue;
         }
@@ -229,23 +244,32 @@ unsafe fn look(p: &Header, own: Own) -> Found {
         while from > 0 && transition(p.arc(from - 1)) == t {
             from -= 1;
         }
-        let (changes, raises, to) = effects(p, from, own);
-        if changes {
+        let (effects, to) = effects(p, from, own);
+        if effects.changes {
             found.changes = t;
             return found;
         }
-        if raises {
+        if effects.raises {
             found.raises = found.raises.min(t);
+        }
+        if effects.changes_capped {
+            found.changes_capped = found.changes_capped.min(t);
         }
         j = to;
     }
     found
 }
 
-/// Of the transition whose arcs start there: whether it changes a place of Q, whether it raises a kept place, and where
-/// its arcs end.
+/// Whether a transition changes a place of Q, raises a kept place, changes a kept capped place.
+struct Effects {
+    changes: bool,
+    raises: bool,
+    changes_capped: bool,
+}
+
+/// Of the transition whose arcs start there, and where its arcs end.
 #[inline(never)]
-unsafe fn effects(p: &Header, from: usize, own: Own) -> (bool, bool, usize) {
+unsafe fn effects(p: &Header, from: usize, own: Own) -> (Effects, usize) {
     let t = transition(p.arc(from));
     let mut middle = from;
     while middle < p.arcs && p.arc(middle) & 0x1_FFFF == t as u64 {
@@ -256,7 +280,7 @@ unsafe fn effects(p: &Header, from: usize, own: Own) -> (bool, bool, usize) {
         to += 1;
     }
     let (mut i, mut o) = (from, middle);
-    let (mut changes, mut raises) = (false, false);
+    let mut effects = Effects { changes: false, raises: false, changes_capped: false };
     while i < middle || o < to {
         let input = if i < middle { place(p.arc(i)) } else { NONE };
         let output = if o < to { place(p.arc(o)) } else { NONE };
@@ -271,8 +295,9 @@ unsafe fn effects(p: &Header, from: usize, own: Own) -> (bool, bool, usize) {
             o += 1;
         }
         let at = *own.places.add(here);
-        changes |= given != taken && at & IN_Q != 0;
-        raises |= given > taken && at & PLACE_LEFT_OUT == 0;
+        effects.changes |= given != taken && at & IN_Q != 0;
+        effects.raises |= given > taken && at & PLACE_LEFT_OUT == 0;
+        effects.changes_capped |= given != taken && at & (CAPPED | PLACE_LEFT_OUT) == CAPPED;
     }
-    (changes, raises, to)
+    (effects, to)
 }

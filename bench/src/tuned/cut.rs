@@ -95,7 +95,11 @@ pub fn cut<const SAFETY: bool>(plan: &[u8], q: &[u16], slice: &mut [u8], results
         };
         kept.places.write_bytes(0, h.places);
         kept.transitions.write_bytes(0, h.transitions);
-        keep::<SAFETY>(&h, rows, q, kept);
+        if h.capped {
+            keep::<SAFETY, true>(&h, rows, q, kept);
+        } else {
+            keep::<SAFETY, false>(&h, rows, q, kept);
+        }
         write(&h, kept, slice, [length, places, transitions])
     }
 }
@@ -155,10 +159,13 @@ impl Link {
     }
 }
 
-/// Keeps what the cut keeps.
+/// Keeps what the cut keeps; of a plan with caps, the capped output places and all that changes a capped place too.
 #[inline(never)]
-unsafe fn keep<const SAFETY: bool>(h: &Header, rows: Rows, q: &[u16], kept: Kept) {
-    let (arcs_at, arcs) = (h.arcs_at, h.arcs);
+unsafe fn keep<const SAFETY: bool, const CAPS: bool>(h: &Header, rows: Rows, q: &[u16], kept: Kept) {
+    let (arcs_at, arcs, caps_at) = (h.arcs_at, h.arcs, h.markings_at.add(4));
+    let capped = |p: usize| CAPS && get32(caps_at.add(8 * p)) != 0;
+    // The bits of an arc that are its transition's: with caps its outputs are gone through too.
+    let same = if CAPS { 0xFFFF } else { 0x1_FFFF };
     let mut count = 0;
     let follow = |head: u16, mut count: usize| {
         let mut j = usize::from(head);
@@ -175,15 +182,18 @@ unsafe fn keep<const SAFETY: bool>(h: &Header, rows: Rows, q: &[u16], kept: Kept
             let mut i = (link >> 32 & 0xFFFF) as usize;
             while i < arcs {
                 let arc = get64(arcs_at.add(8 * i));
-                if arc & 0x1_FFFF != t {
+                if arc & same != t {
                     break;
                 }
+                i += 1;
                 let p = place(arc);
+                if CAPS && direction(arc) == 1 && !capped(p) {
+                    continue;
+                }
                 let known = kept.places.add(p);
                 *kept.pending.add(count) = p as u16;
                 count += usize::from(*known == 0);
                 *known = 1;
-                i += 1;
             }
         }
         count
@@ -201,7 +211,7 @@ unsafe fn keep<const SAFETY: bool>(h: &Header, rows: Rows, q: &[u16], kept: Kept
         count -= 1;
         let p = usize::from(*kept.pending.add(count));
         let [lowering, raising] = (*rows.heads.add(p)).arcs;
-        if !SAFETY {
+        if !SAFETY || capped(p) {
             count = follow(lowering, count);
         }
         count = follow(raising, count);
@@ -236,7 +246,8 @@ pub unsafe fn write(h: &Header, kept: Kept, slice: &mut [u8], results: [&mut u32
     let t_count = renumber(kept.transitions, h.transitions, transition_origins, own_transitions);
 
     // An exact count is needed only where the buffer could be too short.
-    let rest = 6 * p_count + 2 * t_count + 16;
+    let each = if h.wide { 8 } else { 4 };
+    let rest = (each + 2) * p_count + 2 * t_count + 16;
     if slice.len() < rest + 8 * h.arcs {
         let mut count = 0;
         for j in 0..h.arcs {
@@ -249,19 +260,26 @@ pub unsafe fn write(h: &Header, kept: Kept, slice: &mut [u8], results: [&mut u32
     }
 
     let to = slice.as_mut_ptr();
-    for i in 0..p_count {
-        put32(to.add(4 * i), h.marking(usize::from(*place_origins.add(i))));
+    if h.wide {
+        for i in 0..p_count {
+            put64(to.add(8 * i), h.wide_place(usize::from(*place_origins.add(i))));
+        }
+    } else {
+        for i in 0..p_count {
+            put32(to.add(4 * i), h.marking(usize::from(*place_origins.add(i))));
+        }
     }
-    let first = to.add(4 * p_count);
+    let first = to.add(each * p_count);
     let mut at = write_arcs(h.arcs_at, h.arcs, own_places, own_transitions, first);
     let arcs = (at as usize - first as usize) / 8;
     at.copy_from_nonoverlapping(place_origins.cast(), 2 * p_count);
     at = at.add(2 * p_count);
     at.copy_from_nonoverlapping(transition_origins.cast(), 2 * t_count);
     at = at.add(2 * t_count);
-    let body = 6 * p_count + 2 * t_count + 8 * arcs;
+    let body = (each + 2) * p_count + 2 * t_count + 8 * arcs;
     put64(at, body as u64 | (p_count as u64) << 32 | (t_count as u64) << 48);
-    put64(at.add(8), arcs as u64 | 0x4C4C_4542_0101 << 16);
+    let edition = 1 + u64::from(h.wide);
+    put64(at.add(8), arcs as u64 | 1 << 16 | edition << 24 | 0x4C4C_4542 << 32);
     let [length, places, transitions] = results;
     *length = body as u32 + 16;
     *places = p_count as u32;

@@ -2,7 +2,7 @@
 //!
 //! Linear algorithms; an arc is one 64-bit word; tables of starts and rows linked by number; sets of bits; all
 //! tables on the stack and cleared only as far as the net goes; no bounds checks (every index is below a limit
-//! that reading has checked). Answers, refusals and lent buffers are those of paper 01.
+//! that reading has checked). Answers, refusals and lent buffers are those of papers 01 and 02.
 
 mod arcs;
 mod bytes;

@@ -1,4 +1,4 @@
-//! Reading a file: its counts and parts, or the first refusal of 1 to 8.
+//! Reading a file: its counts and parts, or the first refusal of 1 to 8 and 16.
 
 use super::bytes::*;
 
@@ -16,6 +16,10 @@ pub struct Header {
     pub places: usize,
     pub transitions: usize,
     pub arcs: usize,
+    /// Edition 2: a place has 8 bytes, the cap after the marking.
+    pub wide: bool,
+    /// Some place has a cap.
+    pub capped: bool,
     pub markings_at: *const u8,
     pub arcs_at: *const u8,
     pub origins_at: *const u8,
@@ -33,7 +37,29 @@ impl Header {
     /// As for an arc; the number is below the places.
     #[inline(always)]
     pub unsafe fn marking(&self, place: usize) -> u32 {
-        get32(self.markings_at.add(4 * place))
+        get32(self.markings_at.add(place << (2 + u32::from(self.wide))))
+    }
+
+    /// A place of edition 2: its marking, and above it its cap.
+    ///
+    /// # Safety
+    /// As for a marking, of a file of edition 2.
+    #[inline(always)]
+    pub unsafe fn wide_place(&self, place: usize) -> u64 {
+        get64(self.markings_at.add(8 * place))
+    }
+
+    /// A place of either edition likewise.
+    ///
+    /// # Safety
+    /// As for a marking.
+    #[inline(always)]
+    pub unsafe fn place(&self, place: usize) -> u64 {
+        if self.wide {
+            self.wide_place(place)
+        } else {
+            u64::from(get32(self.markings_at.add(4 * place)))
+        }
     }
 
     /// # Safety
@@ -51,7 +77,7 @@ impl Header {
     }
 }
 
-/// The trailer: refusals 1 to 5, and the header.
+/// The trailer and the caps: refusals 1 to 5 and 16, and the header.
 #[inline(always)]
 pub fn trailer(file: &[u8], due: u64) -> Result<Header, u32> {
     let n = file.len();
@@ -62,9 +88,11 @@ pub fn trailer(file: &[u8], due: u64) -> Result<Header, u32> {
     unsafe {
         let end = file.as_ptr().add(n - 16);
         let (first, second) = (get64(end), get64(end.add(8)));
-        if second >> 24 != 0x4C_4C45_4201 {
+        let edition = (second >> 24).wrapping_sub(0x4C_4C45_4200);
+        if edition.wrapping_sub(1) > 1 {
             return Err(2);
         }
+        let wide = edition == 2;
         let kind = second >> 16 & 0xFF;
         if kind > SLICE || (due != EITHER && kind != due) {
             return Err(3);
@@ -77,15 +105,36 @@ pub fn trailer(file: &[u8], due: u64) -> Result<Header, u32> {
             return Err(4);
         }
         let origins = if kind == SLICE { 2 * places + 2 * transitions } else { 0 };
-        let body = 4 * places + 8 * arcs + origins;
+        let markings = if wide { 8 * places } else { 4 * places };
+        let body = markings + 8 * arcs + origins;
         if (first & 0xFFFF_FFFF) as usize != body || n - 16 < body {
             return Err(5);
         }
         let markings_at = end.sub(body);
-        let arcs_at = markings_at.add(4 * places);
+        let arcs_at = markings_at.add(markings);
         let origins_at = arcs_at.add(8 * arcs);
-        Ok(Header { places, transitions, arcs, markings_at, arcs_at, origins_at })
+        let mut capped = false;
+        if wide {
+            let above;
+            (capped, above) = caps(markings_at, places);
+            if above {
+                return Err(16);
+            }
+        }
+        Ok(Header { places, transitions, arcs, wide, capped, markings_at, arcs_at, origins_at })
     }
+}
+
+/// Whether some place has a cap, and whether a marking is above its cap. No early leave, so that the loop is done by vectors.
+#[inline(never)]
+unsafe fn caps(at: *const u8, places: usize) -> (bool, bool) {
+    let (mut some, mut above) = (0, false);
+    for p in 0..places {
+        let (marking, cap) = (get32(at.add(8 * p)), get32(at.add(8 * p + 4)));
+        some |= cap;
+        above |= (marking > cap) & (cap != 0);
+    }
+    (some != 0, above)
 }
 
 /// Gathers transition, direction and place, each within its limit, into one number with their order.

@@ -4,8 +4,26 @@ use super::bytes::*;
 use super::list;
 use super::read::*;
 use super::starts;
+use std::hint::unreachable_unchecked;
 
-/// The index, the place that is short and the tokens missing there go to `stuck`.
+/// Where a list sticks: the index, the place that is short or full, and the tokens that are missing there or above its cap.
+pub struct Stuck {
+    pub index: usize,
+    full: bool,
+    place: u32,
+    amount: u32,
+}
+
+impl Stuck {
+    /// 100 short, 101 full; and the three numbers.
+    #[inline(always)]
+    pub fn tell(&self, index: &mut u32, place: &mut u32, amount: &mut u32) -> u32 {
+        (*index, *place, *amount) = (self.index as u32, self.place, self.amount);
+        100 + u32::from(self.full)
+    }
+}
+
+/// The index, the place and the tokens go to `stuck`.
 #[inline(always)]
 pub fn replay(file: &[u8], numbers: &[u16], marking: &mut [u64], stuck: [&mut u32; 3]) -> u32 {
     let [index, short, amount] = stuck;
@@ -27,12 +45,9 @@ pub fn replay(file: &[u8], numbers: &[u16], marking: &mut [u64], stuck: [&mut u3
         }
         let tokens = marking.as_mut_ptr().cast::<i64>();
         moves.begin(&h, tokens);
-        match moves.run(numbers, tokens) {
+        match moves.run(&h, numbers, tokens) {
             None => 0,
-            Some((i, place, missing)) => {
-                (*index, *short, *amount) = (i as u32, place, missing);
-                100
-            }
+            Some(stuck) => stuck.tell(index, short, amount),
         }
     }
 }
@@ -112,17 +127,66 @@ impl Moves {
     #[inline(always)]
     pub unsafe fn begin(self, h: &Header, tokens: *mut i64) {
         starts::fill(self.starts, h.transitions + 1);
-        for p in 0..h.places {
-            *tokens.add(p) = i64::from(h.marking(p));
+        if h.wide {
+            for p in 0..h.places {
+                *tokens.add(p) = (h.wide_place(p) & 0xFFFF_FFFF) as i64;
+            }
+        } else {
+            for p in 0..h.places {
+                *tokens.add(p) = i64::from(h.marking(p));
+            }
         }
     }
 
-    /// Fires a list; where it sticks, the index, the place that is short and the tokens missing there.
+    /// Fires a list of the file that was read.
     ///
     /// # Safety
     /// The numbers are transitions of the file; there are as many tokens as places.
     #[inline(always)]
-    pub unsafe fn run(self, numbers: &[u16], tokens: *mut i64) -> Option<(usize, u32, u32)> {
+    pub unsafe fn run(self, h: &Header, numbers: &[u16], tokens: *mut i64) -> Option<Stuck> {
+        if h.capped {
+            self.run_capped(h, numbers, tokens)
+        } else {
+            self.run_plain(numbers, tokens)
+        }
+    }
+
+    /// The same with caps. A place without one has a limit that nothing reaches. Within one firing a place is highest once all
+    /// is added, so what is above a limit on the way is above it then.
+    #[inline(never)]
+    unsafe fn run_capped(self, h: &Header, numbers: &[u16], tokens: *mut i64) -> Option<Stuck> {
+        let Moves { starts, moves } = self;
+        let mut limits = raw::<i64, PLACES>();
+        let limits = limits.as_mut_ptr().cast::<i64>();
+        for p in 0..h.places {
+            let cap = (h.wide_place(p) >> 32) as i64;
+            *limits.add(p) = if cap == 0 { i64::MAX } else { cap };
+        }
+        for (index, &t) in numbers.iter().enumerate() {
+            let from = usize::from(*starts.add(usize::from(t)));
+            let to = usize::from(*starts.add(usize::from(t) + 1));
+            let mut signs = 0;
+            for j in from..to {
+                let m = *moves.add(j);
+                let p = (m & 1023) as usize;
+                let now = *tokens.add(p) + i64::from(m >> 10);
+                *tokens.add(p) = now;
+                // A place that goes below 0, or above its limit, shows in the sign.
+                signs |= now | (*limits.add(p)).wrapping_sub(now);
+            }
+            if signs < 0 {
+                return Some(hindrance(index, moves.add(from), to - from, tokens, limits));
+            }
+        }
+        None
+    }
+
+    /// The same of a file without caps.
+    ///
+    /// # Safety
+    /// As for `run`.
+    #[inline(always)]
+    pub unsafe fn run_plain(self, numbers: &[u16], tokens: *mut i64) -> Option<Stuck> {
         let Moves { starts, moves } = self;
         for (i, &t) in numbers.iter().enumerate() {
             let from = usize::from(*starts.add(usize::from(t)));
@@ -141,8 +205,8 @@ impl Moves {
                     let m = *moves.add(j);
                     *tokens.add((m & 1023) as usize) -= i64::from(m >> 10);
                 }
-                let (place, missing) = lowest_short(moves.add(from), to - from, tokens);
-                return Some((i, place, missing));
+                let (place, amount) = lowest_short(moves.add(from), to - from, tokens).unwrap_unchecked();
+                return Some(Stuck { index: i, full: false, place, amount });
             }
         }
         None
@@ -155,10 +219,29 @@ unsafe fn moves_of(at: *const u8, count: usize, room: u64, moves: Moves) -> u32 
     each_arc(at, count, room, |j, arc| moves.note(j, arc))
 }
 
-/// The lowest place from which the moves take more than there is, parallel ones together, and the tokens missing there;
-/// there is one. Moves that take come first, and are below 0.
+/// Why the moves were not to be made, which stand in the tokens: a place is short, or else full. The tokens are as before them
+/// afterwards.
 #[cold]
-unsafe fn lowest_short(moves: *const i32, count: usize, tokens: *const i64) -> (u32, u32) {
+unsafe fn hindrance(index: usize, moves: *const i32, count: usize, tokens: *mut i64, limits: *const i64) -> Stuck {
+    let moves = std::slice::from_raw_parts(moves, count);
+    let place = |m: &i32| (m & 1023) as usize;
+    // Those that give come last, in order by place.
+    let over = |m: &&i32| **m >= 0 && *tokens.add(place(m)) > *limits.add(place(m));
+    let full = moves.iter().find(over).map(|m| (place(m) as u32, *tokens.add(place(m)) - *limits.add(place(m))));
+    for m in moves {
+        *tokens.add(place(m)) -= i64::from(m >> 10);
+    }
+    match (lowest_short(moves.as_ptr(), count, tokens), full) {
+        (Some((place, amount)), _) => Stuck { index, full: false, place, amount },
+        (None, Some((place, excess))) => Stuck { index, full: true, place, amount: excess as u32 },
+        (None, None) => unreachable_unchecked(),
+    }
+}
+
+/// The lowest place from which the moves take more than there is, parallel ones together, and the tokens missing there.
+/// Moves that take come first, and are below 0.
+#[cold]
+unsafe fn lowest_short(moves: *const i32, count: usize, tokens: *const i64) -> Option<(u32, u32)> {
     let mut j = 0;
     while j < count && *moves.add(j) < 0 {
         let p = *moves.add(j) & 1023;
@@ -168,8 +251,8 @@ unsafe fn lowest_short(moves: *const i32, count: usize, tokens: *const i64) -> (
             j += 1;
         }
         if left < 0 {
-            return (p as u32, -left as u32);
+            return Some((p as u32, -left as u32));
         }
     }
-    (0, 0)
+    None
 }

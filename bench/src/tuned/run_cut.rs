@@ -35,6 +35,9 @@ pub fn run_cut(
             Ok(h) => h,
             Err(refusal) => return refusal,
         };
+        if h.capped {
+            return 17;
+        }
         let refusal = criterion::refusal(q.as_ptr().cast(), q.len(), h.places);
         if refusal != 0 {
             return refusal;
@@ -46,8 +49,8 @@ pub fn run_cut(
         let mut tokens = raw::<i64, PLACES>();
         let tokens = tokens.as_mut_ptr().cast::<i64>();
         moves.begin(&h, tokens);
-        if let Some((i, place, missing)) = moves.run(numbers, tokens) {
-            (*index, *short, *amount) = (i as u32, place, missing);
+        if let Some(stuck) = moves.run_plain(numbers, tokens) {
+            stuck.tell(index, short, amount);
             return 14;
         }
 

@@ -7,7 +7,7 @@ use super::replay::{Moves, Tables};
 
 const LEFT_OUT: u16 = 0xFFFF;
 
-/// The index, the place that is short, the tokens missing there and the count go to `results`.
+/// The index, the place that is short or full, the tokens and the count go to `results`.
 #[inline(always)]
 pub fn shadow(
     plan: &[u8],
@@ -57,8 +57,8 @@ pub fn shadow(
         let mut room = raw::<i64, PLACES>();
         let tokens = if fits { marking.as_mut_ptr().cast::<i64>() } else { room.as_mut_ptr().cast() };
         moves.begin(&p, tokens);
-        let stuck = moves.run(numbers, tokens);
-        let fired = stuck.map_or(numbers, |(i, _, _)| numbers.get_unchecked(..i));
+        let stuck = moves.run(&p, numbers, tokens);
+        let fired = stuck.as_ref().map_or(numbers, |stuck| numbers.get_unchecked(..stuck.index));
         if !fits {
             if out.len() < needed(fired) {
                 return 13;
@@ -79,10 +79,7 @@ pub fn shadow(
         *count = k as u32;
         match stuck {
             None => 0,
-            Some((i, place, missing)) => {
-                (*index, *short, *amount) = (i as u32, place, missing);
-                100
-            }
+            Some(stuck) => stuck.tell(index, short, amount),
         }
     }
 }
