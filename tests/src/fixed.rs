@@ -250,6 +250,19 @@ fn buffer<T: Copy + From<u8>>(len: usize) -> Lent<T> {
     Lent { cells: vec![T::from(0xA5); len + 8], start: 4, len, null: false }
 }
 
+// A case by what is handed over, and the entries that are lent.
+fn arcs_case(plan: &[u8], slice: &[u8], of_slice: bool, transition: u16) -> ArcsCase {
+    ArcsCase { plan: lent(plan), slice: lent(slice), of_slice, transition }
+}
+
+fn shadow_case(plan: &[u8], slice: &[u8], list: &[u16], entries: usize, len: usize) -> ShadowCase {
+    ShadowCase { plan: lent(plan), slice: lent(slice), list: lent(list), marking: buffer(entries), out: buffer(len) }
+}
+
+fn run_cut_case(plan: &[u8], q: &[u16], list: &[u16], bytes: usize, entries: usize) -> RunCutCase {
+    RunCutCase { plan: lent(plan), q: lent(q), list: lent(list), slice: buffer(bytes), positions: buffer(entries) }
+}
+
 /// What stands in such a buffer after these entries were written.
 fn after<T: Copy + From<u8>>(len: usize, written: &[T]) -> Vec<T> {
     let mut cells = buffer(len).cells;
@@ -335,12 +348,7 @@ pub fn effects() -> Vec<Fixed<EffectCase>> {
 }
 
 pub fn arc_runs() -> Vec<Fixed<ArcsCase>> {
-    let case = |plan: &[u8], slice: &[u8], of_slice, transition| ArcsCase {
-        plan: lent(plan),
-        slice: lent(slice),
-        of_slice,
-        transition,
-    };
+    let case = arcs_case;
     let mut list = Vec::new();
     let (plan, slice) = (small_plan().bytes(), small_safety().bytes());
     // Length and start: the kerb's arcs start at 20, those of its slice at 12.
@@ -611,13 +619,7 @@ pub fn cuts(which: Cut) -> Vec<Fixed<CutCase>> {
 }
 
 pub fn shadows() -> Vec<Fixed<ShadowCase>> {
-    let case = |plan: &[u8], slice: &[u8], list: &[u16], entries, len| ShadowCase {
-        plan: lent(plan),
-        slice: lent(slice),
-        list: lent(list),
-        marking: buffer(entries),
-        out: buffer(len),
-    };
+    let case = shadow_case;
     let (plan, slice, branching) = (small_plan().bytes(), small_safety().bytes(), small_branching().bytes());
     let mut list = Vec::new();
     // Into exactly the entries that are written and into more; and with one too few, if any is.
@@ -699,13 +701,7 @@ pub fn shadows() -> Vec<Fixed<ShadowCase>> {
 }
 
 pub fn run_cuts() -> Vec<Fixed<RunCutCase>> {
-    let case = |plan: &[u8], q: &[u16], list: &[u16], bytes, entries| RunCutCase {
-        plan: lent(plan),
-        q: lent(q),
-        list: lent(list),
-        slice: buffer(bytes),
-        positions: buffer(entries),
-    };
+    let case = run_cut_case;
     let mut list = Vec::new();
     // Into exactly the room that it takes and into more; and into too little for the one, the other or both.
     let mut run = |name: &str, plan: &[u8], q: &[u16], numbers: &[u16], slice: &Draft, chosen: &[u16]| {

@@ -211,12 +211,7 @@ pub fn effects() -> Vec<Fixed<EffectCase>> {
 }
 
 pub fn arc_runs() -> Vec<Fixed<ArcsCase>> {
-    let case = |plan: &[u8], slice: &[u8], of_slice, transition| ArcsCase {
-        plan: lent(plan),
-        slice: lent(slice),
-        of_slice,
-        transition,
-    };
+    let case = arcs_case;
     let (plan, slice) = (capped_plan().bytes(), capped_safety().bytes());
     // Length and start: the kerb's arcs start at 40, those of its slice at 32.
     let runs = [
@@ -460,13 +455,7 @@ fn fork_of_one() -> Draft {
 }
 
 pub fn run_cuts() -> Vec<Fixed<RunCutCase>> {
-    let case = |plan: &[u8], q: &[u16], list: &[u16], bytes, entries| RunCutCase {
-        plan: lent(plan),
-        q: lent(q),
-        list: lent(list),
-        slice: buffer(bytes),
-        positions: buffer(entries),
-    };
+    let case = run_cut_case;
     let mut list = Vec::new();
     // An edition 2 plan without caps is cut; the edition stays.
     let plain = kerb([0; 5]);
@@ -523,13 +512,7 @@ pub fn run_cuts() -> Vec<Fixed<RunCutCase>> {
 }
 
 pub fn shadows() -> Vec<Fixed<ShadowCase>> {
-    let case = |plan: &[u8], slice: &[u8], list: &[u16], entries, len| ShadowCase {
-        plan: lent(plan),
-        slice: lent(slice),
-        list: lent(list),
-        marking: buffer(entries),
-        out: buffer(len),
-    };
+    let case = shadow_case;
     let mut list = Vec::new();
     type Stuck = Option<(u32, i64, i64, i64)>;
     let mut run = |name: &str, files: [&Draft; 2], numbers: &[u16], stuck: Stuck, marking: &[u64], due: &[u16]| {
