@@ -211,7 +211,7 @@ pub record TakenTogether : Type 0 where
   pub little-room : togetherAnswer smallPlan 3 (2 ∷ 1 ∷ 0 ∷ 0 ∷ 0 ∷ []) 4 ≡ record { refused = true; refusal = 13; unlimited = false; times = 0 }
   pub kept : togetherRest smallPlan 3 (2 ∷ 1 ∷ 0 ∷ 0 ∷ 0 ∷ []) (9 ∷ 8 ∷ []) ≡ 9 ∷ 8 ∷ []
 
--- the small plan's net with caps, as files of edition 2 will have them
+-- the small plan's net with caps, as files of edition 2 have them
 unfoldable pub withCaps : (ℕ → ℕ) → Net
 withCaps caps =
     let N = netOf smallPlan in
@@ -231,7 +231,7 @@ loopNet =
     let arc : ℕ → ℕ → ℕ → Arc = λ t d w. record { transition = t; direction = d; place = 0; weight = w } in
     record { places = 1; transitions = 2; marking = λ p. 2; cap = λ p. 2; arcs = arc 0 0 2 ∷ arc 0 1 2 ∷ arc 1 0 1 ∷ arc 1 1 3 ∷ [] }
 
--- place 1 has 2 tokens and a cap of 1, as no file will (refusal 16); transition 0 takes the token of place 0
+-- place 1 has 2 tokens and a cap of 1, as no file that is read (refusal 16); transition 0 takes the token of place 0
 unfoldable pub overNet : Net
 overNet = record { places = 2; transitions = 1; marking = λ p. suc p; cap = λ p. p; arcs = record { transition = 0; direction = 0; place = 0; weight = 1 } ∷ [] }
 
