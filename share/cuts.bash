@@ -5,14 +5,17 @@ more leave
 no_slice='it is no slice, and only --force replaces it' # as the program says it
 mask='' # the umask of the next file that the program makes
 
-# The program as `run` has it, for a short answer: a signal is seen while it runs, and ends it.
+# The program as `run` has it, for a short answer: a signal is seen while it runs, and ends it. Of one that ends just as it is waited for
+# bash may lose the status, and has -1, which is no program's: then an answer with its last line whole is the answer.
 run() {
     local code
     running=1
     IFS= read -r -d '' answer < <([ -z "$mask" ] || umask "$mask"; exec "$program" "$@")
     wait "$!"
     code=$?
-    running='' answer=${answer%$'\n'}
+    running=''
+    case $code,$answer in -1,*$'\n' | 255,*$'\n') code=0 ;; esac
+    answer=${answer%$'\n'}
     return "$code"
 }
 
