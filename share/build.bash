@@ -47,11 +47,15 @@ needed() {
 }
 
 # toolchain WORDS..: runs rt in a process group of its own, which ends with this call; each line that it writes is `heard`.
+# rt waits for a batch of jobs before it starts the next one: more jobs than processors keep these busy.
 toolchain() {
     local line
     mkfifo -- "$room/lines" || fail 'the build could not be started'
     set -m
-    (cd -- "$here" && LC_ALL=$locale && exec rt "$@") > "$room/lines" 2>&1 < /dev/null &
+    (
+        export RT_JOBS=${RT_JOBS:-$(($(nproc 2> /dev/null || echo 1) + 2))}
+        cd -- "$here" && LC_ALL=$locale && exec rt "$@"
+    ) > "$room/lines" 2>&1 < /dev/null &
     child=$!
     set +m
     while IFS= read -r line || [ -n "$line" ]; do heard "$line"; done < "$room/lines"

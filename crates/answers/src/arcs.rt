@@ -1,5 +1,5 @@
 // arcs: the run in words, or why there is none.
-use file::Due;
+use file_header::Due;
 use terminal::phrases;
 use terminal::say;
 use words::refusal;

@@ -8,12 +8,13 @@ use native.Mathlib.Decide.{ℕ-discrete, decLt}
 use lib.Dec.{eqb}
 use borrow.Author.Tests.{eq-eqb, eqb-true}
 use Rattle.net.specs.Net.{counted, joins, weightOn}
-use Rattle.file.specs.Layout.{arcAt, arcsFrom}
+use Rattle.file_arcs.specs.Layout.{arcAt, arcsFrom}
 use Rattle.file.specs.Facts.{Sound}
-use Rattle.file.specs.declared.Header.{Header}
+use Rattle.file_header.specs.declared.Header.{Header}
 use Rattle.net.specs.declared.Arc.{Arc}
 use Rattle.arcs_starts.specs.Table.{slotOf, slotAt, Split}
-use Rattle.file.proofs.Rows.{weight-none, weight-next, good-at}
+use Rattle.file_arcs.proofs.Rows.{weight-none, weight-next}
+use Rattle.file.proofs.Rows.{good-at}
 use Rattle.arcs_column.specs.Ways.{Joins}
 
 pub record JoinsBelow (d p t : ℕ) (s : List ℕ) (start n : ℕ) : Type 0 where

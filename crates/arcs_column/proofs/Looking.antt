@@ -10,7 +10,7 @@ use lib.Dec.{eqb, ltb}
 use lib.ListN.{length, getD, set, length-set}
 use lib.Seq.{getD-set-same, getD-set-other}
 use borrow.Author.Tests.{eq-eqb}
-use Rattle.file.specs.Layout.{arcAt}
+use Rattle.file_arcs.specs.Layout.{arcAt}
 use Rattle.arcs_column.specs.Gain
 
 -- as it was, or at rest and counted

@@ -9,8 +9,8 @@ use borrow.Author.Tests.{eqb-true, eq-eqb}
 use lib.Dec.{eqb}
 use Rattle.net.specs.Net.{counted, joins, weightOn}
 use Rattle.net.specs.declared.Arc.{Arc}
-use Rattle.file.specs.Layout.{arcAt, arcsFrom}
-use Rattle.file.proofs.Rows.{weight-next}
+use Rattle.file_arcs.specs.Layout.{arcAt, arcsFrom}
+use Rattle.file_arcs.proofs.Rows.{weight-next}
 
 -- one arc's part in a sum
 abbrev pub share : ℕ → ℕ → ℕ → Arc → ℕ

@@ -6,13 +6,15 @@ use mathlib.Core.Path.{_≡_}
 use native.Mathlib.Omega.{arith}
 use native.Mathlib.Decide.{decLt}
 use Rattle.net.specs.Net.{weightOn}
-use Rattle.file.specs.Word.{Bytes}
-use Rattle.file.specs.Layout.{arcAt, netFrom}
+use Rattle.file_words.specs.Word.{Bytes}
+use Rattle.file_arcs.specs.Layout.{arcAt}
+use Rattle.file.specs.Layout.{netFrom}
 use Rattle.file.specs.Facts.{Sound}
-use Rattle.file.specs.declared.Header.{Header}
+use Rattle.file_header.specs.declared.Header.{Header}
 use Rattle.arcs_starts.specs.Table.{slotAt, Split}
 use Rattle.arcs_column.specs.Ways.{transitionAt, sumOn}
-use Rattle.file.proofs.Rows.{good-at, weight-le}
+use Rattle.file_arcs.proofs.Rows.{weight-le}
+use Rattle.file.proofs.Rows.{good-at}
 use Rattle.arcs_column.proofs.Ways.{sum-run}
 
 -- the arcs of t stand from b to e

@@ -7,7 +7,7 @@ use native.Mathlib.Decide.{ℕ-discrete}
 use lib.ListN.{length, getD, set, length-set}
 use lib.Seq.{getD-set-same, getD-set-other}
 use borrow.Author.Tests.{eq-eqb, ne-eqb}
-use Rattle.file.specs.Layout.{arcAt}
+use Rattle.file_arcs.specs.Layout.{arcAt}
 use Rattle.net.specs.declared.Arc.{Arc}
 use Rattle.arcs_column.specs.Gain
 

@@ -10,8 +10,8 @@ use lib.Dec.{eqb}
 use borrow.Author.Tests.{eq-eqb, ne-eqb}
 use Rattle.net.specs.Net.{counted, joins, weightOn}
 use Rattle.net.specs.declared.Arc.{Arc}
-use Rattle.file.specs.Layout.{arcAt, arcsFrom}
-use Rattle.file.proofs.Rows.{weight-none, weight-next}
+use Rattle.file_arcs.specs.Layout.{arcAt, arcsFrom}
+use Rattle.file_arcs.proofs.Rows.{weight-none, weight-next}
 use Rattle.arcs_column.specs.Ways.{transitionAt, share, sumOn}
 
 module _ (d : ℕ) (s : List ℕ) (start p : ℕ) where

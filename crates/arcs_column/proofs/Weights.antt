@@ -8,11 +8,11 @@ use native.Mathlib.Decide.{decLt}
 use lib.Dec.{eqb}
 use borrow.Author.Tests.{eq-eqb, eqb-true}
 use Rattle.net.specs.Net.{counted, joins, weightOn}
-use Rattle.file.specs.Layout.{arcAt, arcsFrom}
+use Rattle.file_arcs.specs.Layout.{arcAt, arcsFrom}
 use Rattle.net.specs.declared.Arc.{Arc}
 use Rattle.arcs_starts.specs.Table.{slotOf, slotAt, Split}
 use Rattle.arcs_column.specs.Gain
-use Rattle.file.proofs.Rows.{weight-next, weight-none}
+use Rattle.file_arcs.proofs.Rows.{weight-next, weight-none}
 
 share-other : (d p t : ℕ) (a : Arc) → (slotOf a ≡ 2 * t + d → ⊥) → counted (joins d p t a) (a .weight) ≡ 0
 share-other d p t a other = go (eqb (a .transition) t) (eqb (a .direction) d) (eqb (a .place) p) refl refl

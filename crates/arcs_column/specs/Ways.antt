@@ -6,7 +6,7 @@ use mathlib.Core.Path.{_≡_}
 use lib.Dec.{eqb}
 use Rattle.net.specs.Net.{counted}
 use Rattle.net.specs.declared.Arc.{Arc}
-use Rattle.file.specs.Layout.{arcAt}
+use Rattle.file_arcs.specs.Layout.{arcAt}
 
 -- the place of arc i of those that start at `start`
 abbrev pub placeAt : List ℕ → ℕ → ℕ → ℕ

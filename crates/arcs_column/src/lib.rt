@@ -12,7 +12,7 @@ pub fn take(file: &[u8], start: usize, from: usize, to: usize, column: &mut [u32
 {
     let mut j = from;
     while j < to {
-        let a = file::arcs::arc(file, start + 8 * j);
+        let a = file_arcs::arc(file, start + 8 * j);
         let p = a.place;
         column[p] = column[p] - (a.weight as u32);
         j += 1;
@@ -27,7 +27,7 @@ pub fn give(file: &[u8], start: usize, from: usize, to: usize, column: &mut [u32
 {
     let mut j = from;
     while j < to {
-        let a = file::arcs::arc(file, start + 8 * j);
+        let a = file_arcs::arc(file, start + 8 * j);
         let p = a.place;
         column[p] = column[p] + (a.weight as u32);
         j += 1;
@@ -61,7 +61,7 @@ pub fn pulled(
     let mut found = false;
     let mut j = from;
     while j < to {
-        let a = file::arcs::arc(file, start + 8 * j);
+        let a = file_arcs::arc(file, start + 8 * j);
         let p = a.place;
         let here = pulling(limit[p], column[p]);
         column[p] = AT_REST;

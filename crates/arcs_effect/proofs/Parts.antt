@@ -12,11 +12,14 @@ use Rattle.net.specs.Net.{weightOn, input, output, effect}
 use Rattle.net.specs.Slice.{arcsOf}
 use Rattle.net.specs.declared.Arc.{Arc}
 use Rattle.net.proofs.Numbers.{by-order}
-use Rattle.file.specs.Layout.{arcAt, arcsFrom, netFrom}
-use Rattle.file.specs.Facts.{InRange, Sound}
-use Rattle.file.specs.declared.Header.{Header}
+use Rattle.file_arcs.specs.Layout.{arcAt, arcsFrom}
+use Rattle.file.specs.Layout.{netFrom}
+use Rattle.file_arcs.specs.Facts.{InRange}
+use Rattle.file.specs.Facts.{Sound}
+use Rattle.file_header.specs.declared.Header.{Header}
 use Rattle.arcs_starts.specs.Table.{slotOf, slotAt, numberBelow, Split}
-use Rattle.file.proofs.Rows.{key-le, good-at}
+use Rattle.file_arcs.proofs.Rows.{key-le}
+use Rattle.file.proofs.Rows.{good-at}
 use Rattle.arcs_starts.proofs.Reached.{number-below}
 use Rattle.arcs_column.specs.Gain.{sumTo}
 use Rattle.arcs_column.proofs.Weights.{weight-run, rising}

@@ -3,7 +3,7 @@ use Prim.Native.Nat.{ℕ, zero, suc, _+_, _-_, _*_, _≤_, _<_}
 use mathlib.Core.Path.{_≡_, sym, ap, _∙_}
 use mathlib.Core.List.{List}
 use native.Mathlib.Omega.{arith}
-use Rattle.file.specs.Layout.{arcAt}
+use Rattle.file_arcs.specs.Layout.{arcAt}
 use Rattle.net.specs.declared.Arc.{Arc}
 use Rattle.arcs_column.specs.Gain.{sumTo, part}
 use Rattle.arcs_column.proofs.Sums.{sum-next, part-here, part-other}

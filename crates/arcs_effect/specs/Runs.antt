@@ -4,8 +4,8 @@ use mathlib.Core.List.{List}
 use mathlib.Core.Path.{_≡_}
 use lib.ListN.{length, take, drop}
 use lib.Dec.{ltb}
-use Rattle.file.specs.Layout.{arcAt}
-use Rattle.file.specs.declared.Header.{Header}
+use Rattle.file_arcs.specs.Layout.{arcAt}
+use Rattle.file_header.specs.declared.Header.{Header}
 use Rattle.promise.specs.Firing.{runIf, runFrom, runStart, startIf}
 use Rattle.arcs_effect.specs.declared.Part.{Part}
 

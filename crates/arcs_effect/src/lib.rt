@@ -9,7 +9,7 @@ ghost use Rattle.file.specs.Facts.{Sound};
 ghost use Rattle.file.specs.Layout.{netFrom};
 ghost use Rattle.arcs_effect.specs.Runs.{Within, FromPlace, PartOf, runOf};
 use arcs_starts::first_from;
-use file::Header;
+use file_header::Header;
 
 // The first of the arcs `from` to `to` whose place is not below the place, by halving: they are of one transition and one direction.
 fn place_from(file: &[u8], start: usize, from: usize, to: usize, place: usize) -> usize
@@ -20,7 +20,7 @@ fn place_from(file: &[u8], start: usize, from: usize, to: usize, place: usize) -
     let mut high = to;
     while low < high {
         let middle = (low + high) / 2;
-        let a = file::arcs::arc(file, start + 8 * middle);
+        let a = file_arcs::arc(file, start + 8 * middle);
         if a.place < place {
             low = middle + 1;
         } else {
@@ -38,7 +38,7 @@ fn weight(file: &[u8], start: usize, from: usize, to: usize, place: usize) -> us
     let mut sum: usize = 0;
     let mut j = place_from(file, start, from, to, place);
     while j < to {
-        let a = file::arcs::arc(file, start + 8 * j);
+        let a = file_arcs::arc(file, start + 8 * j);
         if a.place != place {
             return sum;
         }

@@ -9,11 +9,13 @@ use lib.Dec.{eqb}
 use borrow.Author.Tests.{eqb-true, eq-eqb}
 use Rattle.net.specs.Net.{weightOn}
 use Rattle.net.specs.declared.Arc.{Arc}
-use Rattle.file.specs.Layout.{arcAt, arcsFrom}
-use Rattle.file.specs.Facts.{ArcWord, Sound}
-use Rattle.file.specs.Refusal.{key}
-use Rattle.file.specs.declared.Header.{Header}
-use Rattle.file.proofs.Rows.{key-le, weight-none, weight-next, good-at}
+use Rattle.file_arcs.specs.Layout.{arcAt, arcsFrom}
+use Rattle.file_arcs.specs.Facts.{ArcWord}
+use Rattle.file.specs.Facts.{Sound}
+use Rattle.file_arcs.specs.Refusal.{key}
+use Rattle.file_header.specs.declared.Header.{Header}
+use Rattle.file_arcs.proofs.Rows.{key-le, weight-none, weight-next}
+use Rattle.file.proofs.Rows.{good-at}
 use Rattle.arcs_column.specs.Ways.{placeAt, transitionAt, directionAt, Joins}
 use Rattle.arcs_column.proofs.Shares.{share-is, share-unless, sum-same}
 use Rattle.arcs_groups.specs.Groups

@@ -4,10 +4,10 @@ ghost use mathlib.Core.Bool.{true, _&&_};
 ghost use Prim.Native.Nat.{_+_, _-_, _*_, _/_, _%_, _≤_};
 ghost use lib.Dec.{eqb};
 ghost use Rattle.arcs_groups.specs.Groups.{GroupEnd, Stands, runWeight};
-use file::arcs::PLACE;
-use file::arcs::WEIGHT;
-use file::arcs::word;
-use file::word::get16;
+use file_arcs::PLACE;
+use file_arcs::WEIGHT;
+use file_arcs::word;
+use file_words::get16;
 
 // Do two arcs, each as one number, join the same two in one direction?
 fn parallel(v: usize, w: usize) -> bool

@@ -6,12 +6,13 @@ use mathlib.Core.List.{List, map}
 use native.Mathlib.Omega.{arith}
 use lib.Dec.{ltb}
 use borrow.Author.Tests.{lt-ltb, le-ltb}
-use Rattle.file.specs.Layout.{arcAt, arcsFrom}
-use Rattle.file.specs.Refusal.{key}
-use Rattle.file.specs.Facts.{OrderedFrom, Sound}
-use Rattle.file.specs.declared.Header.{Header}
+use Rattle.file_arcs.specs.Layout.{arcAt, arcsFrom}
+use Rattle.file_arcs.specs.Refusal.{key}
+use Rattle.file_arcs.specs.Facts.{OrderedFrom}
+use Rattle.file.specs.Facts.{Sound}
+use Rattle.file_header.specs.declared.Header.{Header}
 use Rattle.arcs_starts.specs.Table
-use Rattle.file.proofs.Rows.{first, later, range-at, key-le}
+use Rattle.file_arcs.proofs.Rows.{first, later, range-at, key-le}
 
 pub order-at : (s : List ℕ) (at least n i j : ℕ) → OrderedFrom least (map key (arcsFrom s at n)) → i ≤ j → j < n → key (arcAt s (at + 8 * i)) ≤ key (arcAt s (at + 8 * j))
 order-at = key-le

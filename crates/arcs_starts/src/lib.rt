@@ -2,7 +2,7 @@
 ghost use mathlib.Core.Path.{_≡_};
 ghost use Prim.Native.Nat.{ℕ, _+_, _*_, _<_, _≤_};
 ghost use lib.ListN.{length, getD};
-ghost use Rattle.file.specs.Facts.{ArcSmall};
+ghost use Rattle.file_arcs.specs.Facts.{ArcSmall};
 ghost use Rattle.arcs_starts.specs.Table.{slotOf, larger, runningMost, Latest, Split, Slots, Ordered, Tabled};
 use net::Arc;
 
@@ -22,7 +22,7 @@ fn ends(file: &[u8], start: usize, count: usize, table: &mut [u16])
 {
     let mut j: usize = 0;
     while j < count {
-        let a = file::arcs::arc(file, start + 8 * j);
+        let a = file_arcs::arc(file, start + 8 * j);
         let k = slot(a);
         table[k + 1] = (j + 1) as u16;
         j += 1;
@@ -69,7 +69,7 @@ pub fn first_from(file: &[u8], start: usize, count: usize, k: usize) -> usize
     let mut high = count;
     while low < high {
         let middle = (low + high) / 2;
-        let a = file::arcs::arc(file, start + 8 * middle);
+        let a = file_arcs::arc(file, start + 8 * middle);
         if slot(a) < k {
             low = middle + 1;
         } else {

@@ -7,18 +7,22 @@ use lib.ListN.{length}
 use lib.Dec.{eqb, ltb}
 use native.Mathlib.Omega.{arith}
 use borrow.Author.Tests.{ltb-false, lt-ltb, le-ltb, eq-eqb}
-use Rattle.file.specs.Layout.{trailerOf, headerOf}
-use Rattle.file.specs.Refusal.{refuse, lengthWrong, trailerRefusal}
-use Rattle.file.specs.Facts.{Placed}
+use Rattle.file_header.specs.Layout.{trailerOf, headerOf, placesLength}
+use Rattle.file_words.specs.Refusal.{refuse}
+use Rattle.file_header.specs.Refusal.{trailerRefusal}
+use Rattle.file.specs.Refusal.{lengthWrong}
+use Rattle.file_header.specs.Facts.{Placed}
 use Rattle.file.specs.Reading.{answer}
-use Rattle.file.specs.declared.Due.the-variants.{Either}
-use Rattle.file.specs.declared.Header.{Header}
+use Rattle.file_header.specs.declared.Due.the-variants.{Either}
+use Rattle.file_header.specs.declared.Header.{Header}
 use Rattle.file.specs.declared.Reading.{Reading}
 use Rattle.file.specs.declared.Reading.the-variants.{Whole, Refused}
-use Rattle.file.proofs.Opening.{refuse-0, or-false, answer-whole, trailer-placed}
-use Rattle.file.proofs.Laws.{slice-part}
-use Rattle.file.specs.Word.{byteAt, le16, le32}
-use Rattle.file.specs.Layout.{placesLength, arcAt}
+use Rattle.file_words.proofs.Laws.{refuse-0, or-false}
+use Rattle.file_header.proofs.Opening.{trailer-placed}
+use Rattle.file.proofs.Opening.{answer-whole}
+use Rattle.file_header.proofs.Laws.{slice-part}
+use Rattle.file_words.specs.Word.{byteAt, le16, le32}
+use Rattle.file_arcs.specs.Layout.{arcAt}
 use Rattle.net.specs.declared.Arc.{Arc}
 use Rattle.blame.specs.Head.{headRefusal, heading}
 use Rattle.blame.specs.Arcs.{arcsPassed, arcOf}

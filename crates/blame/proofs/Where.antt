@@ -9,16 +9,20 @@ use lib.ListN.{length, take}
 use borrow.Author.Tests.{eqb-true, eq-eqb, ltb-false, le-ltb, not-false}
 use Rattle.net.specs.Numbers.{any}
 use Rattle.net.proofs.Numbers.{by-cases}
-use Rattle.file.specs.Word.{byteAt, le16, le32}
-use Rattle.file.specs.Layout.{pick, trailerOf, headerOf, arcAt, inSlice}
-use Rattle.file.specs.Refusal.{refuse, orElse, key, arcWrong, lengthWrong, lettersWrong, kindWrong, countsWrong, bodyWrong, trailerRefusal, arcsRefusal, tableRefusal, originsRefusal, capsRefusal, linksRefusal, bodyRefusal, fileRefusal}
+use Rattle.file_words.specs.Word.{byteAt, le16, le32}
+use Rattle.file_arcs.specs.Layout.{arcAt}
+use Rattle.file_header.specs.Layout.{pick, trailerOf, headerOf, inSlice}
+use Rattle.file_words.specs.Refusal.{refuse, orElse, tableRefusal, capsRefusal}
+use Rattle.file_arcs.specs.Refusal.{key, arcWrong, arcsRefusal}
+use Rattle.file_header.specs.Refusal.{lettersWrong, kindWrong, countsWrong, bodyWrong, trailerRefusal}
+use Rattle.file.specs.Refusal.{lengthWrong, originsRefusal, linksRefusal, bodyRefusal, fileRefusal}
 use Rattle.file.specs.Criterion.{placesRefusal}
-use Rattle.file.specs.declared.Due.{Due}
-use Rattle.file.specs.declared.Due.the-variants.{Plan, Slice, Either}
-use Rattle.file.specs.declared.Header.{Header}
-use Rattle.file.specs.declared.Trailer.{Trailer}
+use Rattle.file_header.specs.declared.Due.{Due}
+use Rattle.file_header.specs.declared.Due.the-variants.{Plan, Slice, Either}
+use Rattle.file_header.specs.declared.Header.{Header}
+use Rattle.file_header.specs.declared.Trailer.{Trailer}
 use Rattle.file.specs.declared.Reading.the-variants.{Whole, Refused}
-use Rattle.file.proofs.Opening.{refuse-0}
+use Rattle.file_words.proofs.Laws.{refuse-0}
 use Rattle.blame.specs.Head.{unless, passed, headRefusal, heading}
 use Rattle.blame.specs.Arcs.{arcsPassed, arcOf}
 use Rattle.blame.specs.Origins.{tablePassed}

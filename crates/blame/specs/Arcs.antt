@@ -2,10 +2,10 @@
 use Prim.Native.Nat.{ℕ, _+_, _*_}
 use mathlib.Core.List.{List}
 use Rattle.net.specs.declared.Arc.{Arc}
-use Rattle.file.specs.Word.{byteAt}
-use Rattle.file.specs.Layout.{arcAt}
-use Rattle.file.specs.Refusal.{arcsRefusal}
-use Rattle.file.specs.declared.Header.{Header}
+use Rattle.file_words.specs.Word.{byteAt}
+use Rattle.file_arcs.specs.Layout.{arcAt}
+use Rattle.file_arcs.specs.Refusal.{arcsRefusal}
+use Rattle.file_header.specs.declared.Header.{Header}
 use Rattle.file.specs.declared.Reading.{Reading}
 use Rattle.file.specs.declared.Reading.the-variants.{Whole, Refused}
 use Rattle.blame.specs.Head.{passed}

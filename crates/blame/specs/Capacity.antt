@@ -3,9 +3,9 @@ use Prim.Native.Nat.{ℕ, _+_, _*_}
 use mathlib.Core.Bool.{Bool, true, false}
 use mathlib.Core.List.{List}
 use lib.Dec.{eqb}
-use Rattle.file.specs.Word.{le32}
-use Rattle.file.specs.Refusal.{capsRefusal}
-use Rattle.file.specs.declared.Header.{Header}
+use Rattle.file_words.specs.Word.{le32}
+use Rattle.file_words.specs.Refusal.{capsRefusal}
+use Rattle.file_header.specs.declared.Header.{Header}
 use Rattle.file.specs.declared.Reading.{Reading}
 use Rattle.file.specs.declared.Reading.the-variants.{Whole, Refused}
 use Rattle.blame.specs.Head.{passed}

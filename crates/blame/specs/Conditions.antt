@@ -7,8 +7,8 @@ use mathlib.Core.Bool.{Bool, true, false, not}
 use mathlib.Core.List.{List}
 use lib.Dec.{eqb, ltb, leb}
 use lib.ListN.{length}
-use Rattle.file.specs.Layout.{trailerOf, bodyLength}
-use Rattle.file.specs.declared.Trailer.{Trailer}
+use Rattle.file_header.specs.Layout.{trailerOf, bodyLength}
+use Rattle.file_header.specs.declared.Trailer.{Trailer}
 use Rattle.blame.specs.Head.{heading}
 use Rattle.blame.specs.Arcs.{arcOf}
 use Rattle.blame.specs.Numbers.{placesOf, transitionsOf}

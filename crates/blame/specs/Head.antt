@@ -4,10 +4,12 @@ use mathlib.Core.Bool.{Bool, true, false, not}
 use mathlib.Core.List.{List}
 use lib.Dec.{eqb}
 use lib.ListN.{length}
-use Rattle.file.specs.Layout.{trailerOf, headerOf}
-use Rattle.file.specs.Refusal.{refuse, lengthWrong, trailerRefusal}
+use Rattle.file_header.specs.Layout.{trailerOf, headerOf}
+use Rattle.file_words.specs.Refusal.{refuse}
+use Rattle.file_header.specs.Refusal.{trailerRefusal}
+use Rattle.file.specs.Refusal.{lengthWrong}
 use Rattle.file.specs.Reading.{answer}
-use Rattle.file.specs.declared.Due.the-variants.{Either}
+use Rattle.file_header.specs.declared.Due.the-variants.{Either}
 use Rattle.file.specs.declared.Reading.{Reading}
 
 -- refusals 1 to 5, for a file of either kind

@@ -3,9 +3,9 @@ use Prim.Native.Nat.{ℕ, zero, suc, _+_, _*_}
 use mathlib.Core.Bool.{Bool, true, false}
 use mathlib.Core.List.{List}
 use lib.Dec.{ltb}
-use Rattle.file.specs.Word.{le16}
-use Rattle.file.specs.Refusal.{tableRefusal}
-use Rattle.file.specs.declared.Header.{Header}
+use Rattle.file_words.specs.Word.{le16}
+use Rattle.file_words.specs.Refusal.{tableRefusal}
+use Rattle.file_header.specs.declared.Header.{Header}
 use Rattle.file.specs.declared.Reading.{Reading}
 use Rattle.file.specs.declared.Reading.the-variants.{Whole, Refused}
 use Rattle.blame.specs.Head.{passed}

@@ -6,7 +6,7 @@ ghost use Rattle.blame.specs.Head.{heading};
 ghost use Rattle.blame.specs.Arcs.{arcsPassed, arcOf};
 use crate::head::head;
 use file::Reading;
-use file::word::get8;
+use file_words::get8;
 use net::Arc;
 
 // An arc by its index in the file, with its zero byte.
@@ -23,7 +23,7 @@ fn passed(file: &[u8], places: usize, transitions: usize, start: usize, count: u
 {
     let mut k: usize = 0;
     while k < count {
-        if file::arcs::first_refusal(file, places, transitions, start, k + 1) != 0 {
+        if file_arcs::first_refusal(file, places, transitions, start, k + 1) != 0 {
             return k;
         }
         k += 1;
@@ -50,7 +50,7 @@ pub fn first(file: &[u8]) -> BadArc
     };
     let k = passed(file, h.places, h.transitions, h.arcstart, h.arcs);
     let at = h.arcstart + 8 * k;
-    let arc = file::arcs::arc(file, at);
+    let arc = file_arcs::arc(file, at);
     let spare = get8(file, at + 3);
     BadArc {
         index: k,

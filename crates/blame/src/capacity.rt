@@ -5,9 +5,9 @@ ghost use lib.ListN.{length};
 ghost use Rattle.blame.specs.Head.{heading};
 ghost use Rattle.blame.specs.Capacity.{capsPassed, placeOf};
 use crate::head::head;
-use file::CAPS;
 use file::Reading;
-use file::word::get32;
+use file_header::CAPS;
+use file_words::get32;
 
 // A place, its marking and its cap.
 pub struct BadPlace {
@@ -23,7 +23,7 @@ fn passed(file: &[u8], start: usize, count: usize) -> usize
 {
     let mut k: usize = 0;
     while k < count {
-        if file::capacity::refusal(file, start, k + 1) != 0 {
+        if file_words::capacity::refusal(file, start, k + 1) != 0 {
             return k;
         }
         k += 1;

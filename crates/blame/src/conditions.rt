@@ -2,11 +2,11 @@
 ghost use mathlib.Core.Path.{_≡_};
 ghost use Prim.Native.Nat.{_≤_};
 ghost use lib.ListN.{length};
-ghost use Rattle.file.specs.Facts.{Counts};
+ghost use Rattle.file_header.specs.Facts.{Counts};
 ghost use Rattle.blame.specs.Conditions.{arcCondition, bodyCondition, countsCondition, trailerCondition, conditionOf};
 use crate::arcs::BadArc;
-use file::Trailer;
-use file::tail;
+use file_header::Trailer;
+use file_header::tail;
 
 // A condition by its number, what was found, and what is due.
 pub struct Condition {

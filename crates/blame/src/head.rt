@@ -1,9 +1,9 @@
 // The header of a file by its length and its trailer alone, whatever its body holds.
 ghost use mathlib.Core.Path.{_≡_};
 ghost use Rattle.blame.specs.Head.{heading};
-use file::Due;
 use file::Reading;
-use file::tail;
+use file_header::Due;
+use file_header::tail;
 
 pub fn head(file: &[u8]) -> Reading
     ensures { λ r. ⌜ r ≡ heading (now (file .entry)) ⌝ }

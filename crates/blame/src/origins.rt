@@ -5,9 +5,9 @@ ghost use lib.ListN.{length};
 ghost use Rattle.blame.specs.Head.{heading};
 ghost use Rattle.blame.specs.Origins.{tablePassed, inTables, originOf};
 use crate::head::head;
-use file::Header;
 use file::Reading;
-use file::word::get16;
+use file_header::Header;
+use file_words::get16;
 
 // An entry of a table of origins: table 0 has the places, 1 the transitions.
 pub struct BadOrigin {
@@ -23,7 +23,7 @@ fn passed(file: &[u8], start: usize, count: usize) -> usize
 {
     let mut k: usize = 0;
     while k < count {
-        if file::origins::refusal(file, start, k + 1) != 0 {
+        if file_words::origins::refusal(file, start, k + 1) != 0 {
             return k;
         }
         k += 1;

@@ -5,12 +5,14 @@ use mathlib.Core.Bool.{true}
 use mathlib.Core.List.{List}
 use borrow.Author.Tests.{not-false, eqb-true}
 use Rattle.net.specs.Checker.{Verdict, verdict}
-use Rattle.file.specs.Layout.{headerOf, netFrom, sliceFrom, netOf, sliceOf}
-use Rattle.file.specs.Refusal.{orElse, fileRefusal}
+use Rattle.file_header.specs.Layout.{headerOf}
+use Rattle.file.specs.Layout.{netFrom, sliceFrom, netOf, sliceOf}
+use Rattle.file_words.specs.Refusal.{orElse}
+use Rattle.file.specs.Refusal.{fileRefusal}
 use Rattle.file.specs.Criterion.{criterionRefusal, criterionOf, criterionBytesRefusal}
 use Rattle.file.specs.Facts.{Opened}
-use Rattle.file.specs.declared.Due.the-variants as due
-use Rattle.file.specs.declared.Header.{Header}
+use Rattle.file_header.specs.declared.Due.the-variants as due
+use Rattle.file_header.specs.declared.Header.{Header}
 use Rattle.promise.specs.Calls.{Checked, told, refusedOr, checkRefusal, checked, checkedBytes}
 
 refused : (n : ℕ) (v : Verdict) → (n ≡ 0 → ⊥) → record { refused = true; code = n; number = 0 } ≡ refusedOr n v

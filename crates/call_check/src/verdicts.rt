@@ -7,8 +7,8 @@ ghost use Rattle.promise.specs.Calls.{checked, checkedBytes};
 ghost use Rattle.checker.specs.Answer.{numbersOf};
 use checker::Outcome;
 use checker::Verdict;
-use file::Due;
 use file::Reading;
+use file_header::Due;
 
 // Refused: the plan's number, then the slice's, then the criterion's. Accepted: what the checker guarantees about whole lists.
 pub fn check(plan: &[u8], slice: &[u8], criterion: &[u16]) -> Verdict

@@ -8,15 +8,17 @@ use lib.ListN.{length}
 use Rattle.net.specs.Net.{Net}
 use Rattle.net.specs.Cut.{Growth, growth, safety, branching}
 use Rattle.net.specs.Slice.{Slice, keeping, cut}
-use Rattle.file.specs.Word.{byteAt, Bytes}
-use Rattle.file.specs.Layout.{headerOf, netFrom, netOf}
-use Rattle.file.specs.Refusal.{orElse, fileRefusal}
+use Rattle.file_words.specs.Word.{byteAt, Bytes}
+use Rattle.file_header.specs.Layout.{headerOf}
+use Rattle.file.specs.Layout.{netFrom, netOf}
+use Rattle.file_words.specs.Refusal.{orElse}
+use Rattle.file.specs.Refusal.{fileRefusal}
 use Rattle.file.specs.Criterion.{criterionRefusal}
-use Rattle.file.specs.Writing.{sliceBytes}
+use Rattle.file_writing.specs.Writing.{sliceBytes}
 use Rattle.file.specs.Facts.{Opened}
-use Rattle.file.specs.declared.Due.the-variants as due
-use Rattle.file.specs.declared.Header.{Header}
-use Rattle.file.proofs.Opening.{orElse-stop}
+use Rattle.file_header.specs.declared.Due.the-variants as due
+use Rattle.file_header.specs.declared.Header.{Header}
+use Rattle.file_words.proofs.Laws.{orElse-stop}
 use Rattle.promise.specs.Calls.{CutAnswer, cutAnswer, cutOf, cutRefusal, writeRefusal, written, safetyFile, safetyAnswer, safetyBuffer, branchingFile, branchingAnswer, branchingBuffer}
 use Rattle.promise.specs.Promise.{WritesSmallest}
 use Rattle.promise.proofs.Demands.{writes-smallest}

@@ -6,14 +6,15 @@ use mathlib.Core.Logic.{_≢_}
 use mathlib.Core.Path.{_≡_, refl, sym, subst}
 use lib.ListN.{length}
 use Rattle.net.specs.Net.{hasCaps}
-use Rattle.file.specs.Word.{byteAt, Bytes}
-use Rattle.file.specs.Layout.{headerOf, netFrom, netOf}
+use Rattle.file_words.specs.Word.{byteAt, Bytes}
+use Rattle.file_header.specs.Layout.{headerOf}
+use Rattle.file.specs.Layout.{netFrom, netOf}
 use Rattle.file.specs.Refusal.{fileRefusal}
 use Rattle.file.specs.Criterion.{criterionRefusal}
 use Rattle.file.specs.Facts.{Opened}
-use Rattle.file.specs.declared.Due.the-variants as due
-use Rattle.file.specs.declared.Header.{Header}
-use Rattle.file.proofs.Opening.{orElse-stop}
+use Rattle.file_header.specs.declared.Due.the-variants as due
+use Rattle.file_header.specs.declared.Header.{Header}
+use Rattle.file_words.proofs.Laws.{orElse-stop}
 use Rattle.promise.specs.Calls.{written}
 use Rattle.promise.specs.Firing.{listRefusal}
 use Rattle.promise.specs.RunCut.{RunAnswer, runOr, runRefusal, runOutcome, runFile, runChosen, runAnswer, runBuffer, runPositions, RunsBack}

@@ -5,7 +5,7 @@ ghost use Rattle.promise.specs.Calls.{safetyAnswer, safetyBuffer, branchingAnsw
 ghost use Rattle.promise.specs.Promise.{WritesSmallest};
 ghost use Rattle.slice.specs.Kept.{cutNumbers};
 use cut::Kind;
-use file::Due;
+use file_header::Due;
 use file::Reading;
 use slice::Cut;
 

@@ -3,7 +3,7 @@ ghost use mathlib.Core.Path.{_≡_};
 ghost use lib.ListN.{length};
 ghost use Rattle.promise.specs.RunCut.{runAnswer, runBuffer, runPositions, RunsBack};
 ghost use Rattle.run_cut.specs.Told.{runNumbers};
-use file::Due;
+use file_header::Due;
 use file::Reading;
 use run_cut::RunCut;
 

@@ -7,16 +7,18 @@ use mathlib.Core.List.{List, []}
 use lib.Dec.{eqb, ltb}
 use lib.ListN.{length}
 use borrow.Author.Tests.{ne-eqb}
-use Rattle.file.specs.Layout.{headerOf, netOf}
-use Rattle.file.specs.Refusal.{orElse, fileRefusal}
+use Rattle.file_header.specs.Layout.{headerOf}
+use Rattle.file.specs.Layout.{netOf}
+use Rattle.file_words.specs.Refusal.{orElse}
+use Rattle.file.specs.Refusal.{fileRefusal}
 use Rattle.file.specs.Facts.{Opened}
 use Rattle.file.specs.Reading.{reading}
-use Rattle.file.specs.declared.Due.{Due}
-use Rattle.file.specs.declared.Due.the-variants as due
+use Rattle.file_header.specs.declared.Due.{Due}
+use Rattle.file_header.specs.declared.Due.the-variants as due
 use Rattle.file.specs.declared.Reading.{Reading}
 use Rattle.file.specs.declared.Reading.the-variants.{Refused}
 use Rattle.file.proofs.Opening.{turned-back}
-use Rattle.file.specs.declared.Header.{Header}
+use Rattle.file_header.specs.declared.Header.{Header}
 use Rattle.promise.specs.Firing.{named, runIf, runStart, runFrom, runIn, arcRun, startIf, arcStart}
 use Rattle.arcs_effect.specs.Runs.{runOf, startOf}
 

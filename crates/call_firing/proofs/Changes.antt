@@ -8,9 +8,9 @@ use Rattle.net.specs.Net.{effect}
 use Rattle.file.specs.Layout.{netFrom}
 use Rattle.file.specs.Refusal.{fileRefusal}
 use Rattle.file.specs.Facts.{Opened}
-use Rattle.file.specs.declared.Due.the-variants.{Either}
-use Rattle.file.specs.declared.Header.{Header}
-use Rattle.file.proofs.Opening.{orElse-stop}
+use Rattle.file_header.specs.declared.Due.the-variants.{Either}
+use Rattle.file_header.specs.declared.Header.{Header}
+use Rattle.file_words.proofs.Laws.{orElse-stop}
 use Rattle.promise.specs.Firing.{EffectAnswer, effectRefusal, effectAnswer, effectOr}
 use Rattle.call_firing.specs.Effect.{changeNumbers}
 use Rattle.call_firing.specs.declared.effects.Change.the-variants.{By, Refused}

@@ -7,13 +7,13 @@ use mathlib.Core.List.{List}
 use lib.Dec.{eqb}
 use lib.ListN.{length, take}
 use Rattle.net.specs.Net.{Answer, replay}
-use Rattle.file.specs.Word.{Bytes}
+use Rattle.file_words.specs.Word.{Bytes}
 use Rattle.file.specs.Layout.{netFrom, netOf, sliceFrom, sliceOf}
 use Rattle.file.specs.Refusal.{fileRefusal}
 use Rattle.file.specs.Facts.{Opened}
-use Rattle.file.specs.declared.Due.the-variants as due
-use Rattle.file.specs.declared.Header.{Header}
-use Rattle.file.proofs.Opening.{orElse-stop}
+use Rattle.file_header.specs.declared.Due.the-variants as due
+use Rattle.file_header.specs.declared.Header.{Header}
+use Rattle.file_words.proofs.Laws.{orElse-stop}
 use Rattle.promise.specs.Shadow.{ShadowAnswer, shadowOf, shadowOr, shadowRefusal, shadowAnswer, shadowMarking, shadowOutput, FollowedIn}
 use Rattle.promise.proofs.Replays.{differ}
 use Rattle.promise.proofs.Shadow.{followed-in}

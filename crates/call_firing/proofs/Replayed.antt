@@ -7,9 +7,9 @@ use Rattle.net.specs.Net.{replay, tokens}
 use Rattle.file.specs.Layout.{netFrom}
 use Rattle.file.specs.Refusal.{fileRefusal}
 use Rattle.file.specs.Facts.{Opened}
-use Rattle.file.specs.declared.Due.the-variants.{Either}
-use Rattle.file.specs.declared.Header.{Header}
-use Rattle.file.proofs.Opening.{orElse-stop}
+use Rattle.file_header.specs.declared.Due.the-variants.{Either}
+use Rattle.file_header.specs.declared.Header.{Header}
+use Rattle.file_words.proofs.Laws.{orElse-stop}
 use Rattle.promise.specs.Calls.{written}
 use Rattle.promise.specs.Firing.{ReplayAnswer, replayOr, replayRefusal, replayAnswer, replayMarking}
 use Rattle.replay.specs.Told.{outcomeNumbers, heldBack}

@@ -8,9 +8,9 @@ use Rattle.net.specs.Together.{together, remainder}
 use Rattle.file.specs.Layout.{netFrom}
 use Rattle.file.specs.Refusal.{fileRefusal}
 use Rattle.file.specs.Facts.{Opened}
-use Rattle.file.specs.declared.Due.the-variants.{Plan}
-use Rattle.file.specs.declared.Header.{Header}
-use Rattle.file.proofs.Opening.{orElse-stop}
+use Rattle.file_header.specs.declared.Due.the-variants.{Plan}
+use Rattle.file_header.specs.declared.Header.{Header}
+use Rattle.file_words.proofs.Laws.{orElse-stop}
 use Rattle.promise.specs.Calls.{written}
 use Rattle.promise.specs.Together.{standing, TogetherAnswer, togetherOr, togetherRefusal, togetherAnswer, togetherRest, TakesLargest}
 use Rattle.promise.proofs.Together.{takes-largest}

@@ -2,8 +2,8 @@
 ghost use mathlib.Core.Path.{_≡_};
 ghost use Rattle.promise.specs.Firing.{effectAnswer};
 ghost use Rattle.call_firing.specs.Effect.{changeNumbers};
-use file::Due;
 use file::Reading;
+use file_header::Due;
 
 // By how much the tokens change, or the number of a refusal.
 pub enum Change {

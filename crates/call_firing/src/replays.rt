@@ -3,8 +3,8 @@ ghost use mathlib.Core.Path.{_≡_};
 ghost use lib.ListN.{length};
 ghost use Rattle.promise.specs.Firing.{replayAnswer, replayMarking};
 ghost use Rattle.replay.specs.Told.{outcomeNumbers};
-use file::Due;
 use file::Reading;
+use file_header::Due;
 use replay::Outcome;
 
 // Refused: the file's number; 11 or 12 for the list; 13 where the marking has fewer entries than the file has places.

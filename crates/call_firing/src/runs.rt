@@ -2,8 +2,8 @@
 ghost use mathlib.Core.Path.{_≡_};
 ghost use lib.ListN.{length};
 ghost use Rattle.promise.specs.Firing.{arcRun, arcStart};
-use file::Due;
 use file::Reading;
+use file_header::Due;
 
 // The run of arcs: a part of the slice where `inslice` holds, else of the plan. It is empty where either file is refused,
 // the number is unknown in the file named, or the transition has no arcs there.

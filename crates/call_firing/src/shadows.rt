@@ -4,8 +4,8 @@ ghost use mathlib.Core.Bool.{false};
 ghost use lib.ListN.{length, take};
 ghost use Rattle.promise.specs.Shadow.{shadowAnswer, shadowMarking, shadowOutput, FollowedIn};
 ghost use Rattle.shadow.specs.Told.{shadowNumbers};
-use file::Due;
 use file::Reading;
+use file_header::Due;
 use shadow::Shadow;
 
 // Refused: the plan's number, then the slice's; 11 or 12 for the list; 13 where the marking has fewer entries than the plan has places,

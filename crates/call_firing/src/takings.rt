@@ -3,8 +3,8 @@ ghost use mathlib.Core.Path.{_≡_};
 ghost use lib.ListN.{length};
 ghost use Rattle.promise.specs.Together.{togetherAnswer, togetherRest, TakesLargest};
 ghost use Rattle.together.specs.Told.{togetherNumbers};
-use file::Due;
 use file::Reading;
+use file_header::Due;
 use together::Together;
 
 // The first entries of `rest` get what is left, one for each place. Refused: the plan's number; 12 for an unknown transition; 15 where the marking

@@ -12,10 +12,10 @@ use Rattle.net.specs.Slice.{renumber}
 use Rattle.net.specs.declared.Arc.{Arc}
 use Rattle.net.proofs.Numbers.{by-cases, holds, position-lt}
 use Rattle.file.specs.Layout.{netFrom, sliceFrom}
-use Rattle.file.specs.Facts.{ArcGood, arcOf}
-use Rattle.file.specs.declared.Header.{Header}
+use Rattle.file_arcs.specs.Facts.{ArcGood, arcOf}
+use Rattle.file_header.specs.declared.Header.{Header}
 use Rattle.file.proofs.Rows.{length-words}
-use Rattle.file.proofs.Words.{field-transition, field-direction, field-place, field-weight}
+use Rattle.file_arcs.proofs.Words.{field-transition, field-direction, field-place, field-weight}
 use Rattle.check_fast.specs.Entries.{leftPlace, leftCapped, leftTransition, numbered, flagged, marked, either}
 use Rattle.check_fast.specs.Pass.{watched, Ready, joinedOf, keptOf, oddOf, dueOf, Fine}
 use Rattle.check_fast.proofs.Sums.{Flags, flags-at, below, few-flags, many-flags, even-flags, Alike, own-is}

@@ -14,7 +14,7 @@ use Rattle.net.proofs.Numbers.{by-cases, holds, at-position, position-lt}
 use Rattle.file.specs.Layout.{netFrom, sliceFrom}
 use Rattle.file.specs.Facts.{Sound}
 use Rattle.file.specs.Criterion.{criterionRefusal}
-use Rattle.file.specs.declared.Header.{Header}
+use Rattle.file_header.specs.declared.Header.{Header}
 use Rattle.file.proofs.Criterion.{passed}
 use Rattle.check_fast.specs.Entries.{leftPlace, leftCapped, numbered, flagged, marked, either, bound, Numbered, Marked, Bound, Reached}
 use Rattle.check_fast.specs.Pass.{watched, Ready, Blank}

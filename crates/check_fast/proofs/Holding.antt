@@ -13,8 +13,9 @@ use Rattle.net.specs.Checker.{breaks, rule4, rule5, rule6, rule7, rule8, rule9,
 use Rattle.net.proofs.Numbers.{by-cases, by-order, holds, is-true, is-false, fails, not-not, and-left, and-right, any-finds}
 use Rattle.net.proofs.Weights.{run-restrict}
 use Rattle.net.proofs.Verdict.{same-arcs-refl}
-use Rattle.file.specs.Layout.{arcAt, arcsFrom, netFrom, sliceFrom}
-use Rattle.file.specs.declared.Header.{Header}
+use Rattle.file_arcs.specs.Layout.{arcAt, arcsFrom}
+use Rattle.file.specs.Layout.{netFrom, sliceFrom}
+use Rattle.file_header.specs.declared.Header.{Header}
 use Rattle.rules_tables.specs.Agreed.{Agreed}
 use Rattle.check_fast.specs.Pass.{watched, FineIn, Passed}
 use Rattle.check_fast.proofs.Watching.{watched-asked, watched-capped}

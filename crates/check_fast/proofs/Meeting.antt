@@ -12,9 +12,10 @@ use Rattle.net.specs.Checker.{breaker, rule4, sameArc, sameArcs}
 use Rattle.net.specs.declared.Arc.{Arc}
 use Rattle.net.proofs.Numbers.{by-cases, by-order, holds, is-true, is-false, and-both, and-left, and-right}
 use Rattle.net.proofs.Verdict.{same-arcs}
-use Rattle.file.specs.Layout.{arcAt, netFrom, sliceFrom}
-use Rattle.file.specs.Facts.{ArcWord, arcOf}
-use Rattle.file.specs.declared.Header.{Header}
+use Rattle.file_arcs.specs.Layout.{arcAt}
+use Rattle.file.specs.Layout.{netFrom, sliceFrom}
+use Rattle.file_arcs.specs.Facts.{ArcWord, arcOf}
+use Rattle.file_header.specs.declared.Header.{Header}
 use Rattle.file.proofs.Rows.{rising-from}
 use Rattle.check_fast.specs.Pass.{Ready, joinedOf, keptOf, dueOf, Meets}
 use Rattle.check_fast.proofs.Ends.{spare, own-place, own-transition, due-fits, word-arc, arc-word}

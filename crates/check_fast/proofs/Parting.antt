@@ -14,10 +14,12 @@ use Rattle.net.specs.declared.Arc.{Arc}
 use Rattle.net.proofs.Numbers.{by-cases, by-order, holds, is-true, and-left, and-right, at-position, position-lt, position-at, rising-lt, rising-reflects, among-at}
 use Rattle.net.proofs.Weights.{run-restrict}
 use Rattle.net.proofs.Verdict.{same-arcs-refl}
-use Rattle.file.specs.Layout.{arcAt, arcsFrom, netFrom, sliceFrom}
+use Rattle.file_arcs.specs.Layout.{arcAt, arcsFrom}
+use Rattle.file.specs.Layout.{netFrom, sliceFrom}
 use Rattle.file.specs.Facts.{Sound}
-use Rattle.file.specs.declared.Header.{Header}
-use Rattle.file.proofs.Rows.{first, later, range-at, key-le, length-words}
+use Rattle.file_header.specs.declared.Header.{Header}
+use Rattle.file_arcs.proofs.Rows.{first, later, range-at, key-le}
+use Rattle.file.proofs.Rows.{length-words}
 use Rattle.rules_tables.proofs.Rows.{row-cons, row-end, restrict-in, restrict-out, restrict-none}
 use Rattle.rules_tables.proofs.Lowest.{breaker-found}
 

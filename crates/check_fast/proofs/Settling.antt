@@ -12,9 +12,10 @@ use Rattle.net.specs.Numbers.{among}
 use Rattle.net.specs.Net.{Net, input, output, effect, changes, raises}
 use Rattle.net.specs.declared.Arc.{Arc}
 use Rattle.net.proofs.Numbers.{holds, is-true, by-or, and-left, and-right}
-use Rattle.file.specs.Layout.{arcAt, netFrom, sliceFrom}
-use Rattle.file.specs.Facts.{ArcWord, arcOf}
-use Rattle.file.specs.declared.Header.{Header}
+use Rattle.file_arcs.specs.Layout.{arcAt}
+use Rattle.file.specs.Layout.{netFrom, sliceFrom}
+use Rattle.file_arcs.specs.Facts.{ArcWord, arcOf}
+use Rattle.file_header.specs.declared.Header.{Header}
 use Rattle.check_fast.specs.Pass.{Ready, joinedOf, keptOf, Settled}
 use Rattle.check_fast.proofs.Ends.{apart, raising, changing}
 use Rattle.check_fast.proofs.Walking.{good-word, word-ends, left-out-here}

@@ -15,11 +15,13 @@ use Rattle.net.specs.Net.{Net, counted}
 use Rattle.net.specs.Slice.{renumber, restrict}
 use Rattle.net.specs.declared.Arc.{Arc}
 use Rattle.net.proofs.Numbers.{by-cases, holds, and-left, and-right}
-use Rattle.file.specs.Word.{byteAt}
-use Rattle.file.specs.Layout.{arcAt, arcsFrom, netFrom, sliceFrom}
-use Rattle.file.specs.Facts.{ArcGood, ArcWord, Sound, arcOf}
-use Rattle.file.specs.declared.Header.{Header}
-use Rattle.file.proofs.Rows.{range-at}
+use Rattle.file_words.specs.Word.{byteAt}
+use Rattle.file_arcs.specs.Layout.{arcAt, arcsFrom}
+use Rattle.file.specs.Layout.{netFrom, sliceFrom}
+use Rattle.file_arcs.specs.Facts.{ArcGood, ArcWord, arcOf}
+use Rattle.file.specs.Facts.{Sound}
+use Rattle.file_header.specs.declared.Header.{Header}
+use Rattle.file_arcs.proofs.Rows.{range-at}
 use Rattle.rules_tables.proofs.Rows.{row-cons, row-end, restrict-in, restrict-out, restrict-none}
 use Rattle.check_fast.specs.Pass.{Ready, joinedOf, keptOf, oddOf, quietOf, watched, Fine, FineIn, Settled, Walked, Passed}
 use Rattle.check_fast.proofs.Sums.{Alike}

@@ -8,7 +8,7 @@ use Rattle.net.specs.Numbers.{among}
 use Rattle.net.specs.Net.{capped}
 use Rattle.net.proofs.Numbers.{holds, is-true, by-or, or-left, or-right, and-both, and-left, same-test, below-has, below-passes}
 use Rattle.file.specs.Layout.{netFrom, sliceFrom}
-use Rattle.file.specs.declared.Header.{Header}
+use Rattle.file_header.specs.declared.Header.{Header}
 use Rattle.rules_tables.proofs.Caps.{capped-known}
 use Rattle.check_fast.specs.Pass.{watched}
 

@@ -9,9 +9,11 @@ use Rattle.net.specs.Numbers.{among, selected}
 use Rattle.net.specs.Net.{Net, changes, raises, capped}
 use Rattle.net.specs.Slice.{Slice, restrict}
 use Rattle.net.specs.declared.Arc.{Arc}
-use Rattle.file.specs.Layout.{arcAt, arcsFrom, netFrom, sliceFrom}
-use Rattle.file.specs.Facts.{Sound, ArcWord, arcOf}
-use Rattle.file.specs.declared.Header.{Header}
+use Rattle.file_arcs.specs.Layout.{arcAt, arcsFrom}
+use Rattle.file.specs.Layout.{netFrom, sliceFrom}
+use Rattle.file.specs.Facts.{Sound}
+use Rattle.file_arcs.specs.Facts.{ArcWord, arcOf}
+use Rattle.file_header.specs.declared.Header.{Header}
 use Rattle.check_fast.specs.Entries.{leftPlace, leftCapped, leftTransition, numbered, marked, either, Reached}
 
 -- the places that no transition left out may change: those of the criterion, and the capped ones that are kept

@@ -9,7 +9,7 @@ use Rattle.net.specs.Checker.{Rule, rule4, rule5, rule6, rule7, rule8, rule9, r
 use Rattle.file.specs.Layout.{sliceFrom}
 use Rattle.file.specs.Facts.{Sound}
 use Rattle.file.specs.Criterion.{criterionRefusal}
-use Rattle.file.specs.declared.Header.{Header}
+use Rattle.file_header.specs.declared.Header.{Header}
 use Rattle.numbering.specs.Own.{Own}
 
 -- rules 9 and 10

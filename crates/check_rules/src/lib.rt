@@ -12,7 +12,7 @@ ghost use Rattle.rules_tables.specs.Matched.{Matched};
 ghost use Rattle.rules_effects.specs.Movers.{Resting};
 ghost use Rattle.check_rules.specs.Answer.{outcomeNumbers};
 ghost use Rattle.check_rules.specs.Room.{rulesFrom4, rulesFrom6, rulesFrom9, Judged, Room, Filled};
-use file::Header;
+use file_header::Header;
 
 // "accepted, or the broken rule with its number": each rule with the place or transition that breaks it. A call that is turned back has the refusal's number.
 pub enum Outcome {

@@ -3,7 +3,7 @@ use Prim.Native.Nat.{ℕ, _≤_}
 use native.Mathlib.Omega.{arith}
 use lib.ListN.{replicate, length-replicate, getD-replicate}
 use Rattle.net.specs.Slice.{Slice}
-use Rattle.file.specs.declared.Header.{Header}
+use Rattle.file_header.specs.declared.Header.{Header}
 use Rattle.check_fast.specs.Entries.{leftPlace, leftTransition}
 use Rattle.check_fast.specs.Pass.{Blank}
 use Rattle.check_sizes.specs.Sizes.{KnownIn}

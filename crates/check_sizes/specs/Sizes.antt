@@ -1,7 +1,7 @@
 -- Nets of at most so many places and transitions.
 use Prim.Native.Nat.{ℕ, _≤_}
 use Rattle.net.specs.Slice.{Slice}
-use Rattle.file.specs.declared.Header.{Header}
+use Rattle.file_header.specs.declared.Header.{Header}
 use Rattle.rules_origins.specs.Known.{Known}
 
 -- the plan knows every place and transition of the slice: rules 1 and 2

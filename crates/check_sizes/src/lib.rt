@@ -15,7 +15,7 @@ use check_fast::LEFT_PLACE;
 use check_fast::LEFT_TRANSITION;
 use check_rules::Outcome;
 use check_rules::lent_outcome;
-use file::Header;
+use file_header::Header;
 use tables::LARGE;
 use tables::MIDDLE;
 use tables::SMALL;

@@ -14,7 +14,7 @@ ghost use Rattle.checker.specs.Answer.{numbersOf};
 pub use check_rules::Outcome;
 use check_sizes::agreeing;
 use check_sizes::sized;
-use file::Header;
+use file_header::Header;
 use tables::LARGE;
 use tables::SMALL;
 

@@ -6,7 +6,7 @@ ghost use Rattle.sets.specs.Member.{member};
 ghost use Rattle.cut_rows.specs.Rows.{Rows};
 ghost use Rattle.cut_search.specs.Search.{Sets, Ready, Stepped, Finished, Closed};
 ghost use Rattle.cut_growth.specs.Added.{Added};
-use file::Header;
+use file_header::Header;
 use sets::KeptSets;
 
 // The pair with one place more, by value: so a cut starts.

@@ -3,7 +3,7 @@ use Prim.Native.Nat.{ℕ, _+_, _*_}
 use mathlib.Core.List.{List}
 use mathlib.Core.Path.{_≡_, ap}
 use native.Mathlib.Omega.{arith}
-use Rattle.file.specs.Word.{byteAt, le16, le32}
+use Rattle.file_words.specs.Word.{byteAt, le16, le32}
 use Rattle.arcs_groups.specs.Groups.{Parallel}
 
 -- parallel arcs have the same four bytes

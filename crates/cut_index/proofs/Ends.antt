@@ -7,7 +7,7 @@ use native.Mathlib.Omega.{arith}
 use native.Mathlib.Decide.{decLt}
 use lib.Dec.{T}
 use Rattle.file.specs.Layout.{netFrom}
-use Rattle.file.specs.declared.Header.{Header}
+use Rattle.file_header.specs.declared.Header.{Header}
 use Rattle.arcs_starts.specs.Table.{Split}
 use Rattle.arcs_column.specs.Ways.{transitionAt, directionAt, placeAt}
 use Rattle.arcs_groups.specs.Groups.{Opens}

@@ -12,9 +12,10 @@ use borrow.Author.Tests.{lt-ltb, le-ltb, ne-eqb, eqb-true, eqb-false}
 use Rattle.net.specs.declared.Arc.{Arc}
 use Rattle.net.proofs.Numbers.{by-cases, holds, fails, is-true}
 use Rattle.file.specs.Facts.{Sound}
-use Rattle.file.specs.Layout.{arcAt}
-use Rattle.file.specs.declared.Header.{Header}
-use Rattle.file.proofs.Rows.{weight-none, good-at}
+use Rattle.file_arcs.specs.Layout.{arcAt}
+use Rattle.file_header.specs.declared.Header.{Header}
+use Rattle.file_arcs.proofs.Rows.{weight-none}
+use Rattle.file.proofs.Rows.{good-at}
 use Rattle.arcs_starts.specs.Table.{slotAt, choose, Split}
 use Rattle.arcs_starts.proofs.Reached.{number-below}
 use Rattle.arcs_column.specs.Ways.{transitionAt, directionAt, placeAt, Joins}

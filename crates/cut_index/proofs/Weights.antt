@@ -9,10 +9,12 @@ use lib.Dec.{T, ltb}
 use borrow.Author.Tests.{lt-ltb, ltb-true}
 use Rattle.net.specs.Net.{weightOn, input, output}
 use Rattle.net.proofs.Numbers.{holds, is-true}
-use Rattle.file.specs.Layout.{arcAt, arcsFrom, netFrom}
+use Rattle.file_arcs.specs.Layout.{arcAt, arcsFrom}
+use Rattle.file.specs.Layout.{netFrom}
 use Rattle.file.specs.Facts.{Sound}
-use Rattle.file.specs.declared.Header.{Header}
-use Rattle.file.proofs.Rows.{key-le, weight-none, good-at}
+use Rattle.file_header.specs.declared.Header.{Header}
+use Rattle.file_arcs.proofs.Rows.{key-le, weight-none}
+use Rattle.file.proofs.Rows.{good-at}
 use Rattle.arcs_column.specs.Ways.{transitionAt, directionAt, placeAt, Joins}
 use Rattle.cut_rows.specs.Rows.{moves}
 use Rattle.arcs_column.proofs.Shares.{share-unless, sum-same, sum-more}

@@ -3,7 +3,7 @@ use Prim.Native.Nat.{ℕ, _+_, _*_, _-_, _/_, _%_, _≤_, _<_}
 use mathlib.Core.List.{List}
 use mathlib.Core.Path.{_≡_}
 use lib.ListN.{length, getD, set}
-use Rattle.file.specs.Word.{byteAt}
+use Rattle.file_words.specs.Word.{byteAt}
 use Rattle.arcs_groups.specs.Groups.{Stands, GroupEnd, runWeight}
 use Rattle.cut_rows.specs.Rows.{entryOf}
 

@@ -10,9 +10,9 @@ ghost use mathlib.Core.Bool.{true};
 ghost use Rattle.arcs_groups.specs.Groups.{GroupEnd, Stands};
 ghost use Rattle.cut_index.specs.Steps.{arcIn, Fronted, Returned, Linked, Room, ZeroBytes};
 use arcs_groups::group;
-use file::Header;
-use file::word::get16;
-use file::word::get32;
+use file_header::Header;
+use file_words::get16;
+use file_words::get32;
 
 // The start of the arcs of transition t: j where t is a new one.
 fn begin(t: usize, last: usize, from: usize, j: usize) -> usize
@@ -181,7 +181,7 @@ pub fn index(file: &[u8], h: Header, head: &mut [u32], next: &mut [u32])
     let mut from: usize = 0;
     let mut j: usize = 0;
     while j < h.arcs {
-        let a = file::arcs::arc(file, h.arcstart + 8 * j);
+        let a = file_arcs::arc(file, h.arcstart + 8 * j);
         let t = a.transition;
         from = begin(t, last, from, j);
         last = t;

@@ -7,7 +7,7 @@ use lib.Dec.{T, ltb}
 use lib.ListN.{length, getD}
 use Rattle.net.specs.Net.{Net, input, output}
 use Rattle.file.specs.Layout.{netFrom}
-use Rattle.file.specs.declared.Header.{Header}
+use Rattle.file_header.specs.declared.Header.{Header}
 use Rattle.arcs_starts.specs.Table.{Split}
 use Rattle.arcs_column.specs.Ways.{placeAt, transitionAt, directionAt}
 use Rattle.arcs_groups.specs.Groups.{Opens}

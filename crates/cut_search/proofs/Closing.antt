@@ -13,7 +13,7 @@ use Rattle.net.specs.Cut.{Growth}
 use Rattle.net.proofs.Numbers.{by-or, holds, fails, is-true, is-false, and-left, and-right, and-both, or-left, or-right}
 use Rattle.net.proofs.Worklist.{Searching, search-take}
 use Rattle.file.specs.Facts.{Sound}
-use Rattle.file.specs.declared.Header.{Header}
+use Rattle.file_header.specs.declared.Header.{Header}
 use Rattle.sets.specs.Member.{bit, member, Inserted}
 use Rattle.sets.specs.Lowest.{IsLowest}
 use Rattle.sets.specs.declared.Found.the-variants.{At, Nothing}

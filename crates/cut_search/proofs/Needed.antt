@@ -13,9 +13,10 @@ use Rattle.net.specs.declared.Arc.{Arc}
 use Rattle.net.proofs.Numbers.{by-cases, by-or, holds, fails, is-true, and-left, and-right, and-both, or-left, or-right, same-test}
 use Rattle.net.proofs.Markings.{below-off}
 use Rattle.net.proofs.Uncapped.{no-cap}
-use Rattle.file.specs.Layout.{arcAt, capAt, netFrom}
+use Rattle.file_arcs.specs.Layout.{arcAt}
+use Rattle.file.specs.Layout.{capAt, netFrom}
 use Rattle.file.specs.Facts.{Sound}
-use Rattle.file.specs.declared.Header.{Header}
+use Rattle.file_header.specs.declared.Header.{Header}
 use Rattle.file.proofs.Caps.{no-cap-by}
 use Rattle.file.proofs.Rows.{good-at}
 use Rattle.arcs_starts.specs.Table.{slotAt, Split}

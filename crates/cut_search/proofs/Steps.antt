@@ -9,7 +9,7 @@ use borrow.Author.Tests.{eqb-true}
 use Rattle.net.specs.Net.{takesFrom}
 use Rattle.file.specs.Layout.{netFrom}
 use Rattle.file.specs.Facts.{Sound}
-use Rattle.file.specs.declared.Header.{Header}
+use Rattle.file_header.specs.declared.Header.{Header}
 use Rattle.sets.specs.Member.{member, Inserted}
 use Rattle.arcs_starts.specs.Table.{Split}
 use Rattle.sets_pending.specs.Growing.{PlacesKept}

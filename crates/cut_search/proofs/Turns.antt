@@ -13,7 +13,7 @@ use Rattle.net.proofs.Numbers.{by-cases, by-or, holds, fails, not-not, and-left
 use Rattle.net.proofs.Worklist.{Searching}
 use Rattle.file.specs.Layout.{netFrom}
 use Rattle.file.specs.Facts.{Sound}
-use Rattle.file.specs.declared.Header.{Header}
+use Rattle.file_header.specs.declared.Header.{Header}
 use Rattle.sets.specs.Member.{member}
 use Rattle.arcs_starts.specs.Table.{Split}
 use Rattle.file.proofs.Rows.{good-at}

@@ -11,7 +11,7 @@ use Rattle.net.specs.declared.Arc.{Arc}
 use Rattle.net.specs.Cut.{Growth}
 use Rattle.net.proofs.Worklist.{Searching}
 use Rattle.file.specs.Layout.{netFrom}
-use Rattle.file.specs.declared.Header.{Header}
+use Rattle.file_header.specs.declared.Header.{Header}
 use Rattle.sets.specs.Member.{member, countBelow}
 use Rattle.sets_pending.specs.Growing.{waits, Marked, PlacesKept}
 use Rattle.arcs_column.specs.Ways.{transitionAt, directionAt, placeAt}

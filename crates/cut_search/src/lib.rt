@@ -12,8 +12,8 @@ ghost use Rattle.sets_pending.specs.Growing.{PlacesKept};
 ghost use Rattle.arcs_column.specs.Ways.{transitionAt};
 ghost use Rattle.cut_rows.specs.Rows.{Last, Rows};
 ghost use Rattle.cut_search.specs.Search.{Sets, needsOf, needsPlace, drawsBoth, TransitionKept, Nexts, Row, Followed, Turned, Ready, Stepped};
-use file::CAPS;
-use file::Header;
+use file_header::CAPS;
+use file_header::Header;
 use net::Arc;
 use sets::Found;
 
@@ -34,7 +34,7 @@ fn keep_inputs(
     let mut m = marks;
     let mut j = from;
     while j < arcs {
-        let a = file::arcs::arc(file, start + 8 * j);
+        let a = file_arcs::arc(file, start + 8 * j);
         if a.transition + a.direction * 65536 != t {
             return m;
         }
@@ -75,7 +75,7 @@ fn keep_needed(
     let mut m = marks;
     let mut j = from;
     while j < arcs {
-        let a = file::arcs::arc(file, start + 8 * j);
+        let a = file_arcs::arc(file, start + 8 * j);
         if a.transition != t {
             return m;
         }
@@ -99,7 +99,7 @@ fn keep_transition(
     requires { ⌜ (capped ≡ eqb (h .edition) 2) × Sets (now places) (now transitions) ⌝ }
     ensures { λ r. ⌜ TransitionKept (needsOf (netFrom (now (file .entry)) h) (transitionAt (now (file .entry)) (h .arcstart) from)) (transitionAt (now (file .entry)) (h .arcstart) from) marks (r) (now (places .entry)) (now (transitions .entry)) (now (places .exit)) (now (transitions .exit)) ⌝ }
 {
-    let a = file::arcs::arc(file, h.arcstart + 8 * from);
+    let a = file_arcs::arc(file, h.arcstart + 8 * from);
     let t = a.transition;
     if sets::contains(transitions, t) {
         return marks;

@@ -2,7 +2,7 @@
 use Prim.Native.Nat.{ℕ, _+_, _*_, _<_}
 use mathlib.Core.Bool.{Bool, true, false}
 use mathlib.Core.List.{List}
-use mathlib.Core.Path.{_≡_, refl, _∙_}
+use mathlib.Core.Path.{_≡_, _∙_}
 use native.Mathlib.Omega.{arith}
 use lib.Dec.{ltb, eqb}
 use borrow.Author.Tests.{ltb-true, ltb-false}
@@ -10,13 +10,14 @@ use Rattle.net.specs.Net.{below, hasCaps, Uncapped, WithinCaps}
 use Rattle.net.proofs.Uncapped as net
 use Rattle.net.proofs.Numbers.{by-cases}
 use Rattle.net.proofs.Markings.{below-at, below-off}
-use Rattle.file.specs.Word.{le32, Bytes}
-use Rattle.file.specs.Layout.{pick, placesLength, markingAt, capAt, headerOf, netFrom, netOf}
+use Rattle.file_words.specs.Word.{le32, Bytes}
+use Rattle.file_header.specs.Layout.{pick, placesLength}
+use Rattle.file.specs.Layout.{markingAt, capAt, netFrom, netOf}
 use Rattle.file.specs.Refusal.{fileRefusal}
-use Rattle.file.specs.declared.Due.{Due}
-use Rattle.file.specs.declared.Header.{Header}
+use Rattle.file_header.specs.declared.Due.{Due}
+use Rattle.file_header.specs.declared.Header.{Header}
 use Rattle.file.proofs.Opening.{sound}
-use Rattle.file.proofs.Bytes.{le32-lt}
+use Rattle.file_words.proofs.Bytes.{le32-lt}
 
 none-by : (b : Bool) (n : ℕ) → b ≡ false → pick b n 0 ≡ 0
 none-by b n e = rw e

@@ -11,7 +11,7 @@ use Rattle.net.specs.Numbers.{among}
 use Rattle.net.proofs.Numbers.{by-or}
 use Rattle.file.specs.Facts.{RisingFrom}
 use Rattle.file.specs.Criterion.{placesRefusal, criterionRefusal, criterionOf, criterionBytesRefusal}
-use Rattle.file.proofs.Opening.{refuse-0, or-false}
+use Rattle.file_words.proofs.Laws.{refuse-0, or-false}
 
 -- the numbers rise, are places, and so are not more than these
 pub record Passed (P : ℕ) (Q : List ℕ) : Type 0 where

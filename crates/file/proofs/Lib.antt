@@ -1,10 +1,4 @@
-pub mod Bytes
 pub mod Criterion
-pub mod Laws
-pub mod Marks
 pub mod Opening
-pub mod Rising
-pub mod RoundTrip
 pub mod Rows
-pub mod Words
 pub mod Caps

@@ -9,9 +9,9 @@ use lib.Dec.{ltb, leb}
 use lib.ListN.{length, getD, drop}
 use lib.Seq.{drop-cons}
 use borrow.Author.Tests.{eq-eqb, ne-eqb}
-use Rattle.file.specs.Word.{le16}
+use Rattle.file_words.specs.Word.{le16}
 use Rattle.file.specs.Layout.{wordsFrom}
-use Rattle.file.specs.Refusal.{refuse}
+use Rattle.file_words.specs.Refusal.{refuse}
 use Rattle.file.specs.Criterion.{placesRefusal, criterionRefusal, criterionOf, criterionBytesRefusal}
 
 -- ---- the loops

@@ -6,7 +6,7 @@ ghost use lib.Dec.{ltb, leb};
 ghost use lib.ListN.{length, take};
 ghost use Rattle.file.specs.Layout.{wordsFrom};
 ghost use Rattle.file.specs.Criterion.{placesRefusal, criterionRefusal, criterionBytesRefusal};
-use file::word::get16;
+use file_words::get16;
 use tables::wide;
 
 // Is the number no place, or not above the one before?

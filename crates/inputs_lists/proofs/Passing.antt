@@ -8,8 +8,8 @@ use lib.Dec.{ltb, leb}
 use lib.ListN.{length, getD, drop}
 use Rattle.net.specs.Numbers.{any}
 use Rattle.net.proofs.Numbers.{by-cases, holds, fails, any-has, among-at}
-use Rattle.file.specs.Refusal.{refuse}
-use Rattle.file.proofs.Opening.{refuse-0}
+use Rattle.file_words.specs.Refusal.{refuse}
+use Rattle.file_words.proofs.Laws.{refuse-0}
 use Rattle.promise.specs.Calls.{written}
 use Rattle.promise.specs.Firing.{listRefusal}
 

@@ -3,7 +3,7 @@ ghost use mathlib.Core.Path.{_≡_};
 ghost use Prim.Native.Nat.{_≤_};
 ghost use lib.Dec.{leb};
 ghost use Rattle.net.specs.Numbers.{any};
-ghost use Rattle.file.specs.Refusal.{refuse as refuseOf};
+ghost use Rattle.file_words.specs.Refusal.{refuse as refuseOf};
 ghost use Rattle.promise.specs.Firing.{listRefusal};
 
 // The number where the rule is broken, or what the rules after it say.

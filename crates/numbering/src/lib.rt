@@ -22,7 +22,7 @@ pub fn own(file: &[u8], start: usize, count: usize, table: &mut [u16])
     tables::clear(table);
     let mut i: usize = 0;
     while i < count {
-        let origin = file::word::get16(file, start + 2 * i);
+        let origin = file_words::get16(file, start + 2 * i);
         put(table, origin, (i + 1) as u16);
         i += 1;
     }

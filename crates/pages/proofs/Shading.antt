@@ -7,7 +7,7 @@ use native.Mathlib.Numerals.{add-one, sub-one}
 use native.Mathlib.Nat.{le-of-suc-le-suc}
 use lib.ListN.{length, getD, set, drop, drop-of-length-le}
 use lib.Seq.{drop-cons}
-use Rattle.file.specs.Word.{le16}
+use Rattle.file_words.specs.Word.{le16}
 use Rattle.file.specs.Layout.{wordsFrom}
 use Rattle.pages.specs.Shades.{shaded}
 

@@ -6,9 +6,9 @@ ghost use Rattle.file.specs.Facts.{Sound};
 ghost use Rattle.file.specs.Layout.{wordsFrom};
 ghost use Rattle.pages.specs.Shades.{setAt, shaded};
 use crate::picture;
-use file::Due;
-use file::Header;
 use file::Reading;
+use file_header::Due;
+use file_header::Header;
 use terminal::phrases;
 use terminal::say;
 use words::refusal;
@@ -29,7 +29,7 @@ fn keep(file: &[u8], start: usize, count: usize, shades: &mut [u8])
 {
     let mut i = 0;
     while i < count {
-        set(shades, file::word::get16(file, start + 2 * i), 1);
+        set(shades, file_words::get16(file, start + 2 * i), 1);
         i += 1;
     }
 }

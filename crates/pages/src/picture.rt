@@ -3,7 +3,7 @@ ghost use mathlib.Core.Path.{_≡_};
 ghost use Prim.Native.Nat.{_<_};
 ghost use lib.ListN.{getD};
 ghost use Rattle.file.specs.Facts.{Sound};
-use file::Header;
+use file_header::Header;
 use net::Arc;
 use terminal::phrases;
 use terminal::say;
@@ -104,7 +104,7 @@ fn line(a: Arc, place: u8, transition: u8) {
 fn arc(file: &[u8], h: Header, j: usize, places: &[u8], transitions: &[u8])
     requires { ⌜ Sound (now file) h × (j < h .arcs) ⌝ }
 {
-    let a = file::arcs::arc(file, h.arcstart + 8 * j);
+    let a = file_arcs::arc(file, h.arcstart + 8 * j);
     line(a, shade(places, a.place), shade(transitions, a.transition));
 }
 

@@ -3,9 +3,9 @@ ghost use mathlib.Core.Path.{_≡_};
 ghost use Prim.Native.Nat.{_+_, _<_};
 ghost use Rattle.file.specs.Facts.{Sound};
 use crate::notes;
-use file::Due;
-use file::Header;
 use file::Reading;
+use file_header::Due;
+use file_header::Header;
 use terminal::phrases;
 use terminal::say;
 use words::refusal;
@@ -30,7 +30,7 @@ fn origin(file: &[u8], h: Header, k: usize)
     if h.kind == 1 {
         say::one(
             phrases::ORIGIN,
-            file::word::get16(file, h.originstart + 2 * k),
+            file_words::get16(file, h.originstart + 2 * k),
         );
     }
 }

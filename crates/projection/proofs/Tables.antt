@@ -7,8 +7,8 @@ use lib.ListN.{length}
 use Rattle.net.specs.Slice.{project}
 use Rattle.file.specs.Layout.{wordsFrom, sliceFrom}
 use Rattle.file.specs.Facts.{Sound}
-use Rattle.file.specs.declared.Header.{Header}
-use Rattle.file.proofs.Laws.{slice-part}
+use Rattle.file_header.specs.declared.Header.{Header}
+use Rattle.file_header.proofs.Laws.{slice-part}
 use Rattle.numbering.specs.Own.{Own, Origins}
 use Rattle.projection.specs.Choice.{Projects}
 use Rattle.projection.proofs.Choices.{chosen-own}

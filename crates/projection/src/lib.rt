@@ -7,7 +7,7 @@ ghost use lib.Dec.{ltb};
 ghost use Rattle.file.specs.Layout.{sliceFrom};
 ghost use Rattle.file.specs.Facts.{Sound};
 ghost use Rattle.projection.specs.Choice.{chosen, chosenBy, Reached, Last, Projects};
-use file::Header;
+use file_header::Header;
 
 // How many numbers a transition with this entry gets: one, or none.
 fn share(entry: u16) -> usize

@@ -14,10 +14,11 @@ use Rattle.net.specs.Checker.{Verdict, accepted, broken, rules, verdict}
 use Rattle.net.specs.Rakow.{Set, GenerateSlice, GenerateSafetySlice}
 use Rattle.net.specs.Conclusions.{SameVerdict, StuckForGood, SameKept, Unbroken}
 use Rattle.net.proofs.Conclusions.{same-verdict, short-for-good, full-for-good, same-kept, unbroken-accepted, broken-first}
-use Rattle.file.specs.Word.{Bytes}
-use Rattle.file.specs.Layout.{headerOf, netOf, sliceOf}
+use Rattle.file_words.specs.Word.{Bytes}
+use Rattle.file_header.specs.Layout.{headerOf}
+use Rattle.file.specs.Layout.{netOf, sliceOf}
 use Rattle.file.specs.Refusal.{fileRefusal}
-use Rattle.file.specs.declared.Due.the-variants as due
+use Rattle.file_header.specs.declared.Due.the-variants as due
 use Rattle.promise.specs.Calls.{safetyAnswer, safetyBuffer, branchingAnswer, checkRefusal, told, Checked, checked, checkedBytes, Accepts}
 use Rattle.promise.specs.Firing.{replayRefusal, ReplayAnswer, replayTold, replayAnswer}
 use Rattle.promise.specs.Shadow.{firedPart, shadowOf, lentRefusal, shadowRefusal, shadowAnswer}

@@ -12,13 +12,16 @@ use Rattle.net.specs.Numbers.{any}
 use Rattle.net.specs.Net.{Net, Marking, weightOn, input, output, effect, fire, testFiring, replayFrom, replay}
 use Rattle.net.proofs.Numbers.{by-cases}
 use Rattle.net.proofs.Replay.{by-test}
-use Rattle.file.specs.Word.{Bytes}
-use Rattle.file.specs.Layout.{headerOf, netOf}
-use Rattle.file.specs.Refusal.{refuse, fileRefusal}
-use Rattle.file.specs.declared.Due.the-variants as due
+use Rattle.file_words.specs.Word.{Bytes}
+use Rattle.file_header.specs.Layout.{headerOf}
+use Rattle.file.specs.Layout.{netOf}
+use Rattle.file_words.specs.Refusal.{refuse}
+use Rattle.file.specs.Refusal.{fileRefusal}
+use Rattle.file_header.specs.declared.Due.the-variants as due
 use Rattle.file.proofs.Caps.{marking-lt}
-use Rattle.file.proofs.Rows.{weight-le}
-use Rattle.file.proofs.Opening.{sound, refuse-0}
+use Rattle.file_arcs.proofs.Rows.{weight-le}
+use Rattle.file_words.proofs.Laws.{refuse-0}
+use Rattle.file.proofs.Opening.{sound}
 use Rattle.promise.specs.Firing.{listRefusal}
 use Rattle.promise.specs.Promise.{EffectRange, Bounded}
 

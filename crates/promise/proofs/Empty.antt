@@ -12,13 +12,14 @@ use Rattle.net.specs.Cut.{Growth, growth, safety, branching, drawnBy, grown, ro
 use Rattle.net.specs.Slice.{Slice, strike, own, project, restrict, keeping, cut}
 use Rattle.net.specs.Guarantee.{Contains}
 use Rattle.net.specs.declared.Arc.{Arc}
-use Rattle.file.specs.Word.{le16, le32, Bytes, bytes16, bytes32}
-use Rattle.file.specs.Layout.{trailerOf, headerOf, wordsFrom, netOf, sliceOf}
-use Rattle.file.proofs.Laws.{places-none}
+use Rattle.file_words.specs.Word.{le16, le32, Bytes, bytes16, bytes32}
+use Rattle.file_header.specs.Layout.{trailerOf, headerOf}
+use Rattle.file.specs.Layout.{wordsFrom, netOf, sliceOf}
+use Rattle.file_header.proofs.Laws.{places-none}
 use Rattle.file.specs.Refusal.{fileRefusal}
 use Rattle.file.specs.Criterion.{placesRefusal, criterionRefusal, criterionOf}
-use Rattle.file.specs.Writing.{placesBytes, arcsBytes, originsBytes, sliceBody, trailerBytes, sliceBytes}
-use Rattle.file.specs.declared.Due.the-variants as due
+use Rattle.file_writing.specs.Writing.{placesBytes, arcsBytes, originsBytes, sliceBody, trailerBytes, sliceBytes}
+use Rattle.file_header.specs.declared.Due.the-variants as due
 use Rattle.promise.specs.Calls.{cutOf, safetyFile, branchingFile, cutRefusal, writeRefusal, cutAnswer, written, safetyAnswer, safetyBuffer, branchingAnswer, branchingBuffer, Accepts}
 use Rattle.promise.specs.Promise.{emptySlice, EmptyCriterion}
 use Rattle.promise.proofs.Demands.{safety-cut-accepted, contained, even-bytes}

@@ -12,12 +12,13 @@ use Rattle.net.specs.Slice.{keeping}
 use Rattle.net.specs.Guarantee.{PlanFires}
 use Rattle.net.specs.Run.{raised, Fed, goBack, fed, firedAt, runCut}
 use Rattle.net.proofs.Replay.{fires-replay}
-use Rattle.file.specs.Word.{Bytes}
-use Rattle.file.specs.Layout.{headerOf, netOf}
+use Rattle.file_words.specs.Word.{Bytes}
+use Rattle.file_header.specs.Layout.{headerOf}
+use Rattle.file.specs.Layout.{netOf}
 use Rattle.file.specs.Criterion.{placesRefusal, criterionRefusal}
 use Rattle.file.specs.Refusal.{fileRefusal}
-use Rattle.file.specs.Writing.{sliceBytes}
-use Rattle.file.specs.declared.Due.the-variants as due
+use Rattle.file_writing.specs.Writing.{sliceBytes}
+use Rattle.file_header.specs.declared.Due.the-variants as due
 use Rattle.promise.specs.Calls.{safetyBuffer}
 use Rattle.promise.specs.Firing.{listRefusal}
 use Rattle.promise.specs.RunCut.{runFile, runChosen, runWritten, runRoom, runRefusal, runOutcome, runAnswer, runBuffer, runPositions, RunForNothing}

@@ -15,12 +15,12 @@ use Rattle.net.specs.Conclusions.{SameKept}
 use Rattle.net.proofs.Theorem.{branching-accepted}
 use Rattle.net.proofs.Exactness.{undisturbed, keeps-changers, exact, contains-branching, branching-changers}
 use Rattle.net.proofs.Conclusions.{same-verdict, same-kept}
-use Rattle.file.specs.Word.{Bytes}
+use Rattle.file_words.specs.Word.{Bytes}
 use Rattle.file.specs.Layout.{netOf, sliceOf}
 use Rattle.file.specs.Refusal.{fileRefusal}
 use Rattle.file.specs.Criterion.{criterionRefusal}
-use Rattle.file.specs.declared.Due.the-variants as due
-use Rattle.file.proofs.Opening.{orElse-0}
+use Rattle.file_header.specs.declared.Due.the-variants as due
+use Rattle.file_words.proofs.Laws.{orElse-0}
 use Rattle.file.proofs.Caps.{marking-within}
 use Rattle.promise.specs.Calls.{CutAnswer, cutOf, branchingFile, cutRefusal, branchingAnswer, branchingBuffer, Accepts}
 use Rattle.promise.specs.Promise.{ourBranching}

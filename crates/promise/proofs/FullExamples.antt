@@ -6,11 +6,16 @@ use Rattle.net.specs.Cut.{growth, safety, branching, drawnBy, grown, rounds, ke
 use Rattle.net.specs.Slice.{strike, own, project, renumber, restrict, arcsOf, sliceRun, planRun, placeOf, transitionOf, keeping, cut}
 use Rattle.net.specs.Guarantee.{planTokens, sliceTokens}
 use Rattle.net.specs.Checker.{breaks, breaker, sameArc, sameArcs, lacksInput, lacksOutput, rule1, rule2, rule3, rule4, rule5, rule6, rule7, rule8, rule9, rule10, rules, verdictFrom, verdict}
-use Rattle.file.specs.Word.{le16, le32, bytes16, bytes32}
-use Rattle.file.specs.Layout.{trailerOf, headerOf, arcsFrom, wordsFrom}
-use Rattle.file.specs.Refusal.{trailerRefusal, capsRefusal, arcsRefusal, tableRefusal, originsRefusal, linksRefusal, bodyRefusal, fileRefusal}
+use Rattle.file_words.specs.Word.{le16, le32, bytes16, bytes32}
+use Rattle.file_arcs.specs.Layout.{arcsFrom}
+use Rattle.file_header.specs.Layout.{trailerOf, headerOf}
+use Rattle.file.specs.Layout.{wordsFrom}
+use Rattle.file_words.specs.Refusal.{capsRefusal, tableRefusal}
+use Rattle.file_arcs.specs.Refusal.{arcsRefusal}
+use Rattle.file_header.specs.Refusal.{trailerRefusal}
+use Rattle.file.specs.Refusal.{originsRefusal, linksRefusal, bodyRefusal, fileRefusal}
 use Rattle.file.specs.Criterion.{placesRefusal, criterionRefusal, criterionOf, criterionBytesRefusal}
-use Rattle.file.specs.Writing.{placesBytes, arcBytes, arcsBytes, originsBytes, sliceBody, trailerBytes, sliceBytes}
+use Rattle.file_writing.specs.Writing.{placesBytes, arcBytes, arcsBytes, originsBytes, sliceBody, trailerBytes, sliceBytes}
 use Rattle.promise.specs.Calls.{cutOf, safetyFile, branchingFile, cutRefusal, writeRefusal, safetyAnswer, checkRefusal, checked, checkedBytes}
 use Rattle.promise.specs.Firing.{effectRefusal, effectAnswer, listRefusal, replayRefusal, replayAnswer, replayMarking, before, runIn, arcRun}
 use Rattle.promise.specs.Shadow.{shadowOf, lentRefusal, shadowRefusal, shadowAnswer, shadowMarking, shadowOutput}

@@ -15,17 +15,18 @@ use Rattle.net.proofs.Numbers.{below-passes, selected-rises}
 use Rattle.net.proofs.Replay.{Meaning, replay-means}
 use Rattle.net.proofs.Uncapped.{not-capped}
 use Rattle.net.proofs.Run.{positions-rise, positions-inside, run-places-rise, run-places-below, criterion-fed, run-cut}
-use Rattle.file.specs.Word.{Bytes}
-use Rattle.file.specs.Layout.{headerOf, netOf}
+use Rattle.file_words.specs.Word.{Bytes}
+use Rattle.file_header.specs.Layout.{headerOf}
+use Rattle.file.specs.Layout.{netOf}
 use Rattle.file.specs.Refusal.{fileRefusal}
 use Rattle.file.specs.Criterion.{criterionRefusal}
-use Rattle.file.specs.Writing.{sliceBytes}
-use Rattle.file.specs.declared.Due.the-variants as due
+use Rattle.file_writing.specs.Writing.{sliceBytes}
+use Rattle.file_header.specs.declared.Due.the-variants as due
 use Rattle.file.proofs.Caps.{none-capped}
-use Rattle.file.proofs.Opening.{refuse-0, orElse-0}
+use Rattle.file_words.proofs.Laws.{refuse-0, orElse-0}
 use Rattle.file.proofs.Criterion.{passed}
 use Rattle.file.proofs.Rows.{rising-from}
-use Rattle.file.proofs.RoundTrip.{Writable, reads-back, edition-back, not-refused, room}
+use Rattle.file_writing.proofs.RoundTrip.{Writable, reads-back, edition-back, not-refused, room}
 use Rattle.promise.specs.Calls.{cutRefusal, written}
 use Rattle.promise.specs.Firing.{listRefusal}
 use Rattle.promise.specs.RunCut.{runFile, runChosen, runRoom, runRefusal, RunAnswer, runWritten, runOr, stuckOr, runOutcome, runAnswer, runBuffer, runPositions, Feeds, RunsBack}

@@ -9,11 +9,16 @@ use Rattle.net.specs.Slice.{strike, own, project, renumber, restrict, arcsOf, s
 use Rattle.net.specs.Guarantee.{planTokens, SliceFires, sliceTokens, struck}
 use Rattle.net.specs.Run.{markingAfter, raisedOn, raised, withInputs, goBack, fed, firedAt, runCut}
 use Rattle.net.specs.Checker.{breaks, breaker, sameArc, sameArcs, lacksInput, lacksOutput, rule1, rule2, rule3, rule4, rule5, rule6, rule7, rule8, rule9, rule10, rules, verdictFrom, verdict}
-use Rattle.file.specs.Word.{le16, le32, bytes16, bytes32}
-use Rattle.file.specs.Layout.{trailerOf, headerOf, arcsFrom, wordsFrom}
-use Rattle.file.specs.Refusal.{trailerRefusal, capsRefusal, arcsRefusal, tableRefusal, originsRefusal, linksRefusal, bodyRefusal, fileRefusal}
+use Rattle.file_words.specs.Word.{le16, le32, bytes16, bytes32}
+use Rattle.file_arcs.specs.Layout.{arcsFrom}
+use Rattle.file_header.specs.Layout.{trailerOf, headerOf}
+use Rattle.file.specs.Layout.{wordsFrom}
+use Rattle.file_words.specs.Refusal.{capsRefusal, tableRefusal}
+use Rattle.file_arcs.specs.Refusal.{arcsRefusal}
+use Rattle.file_header.specs.Refusal.{trailerRefusal}
+use Rattle.file.specs.Refusal.{originsRefusal, linksRefusal, bodyRefusal, fileRefusal}
 use Rattle.file.specs.Criterion.{placesRefusal, criterionRefusal}
-use Rattle.file.specs.Writing.{placesBytes, arcBytes, arcsBytes, originsBytes, sliceBody, trailerBytes, sliceBytes}
+use Rattle.file_writing.specs.Writing.{placesBytes, arcBytes, arcsBytes, originsBytes, sliceBody, trailerBytes, sliceBytes}
 use Rattle.promise.specs.Calls.{cutRefusal, checkRefusal, checked}
 use Rattle.promise.specs.Firing.{listRefusal, replayRefusal, replayAnswer}
 use Rattle.promise.specs.RunCut.{runFile, runChosen, runRoom, runRefusal, runOutcome, runAnswer, runBuffer, runPositions}

@@ -11,11 +11,12 @@ use Rattle.net.specs.Net.{Net, Marking, Answer, fired, short, full, replayFrom,
 use Rattle.net.specs.Slice.{project, strike, own, ownPlace}
 use Rattle.net.specs.Guarantee.{PlanFires, planTokens, SliceFires, sliceTokens, struck, Guarantee}
 use Rattle.net.proofs.Replay.{Meaning, replay-means}
-use Rattle.file.specs.Word.{Bytes}
+use Rattle.file_words.specs.Word.{Bytes}
 use Rattle.file.specs.Layout.{netOf, sliceOf}
-use Rattle.file.specs.Refusal.{refuse, fileRefusal}
-use Rattle.file.specs.declared.Due.the-variants as due
-use Rattle.file.proofs.Opening.{orElse-0}
+use Rattle.file_words.specs.Refusal.{refuse}
+use Rattle.file.specs.Refusal.{fileRefusal}
+use Rattle.file_header.specs.declared.Due.the-variants as due
+use Rattle.file_words.proofs.Laws.{orElse-0}
 use Rattle.file.proofs.Criterion.{passed}
 use Rattle.promise.specs.Calls.{written, Accepts}
 use Rattle.promise.specs.Firing.{listRefusal}

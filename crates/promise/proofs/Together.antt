@@ -15,8 +15,8 @@ use Rattle.net.proofs.Markings.{length-tokens, getD-tokens, tokens-are}
 use Rattle.net.proofs.Together as law
 use Rattle.file.specs.Layout.{netOf}
 use Rattle.file.specs.Refusal.{fileRefusal}
-use Rattle.file.specs.declared.Due.the-variants as due
-use Rattle.file.proofs.Opening.{refuse-0, orElse-0}
+use Rattle.file_header.specs.declared.Due.the-variants as due
+use Rattle.file_words.proofs.Laws.{refuse-0, orElse-0}
 use Rattle.promise.specs.Calls.{written}
 use Rattle.promise.specs.Together.{standing, togetherRefusal, TogetherAnswer, togetherTold, togetherOr, togetherAnswer, togetherRest, TakesLargest, SameTakings}
 use Rattle.promise.proofs.Replays.{differ}

@@ -16,8 +16,8 @@ use Rattle.net.specs.Guarantee.{planTokens, sliceTokens}
 use Rattle.net.specs.Together.{times, together}
 use Rattle.file.specs.Layout.{netOf, sliceOf}
 use Rattle.file.specs.Refusal.{fileRefusal}
-use Rattle.file.specs.Writing.{sliceBytes}
-use Rattle.file.specs.declared.Due.the-variants as due
+use Rattle.file_writing.specs.Writing.{sliceBytes}
+use Rattle.file_header.specs.declared.Due.the-variants as due
 use Rattle.promise.specs.Calls.{cutOf, safetyFile, branchingFile, safetyAnswer, checked, checkedBytes}
 use Rattle.promise.specs.Firing.{effectAnswer, replayTold, replayAnswer, replayMarking, arcRun}
 use Rattle.promise.specs.Shadow.{ShadowAnswer, shadowAnswer, shadowMarking, shadowOutput}

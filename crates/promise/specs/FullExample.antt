@@ -5,11 +5,11 @@ use mathlib.Core.List.{List, [], _∷_}
 use mathlib.Core.Path.{_≡_}
 use lib.ListN.{set}
 use Rattle.net.specs.Slice.{keeping}
-use Rattle.file.specs.Word.{byteAt}
+use Rattle.file_words.specs.Word.{byteAt}
 use Rattle.file.specs.Layout.{netOf}
 use Rattle.file.specs.Refusal.{fileRefusal}
-use Rattle.file.specs.Writing.{sliceBytes}
-use Rattle.file.specs.declared.Due.the-variants as due
+use Rattle.file_writing.specs.Writing.{sliceBytes}
+use Rattle.file_header.specs.declared.Due.the-variants as due
 use Rattle.promise.specs.Calls.{safetyFile, branchingFile, checked, checkedBytes}
 use Rattle.promise.specs.Firing.{effectAnswer, replayAnswer, replayMarking}
 use Rattle.promise.specs.Shadow.{shadowAnswer}

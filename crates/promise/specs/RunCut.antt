@@ -10,11 +10,13 @@ use Rattle.net.specs.Net.{Net, hasCaps, Answer, fired, short, full, replay, Stu
 use Rattle.net.specs.Slice.{HasPlace}
 use Rattle.net.specs.Guarantee.{planTokens, SliceFires, sliceTokens}
 use Rattle.net.specs.Run.{fed, firedAt, runCut}
-use Rattle.file.specs.Layout.{headerOf, netOf, sliceOf}
-use Rattle.file.specs.Refusal.{refuse, orElse, fileRefusal}
+use Rattle.file_header.specs.Layout.{headerOf}
+use Rattle.file.specs.Layout.{netOf, sliceOf}
+use Rattle.file_words.specs.Refusal.{refuse, orElse}
+use Rattle.file.specs.Refusal.{fileRefusal}
 use Rattle.file.specs.Criterion.{criterionRefusal}
-use Rattle.file.specs.Writing.{sliceBytes}
-use Rattle.file.specs.declared.Due.the-variants as due
+use Rattle.file_writing.specs.Writing.{sliceBytes}
+use Rattle.file_header.specs.declared.Due.the-variants as due
 use Rattle.promise.specs.Calls.{written, safetyBuffer}
 use Rattle.promise.specs.Firing.{listRefusal}
 

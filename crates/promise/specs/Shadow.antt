@@ -8,8 +8,9 @@ use Rattle.net.specs.Numbers.{among}
 use Rattle.net.specs.Net.{Net, Answer, fired, short, full, replay, tokens, Fires, after}
 use Rattle.net.specs.Slice.{Slice, project, ownPlace}
 use Rattle.file.specs.Layout.{netOf, sliceOf}
-use Rattle.file.specs.Refusal.{refuse, orElse, fileRefusal}
-use Rattle.file.specs.declared.Due.the-variants as due
+use Rattle.file_words.specs.Refusal.{refuse, orElse}
+use Rattle.file.specs.Refusal.{fileRefusal}
+use Rattle.file_header.specs.declared.Due.the-variants as due
 use Rattle.promise.specs.Calls.{written, Accepts}
 use Rattle.promise.specs.Firing.{listRefusal, ReplayAnswer, replayOr}
 

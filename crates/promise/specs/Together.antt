@@ -9,8 +9,9 @@ use lib.Dec.{eqb, ltb, leb}
 use Rattle.net.specs.Net.{Marking, tokens}
 use Rattle.net.specs.Together.{Takings, times, unlimited, together, remainder, NoInputs, Largest, Unlimited}
 use Rattle.file.specs.Layout.{netOf}
-use Rattle.file.specs.Refusal.{refuse, orElse, fileRefusal}
-use Rattle.file.specs.declared.Due.the-variants as due
+use Rattle.file_words.specs.Refusal.{refuse, orElse}
+use Rattle.file.specs.Refusal.{fileRefusal}
+use Rattle.file_header.specs.declared.Due.the-variants as due
 use Rattle.promise.specs.Calls.{written}
 
 -- the marking that stands in a list

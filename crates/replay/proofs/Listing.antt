@@ -5,9 +5,9 @@ use mathlib.Core.Bool.{true, false}
 use mathlib.Core.List.{List}
 use borrow.Author.Tests.{ltb-false}
 use lib.Dec.{ltb}
-use Rattle.file.specs.Refusal.{refuse}
-use Rattle.file.specs.declared.Header.{Header}
-use Rattle.file.proofs.Opening.{refuse-0, orElse-0}
+use Rattle.file_words.specs.Refusal.{refuse}
+use Rattle.file_header.specs.declared.Header.{Header}
+use Rattle.file_words.proofs.Laws.{refuse-0, orElse-0}
 use Rattle.net.specs.Net.{Answer}
 use Rattle.promise.specs.Firing.{ReplayAnswer, replayTold, replayOr, listRefusal}
 use Rattle.replay.specs.Told.{heldBack}

@@ -9,9 +9,9 @@ use lib.ListN.{length, getD, set, length-set, List·getD-eq-default}
 use lib.Seq.{getD-set-same, getD-set-other}
 use Rattle.net.specs.Net.{Marking, Replay, tokens, replay, replayFrom}
 use Rattle.net.proofs.Markings.{below-off, tokens-are}
-use Rattle.file.specs.Word.{Bytes}
+use Rattle.file_words.specs.Word.{Bytes}
 use Rattle.file.specs.Layout.{markingAt, netFrom}
-use Rattle.file.specs.declared.Header.{Header}
+use Rattle.file_header.specs.declared.Header.{Header}
 use Rattle.file.proofs.Caps.{marking-lt}
 use Rattle.promise.specs.Firing.{ReplayAnswer, replayTold}
 use Rattle.arcs_starts.specs.Table.{Split}

@@ -6,10 +6,10 @@ use native.Mathlib.Omega.{arith}
 use lib.ListN.{length, getD}
 use Rattle.net.specs.Net.{Answer, Replay, Supplied, fire, replayFrom}
 use Rattle.net.proofs.Uncapped.{uncapped-enabled}
-use Rattle.file.specs.Word.{Bytes}
+use Rattle.file_words.specs.Word.{Bytes}
 use Rattle.file.specs.Layout.{netFrom}
 use Rattle.file.specs.Facts.{Sound}
-use Rattle.file.specs.declared.Header.{Header}
+use Rattle.file_header.specs.declared.Header.{Header}
 use Rattle.promise.specs.Firing.{replayTold}
 use Rattle.replay_steps.specs.Steps.{held, Plain, Holds, Underway}
 use Rattle.replay_steps.proofs.Underway.{known, fired-on, replay-end, replay-short, replay-full}

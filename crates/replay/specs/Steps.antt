@@ -6,7 +6,7 @@ use lib.ListN.{length}
 use Rattle.net.specs.Net.{replayFrom}
 use Rattle.file.specs.Layout.{netFrom}
 use Rattle.file.specs.Facts.{Sound}
-use Rattle.file.specs.declared.Header.{Header}
+use Rattle.file_header.specs.declared.Header.{Header}
 use Rattle.promise.specs.Firing.{replayTold, listRefusal}
 use Rattle.replay_steps.specs.Steps.{held, Holds}
 use Rattle.replay.specs.Told.{outcomeNumbers}

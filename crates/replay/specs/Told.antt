@@ -4,8 +4,8 @@ use mathlib.Core.Bool.{true, false}
 use mathlib.Core.List.{List}
 use mathlib.Core.Path.{_≡_}
 use lib.Dec.{ltb}
-use Rattle.file.specs.Refusal.{refuse, orElse}
-use Rattle.file.specs.declared.Header.{Header}
+use Rattle.file_words.specs.Refusal.{refuse, orElse}
+use Rattle.file_header.specs.declared.Header.{Header}
 use Rattle.promise.specs.Firing.{ReplayAnswer, listRefusal}
 use Rattle.replay.specs.declared.Outcome.{Outcome}
 use Rattle.replay.specs.declared.Outcome.the-variants.{Fired, Short, Full, Refused}

@@ -8,8 +8,9 @@ use lib.ListN.{length, getD, List·getD-eq-default}
 use lib.Seq.{ext-getD}
 use Rattle.net.specs.Net.{Supplied, input, output, fire}
 use Rattle.net.proofs.Uncapped.{uncapped-enabled}
-use Rattle.file.specs.Layout.{arcAt, netFrom}
-use Rattle.file.specs.declared.Header.{Header}
+use Rattle.file_arcs.specs.Layout.{arcAt}
+use Rattle.file.specs.Layout.{netFrom}
+use Rattle.file_header.specs.declared.Header.{Header}
 use Rattle.arcs_starts.specs.Table.{slotAt, Split}
 use Rattle.arcs_starts.proofs.Reached.{order-at}
 use Rattle.arcs_column.proofs.Arcs.{none-past}

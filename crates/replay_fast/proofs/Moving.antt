@@ -8,10 +8,10 @@ use lib.Bits.{bitOr}
 use lib.ListN.{length, getD, set, length-set}
 use lib.Seq.{getD-set-same, getD-set-other}
 use Rattle.net.specs.declared.Arc.{Arc}
-use Rattle.file.specs.Layout.{arcAt}
-use Rattle.file.specs.Facts.{ArcGood}
-use Rattle.file.specs.declared.Header.{Header}
-use Rattle.file.proofs.Bytes.{le16-lt}
+use Rattle.file_arcs.specs.Layout.{arcAt}
+use Rattle.file_arcs.specs.Facts.{ArcGood}
+use Rattle.file_header.specs.declared.Header.{Header}
+use Rattle.file_words.proofs.Bytes.{le16-lt}
 use Rattle.arcs_column.specs.Ways.{placeAt, share, sumOn}
 use Rattle.file.proofs.Rows.{good-at}
 use Rattle.arcs_column.proofs.Ways.{sum-next, sum-rises, share-here, share-against, share-elsewhere}

@@ -4,10 +4,10 @@ use mathlib.Core.List.{List}
 use mathlib.Core.Path.{_≡_}
 use lib.Dec.{eqb}
 use lib.ListN.{length, getD}
-use Rattle.file.specs.Word.{Bytes}
-use Rattle.file.specs.Layout.{arcAt}
+use Rattle.file_words.specs.Word.{Bytes}
+use Rattle.file_arcs.specs.Layout.{arcAt}
 use Rattle.file.specs.Facts.{Sound}
-use Rattle.file.specs.declared.Header.{Header}
+use Rattle.file_header.specs.declared.Header.{Header}
 use Rattle.arcs_starts.specs.Table.{choose}
 use Rattle.arcs_column.specs.Ways.{placeAt, sumOn}
 

@@ -3,8 +3,8 @@
 ghost use mathlib.Core.Path.{_≡_};
 ghost use Rattle.replay_steps.specs.Steps.{Plain, Listed, Underway};
 ghost use Rattle.replay_fast.specs.Moves.{changeOf, Weighs, Signed, Readable, MovesOf, Movable, Shifted, Moved};
-use file::Header;
-use file::arcs::arc;
+use file_header::Header;
+use file_arcs::arc;
 use tables::LARGE_ARCS;
 use tables::MIDDLE_ARCS;
 use tables::SMALL_ARCS;

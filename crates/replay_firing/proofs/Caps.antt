@@ -10,17 +10,19 @@ use lib.ListN.{length, getD}
 use Rattle.net.specs.Net.{Net, output, capped}
 use Rattle.net.specs.declared.Arc.{Arc}
 use Rattle.net.proofs.Numbers.{holds}
-use Rattle.file.specs.Word.{Bytes}
-use Rattle.file.specs.Layout.{arcAt, netFrom}
+use Rattle.file_words.specs.Word.{Bytes}
+use Rattle.file_arcs.specs.Layout.{arcAt}
+use Rattle.file.specs.Layout.{netFrom}
 use Rattle.file.specs.Facts.{Sound}
-use Rattle.file.specs.declared.Header.{Header}
-use Rattle.file.proofs.Rows.{key-le, weight-le, good-at}
+use Rattle.file_header.specs.declared.Header.{Header}
+use Rattle.file_arcs.proofs.Rows.{key-le, weight-le}
+use Rattle.file.proofs.Rows.{good-at}
 use Rattle.arcs_starts.specs.Table.{Split}
 use Rattle.arcs_column.proofs.Arcs.{has-arc, joins-in, in-joins}
 use Rattle.replay_steps.specs.Steps.{held, Ready}
+use Rattle.replay_steps.proofs.Underway.{split-by}
 use Rattle.replay_firing.specs.Firing.{Left, excessOver, Overfull, FullFound}
 use Rattle.replay_firing.specs.declared.Found.the-variants.{Nowhere}
-use Rattle.replay_firing.proofs.Firing.{split-by}
 
 -- the place of arc i of the file
 abbrev placeOf : List ℕ → Header → ℕ → ℕ

@@ -6,15 +6,18 @@ use native.Mathlib.Omega.{arith}
 use native.Mathlib.Decide.{decLt}
 use lib.ListN.{length, getD, List·getD-eq-default}
 use Rattle.net.specs.Net.{Marking, input, output, fire, weightOn}
-use Rattle.file.specs.Layout.{arcAt, arcsFrom, netFrom}
+use Rattle.file_arcs.specs.Layout.{arcAt, arcsFrom}
+use Rattle.file.specs.Layout.{netFrom}
 use Rattle.file.specs.Facts.{Sound}
-use Rattle.file.specs.declared.Header.{Header}
-use Rattle.file.proofs.Rows.{good-at, weight-le}
+use Rattle.file_header.specs.declared.Header.{Header}
+use Rattle.file_arcs.proofs.Rows.{weight-le}
+use Rattle.file.proofs.Rows.{good-at}
 use Rattle.arcs_starts.specs.Table.{Split}
 use Rattle.arcs_column.specs.Gain.{sumTo, Run, Takes, Gives}
 use Rattle.arcs_column.proofs.Arcs.{none-past}
 use Rattle.arcs_column.proofs.Weights as weights
 use Rattle.replay_steps.specs.Steps.{held, Ready, Holds}
+use Rattle.replay_steps.proofs.Underway.{split-by}
 use Rattle.replay_firing.specs.Firing.{unfired}
 
 pub arcs-fit : {s : List ℕ} {h : Header} → Sound s h → h .arcstart + 8 * h .arcs ≤ length s
@@ -35,9 +38,6 @@ module _ {s : List ℕ} {h : Header} {table m : List ℕ} (r : Ready s h table m
   abbrev start : ℕ
   start = h .arcstart
 
-  pub split-by : (k : ℕ) → k ≤ 2 * h .transitions → {b : ℕ} → b ≡ getD table k 0 → Split s (h .arcstart) (h .arcs) k b
-  split-by k l {b} e = subst (λ (n : ℕ). Split s (h .arcstart) (h .arcs) k n) (sym e) (r .starts k l)
-
   -- the arcs of t in direction d
   module _ (d t b e : ℕ) (l : d ≤ 1) (low : Split s (h .arcstart) (h .arcs) (2 * t + d) b) (high : Split s (h .arcstart) (h .arcs) (2 * t + d + 1) e) where
     ways : (i : ℕ) → i < h .arcs → arcAt s (h .arcstart + 8 * i) .direction ≤ 1
@@ -53,10 +53,10 @@ module _ {s : List ℕ} {h : Header} {table m : List ℕ} (r : Ready s h table m
   pub runs : {t from middle to : ℕ} → t < h .transitions → from ≡ getD table (2 * t) 0 → middle ≡ getD table (2 * t + 1) 0 → to ≡ getD table (2 * t + 2) 0 → Runs s h t from middle to
   unfolding input output
   runs {t} {from} {middle} {to} l e f g =
-      let inputs : Split s start (h .arcs) (2 * t + 0) from = split-by (2 * t + 0) (omega arith) (e ∙ same (omega arith)) in
-      let outputs = split-by (2 * t + 1) (omega arith) f in
-      let past : Split s start (h .arcs) (2 * t + 1 + 1) to = split-by (2 * t + 1 + 1) (omega arith) (g ∙ same (omega arith)) in
-      let middle′ : Split s start (h .arcs) (2 * t + 0 + 1) middle = split-by (2 * t + 0 + 1) (omega arith) (f ∙ same (omega arith)) in
+      let inputs : Split s start (h .arcs) (2 * t + 0) from = split-by r (2 * t + 0) (omega arith) (e ∙ same (omega arith)) in
+      let outputs = split-by r (2 * t + 1) (omega arith) f in
+      let past : Split s start (h .arcs) (2 * t + 1 + 1) to = split-by r (2 * t + 1 + 1) (omega arith) (g ∙ same (omega arith)) in
+      let middle′ : Split s start (h .arcs) (2 * t + 0 + 1) middle = split-by r (2 * t + 0 + 1) (omega arith) (f ∙ same (omega arith)) in
       record {
         first = rises 0 t from middle (omega arith) inputs middle′;
         second = rises 1 t middle to (omega arith) outputs past;

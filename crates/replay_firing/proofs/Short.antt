@@ -10,10 +10,12 @@ use lib.ListN.{getD}
 use Rattle.net.specs.Net.{input, weightOn, ShortAt}
 use Rattle.net.proofs.Numbers.{by-cases}
 use Rattle.net.specs.declared.Arc.{Arc}
-use Rattle.file.specs.Layout.{arcsFrom, netFrom}
+use Rattle.file_arcs.specs.Layout.{arcsFrom}
+use Rattle.file.specs.Layout.{netFrom}
 use Rattle.file.specs.Facts.{Sound}
-use Rattle.file.specs.declared.Header.{Header}
-use Rattle.file.proofs.Rows.{key-le, weight-none, good-at}
+use Rattle.file_header.specs.declared.Header.{Header}
+use Rattle.file_arcs.proofs.Rows.{key-le, weight-none}
+use Rattle.file.proofs.Rows.{good-at}
 use Rattle.arcs_starts.specs.Table.{slotAt, choose, Split}
 use Rattle.replay_steps.specs.Steps.{held}
 use Rattle.replay_firing.specs.Short.{arcOn, needAt, Lacking}

@@ -9,8 +9,8 @@ use lib.ListN.{getD}
 use lib.Seq.{ext-getD}
 use Rattle.net.specs.Net.{output, fire, capped, WithinCaps, Supplied, Enabled, FullAt}
 use Rattle.file.specs.Layout.{netFrom}
-use Rattle.file.specs.declared.Header.{Header}
-use Rattle.file.proofs.Rows.{weight-le}
+use Rattle.file_header.specs.declared.Header.{Header}
+use Rattle.file_arcs.proofs.Rows.{weight-le}
 use Rattle.replay_steps.specs.Steps.{held, Ready, Holds}
 use Rattle.replay_firing.specs.Firing.{Testable, Firable, Left, unfired, Overfull, ShortFound, FullFound, Filled}
 use Rattle.replay_firing.specs.declared.Found.{Found}

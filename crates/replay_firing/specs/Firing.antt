@@ -6,7 +6,7 @@ use lib.Dec.{T, eqb}
 use lib.ListN.{getD}
 use Rattle.net.specs.Net.{Net, Marking, input, output, fire, capped, WithinCaps, Enabled, ShortAt, FullAt}
 use Rattle.file.specs.Layout.{netFrom}
-use Rattle.file.specs.declared.Header.{Header}
+use Rattle.file_header.specs.declared.Header.{Header}
 use Rattle.arcs_starts.specs.Table.{choose}
 use Rattle.replay_steps.specs.Steps.{held, Holds}
 use Rattle.replay_firing.specs.declared.Found.{Found}

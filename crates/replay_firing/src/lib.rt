@@ -11,8 +11,8 @@ ghost use Rattle.arcs_starts.specs.Table.{choose};
 ghost use Rattle.replay_firing.specs.Short.{needAt, Lacking};
 ghost use Rattle.replay_firing.specs.Firing.{Testable, Firable, Left, unfired, excessOver, ShortFound, FullFound, Filled, Tried};
 use arcs_groups::group;
-use file::Header;
-use file::arcs::arc;
+use file_arcs::arc;
+use file_header::Header;
 use tables::entry;
 
 // The lowest place of some kind and an amount there, or none.

@@ -1,6 +1,6 @@
 -- A replay, firing by firing.
 use Prim.Native.Nat.{ℕ, suc, _+_, _*_, _<_, _≤_}
-use mathlib.Core.Path.{_≡_, refl, ap, sym, _∙_, fun-ext}
+use mathlib.Core.Path.{_≡_, refl, ap, sym, subst, _∙_, fun-ext}
 use mathlib.Core.List.{List, _∷_}
 use native.Mathlib.Numerals.{add-one}
 use native.Mathlib.Omega.{arith}
@@ -8,11 +8,12 @@ use lib.ListN.{length, getD, drop, drop-of-length-le}
 use lib.Seq.{drop-cons}
 use Rattle.net.specs.Net.{Net, Marking, WithinCaps, Enabled, fired, short, full, output, fire, replayFrom, ShortAt, FullAt}
 use Rattle.net.proofs.Replay.{test-passes, test-short, test-full}
-use Rattle.file.specs.Word.{Bytes}
+use Rattle.file_words.specs.Word.{Bytes}
 use Rattle.file.specs.Layout.{netFrom}
 use Rattle.file.specs.Facts.{Sound}
-use Rattle.file.specs.declared.Header.{Header}
-use Rattle.file.proofs.Rows.{weight-le}
+use Rattle.file_header.specs.declared.Header.{Header}
+use Rattle.file_arcs.proofs.Rows.{weight-le}
+use Rattle.arcs_starts.specs.Table.{Split}
 use Rattle.replay_steps.specs.Steps.{held, Ready, Holds, Listed, Underway}
 
 module _ (N : Net) (i : ℕ) (M : Marking) (t : ℕ) (ts : List ℕ) where
@@ -42,6 +43,10 @@ module _ (N : Net) (ts : List ℕ) (k : ℕ) (M : Marking) where
 
     replay-on : Enabled N (getD ts k 0) M → replayFrom N k M (drop k ts) ≡ replayFrom N (k + 1) (fire N (getD ts k 0) M) (drop (k + 1) ts)
     replay-on u = rw (drop-cons ts k 0 l, add-one k) (step-on N k M (getD ts k 0) (drop (suc k) ts) u)
+
+-- where the arcs of a slot start, by the table
+pub split-by : {s : List ℕ} {h : Header} {table m : List ℕ} → Ready s h table m → (k : ℕ) → k ≤ 2 * h .transitions → {b : ℕ} → b ≡ getD table k 0 → Split s (h .arcstart) (h .arcs) k b
+split-by {s} {h} r k l {b} e = subst (Split s (h .arcstart) (h .arcs) k) (sym e) (r .starts k l)
 
 -- the transition listed at k has entries in the table
 pub record Tabulated (h : Header) (table ts : List ℕ) (k : ℕ) : Type 0 where

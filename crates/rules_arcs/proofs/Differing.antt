@@ -9,8 +9,9 @@ use Rattle.net.specs.Numbers.{among, position}
 use Rattle.net.specs.Slice.{sliceRun, planRun}
 use Rattle.net.specs.Checker.{breaks, rule4, sameArcs}
 use Rattle.net.proofs.Numbers.{holds, position-lt}
-use Rattle.file.specs.Layout.{arcsFrom, netFrom, sliceFrom}
-use Rattle.file.specs.declared.Header.{Header}
+use Rattle.file_arcs.specs.Layout.{arcsFrom}
+use Rattle.file.specs.Layout.{netFrom, sliceFrom}
+use Rattle.file_header.specs.declared.Header.{Header}
 use Rattle.rules_tables.specs.Matched.{Starts, Matched}
 use Rattle.numbering.proofs.Lookup.{left-out, is-kept, own-number}
 use Rattle.rules_tables.proofs.Runs.{entry-most, entries-rise, run-own, run-is}

@@ -12,8 +12,9 @@ use Rattle.net.specs.Net.{Net, input, output, takesFrom, addsTo, capped, weight
 use Rattle.net.specs.Slice.{Slice}
 use Rattle.net.specs.Checker.{breaks, rule7, rule9, lacksInput, lacksOutput}
 use Rattle.net.proofs.Numbers.{by-cases, by-order, holds, fails, is-true, is-false, and-both, and-left, and-right, and-true, same-test, any-has, any-finds, below-has, below-passes}
-use Rattle.file.specs.Layout.{arcAt, netFrom, sliceFrom}
-use Rattle.file.specs.declared.Header.{Header}
+use Rattle.file_arcs.specs.Layout.{arcAt}
+use Rattle.file.specs.Layout.{netFrom, sliceFrom}
+use Rattle.file_header.specs.declared.Header.{Header}
 use Rattle.rules_tables.specs.Matched.{Matched}
 use Rattle.numbering.proofs.Lookup.{left-out, is-kept, zero-entry}
 use Rattle.rules_tables.proofs.Runs.{entry-most, entries-rise, weight-found, weight-there}

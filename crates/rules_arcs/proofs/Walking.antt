@@ -12,10 +12,11 @@ use Rattle.net.specs.Slice.{renumber, restrict}
 use Rattle.net.specs.Checker.{sameArc, sameArcs}
 use Rattle.net.specs.declared.Arc.{Arc}
 use Rattle.net.proofs.Numbers.{by-order, holds, same-test, and-both, and-left, and-right}
-use Rattle.file.specs.Word.{byteAt}
-use Rattle.file.specs.Layout.{arcAt, arcsFrom, sliceFrom}
-use Rattle.file.specs.Facts.{ArcWord, arcOf}
-use Rattle.file.specs.declared.Header.{Header}
+use Rattle.file_words.specs.Word.{byteAt}
+use Rattle.file_arcs.specs.Layout.{arcAt, arcsFrom}
+use Rattle.file.specs.Layout.{sliceFrom}
+use Rattle.file_arcs.specs.Facts.{ArcWord, arcOf}
+use Rattle.file_header.specs.declared.Header.{Header}
 use Rattle.rules_tables.proofs.Rows.{row-cons, row-end, restrict-in, restrict-out}
 use Rattle.numbering.proofs.Lookup.{left-out, is-kept, own-number}
 use Rattle.rules_arcs.specs.Links.{Against, Step, Walk, numbered, renumbered, arcsLeft, kept}

@@ -9,10 +9,11 @@ use Rattle.net.specs.Numbers.{among, position}
 use Rattle.net.specs.Slice.{restrict}
 use Rattle.net.specs.Checker.{sameArcs}
 use Rattle.net.specs.declared.Arc.{Arc}
-use Rattle.file.specs.Word.{byteAt}
-use Rattle.file.specs.Layout.{arcAt, arcsFrom, sliceFrom}
+use Rattle.file_words.specs.Word.{byteAt}
+use Rattle.file_arcs.specs.Layout.{arcAt, arcsFrom}
+use Rattle.file.specs.Layout.{sliceFrom}
 use Rattle.file.specs.Facts.{Sound}
-use Rattle.file.specs.declared.Header.{Header}
+use Rattle.file_header.specs.declared.Header.{Header}
 use Rattle.numbering.specs.Own.{Own}
 
 -- the arcs from..to stand in the file, and are at places below P

@@ -6,15 +6,16 @@ ghost use lib.ListN.{length, getD};
 ghost use lib.Dec.{eqb};
 ghost use Rattle.net.specs.Net.{capped};
 ghost use Rattle.net.specs.Checker.{breaks, breaker, rule4, rule7, rule9, sameArcs};
-ghost use Rattle.file.specs.Layout.{arcAt, arcsFrom, netFrom, sliceFrom};
-ghost use Rattle.file.specs.Facts.{Placed};
+ghost use Rattle.file_arcs.specs.Layout.{arcAt, arcsFrom};
+ghost use Rattle.file.specs.Layout.{netFrom, sliceFrom};
+ghost use Rattle.file_header.specs.Facts.{Placed};
 ghost use Rattle.rules_tables.specs.Matched.{Starts, Matched};
 ghost use Rattle.rules_arcs.specs.Links.{Run, Unkept, Walk, Against, Step, renumbered, arcsLeft, kept};
-use file::Header;
-use file::arcs::DIRECTION;
-use file::arcs::PLACE;
-use file::arcs::WEIGHT;
-use file::arcs::word;
+use file_arcs::DIRECTION;
+use file_arcs::PLACE;
+use file_arcs::WEIGHT;
+use file_arcs::word;
+use file_header::Header;
 use tables::entry;
 
 // Has an arc from `from` to `to` a place that is not kept?
@@ -24,7 +25,7 @@ fn unkept(plan: &[u8], start: usize, from: usize, to: usize, ownp: &[u16]) -> bo
 {
     let mut j = from;
     while j < to {
-        let a = file::arcs::arc(plan, start + 8 * j);
+        let a = file_arcs::arc(plan, start + 8 * j);
         if entry(ownp, a.place) == 0 {
             return true;
         }
@@ -102,7 +103,7 @@ fn capped_unkept(plan: &[u8], hp: Header, from: usize, to: usize, ownp: &[u16]) 
     let start = hp.arcstart;
     let mut j = from;
     while j < to {
-        let a = file::arcs::arc(plan, start + 8 * j);
+        let a = file_arcs::arc(plan, start + 8 * j);
         if capped_left(plan, hp, ownp, a.place) {
             return true;
         }

@@ -11,10 +11,10 @@ use Rattle.net.specs.Numbers.{among, any, selected, first}
 use Rattle.net.specs.Net.{Net, input, output, changes, raises, capped}
 use Rattle.net.specs.Checker.{breaks, breaker, rule6, rule8, rule10}
 use Rattle.net.proofs.Numbers.{first-same, by-cases, and-both, and-left, and-right, same-test, any-has, any-finds, below-has, below-passes}
-use Rattle.file.specs.Word.{byteAt}
+use Rattle.file_words.specs.Word.{byteAt}
 use Rattle.file.specs.Layout.{netFrom, sliceFrom}
 use Rattle.file.specs.Criterion.{criterionRefusal}
-use Rattle.file.specs.declared.Header.{Header}
+use Rattle.file_header.specs.declared.Header.{Header}
 use Rattle.file.proofs.Criterion.{passed}
 use Rattle.arcs_column.specs.Gain.{pulls}
 use Rattle.numbering.specs.Own.{Own}

@@ -13,11 +13,12 @@ use Rattle.net.specs.Numbers.{selected}
 use Rattle.net.specs.Net.{counted, input, output, weightOn}
 use Rattle.net.specs.declared.Arc.{Arc}
 use Rattle.net.proofs.Numbers.{by-cases, by-or, or-left, or-right, same-test, any-has, any-finds, below-has, below-passes, and-right}
-use Rattle.file.specs.Word.{byteAt, Bytes}
-use Rattle.file.specs.Layout.{arcAt, netFrom}
+use Rattle.file_words.specs.Word.{byteAt, Bytes}
+use Rattle.file_arcs.specs.Layout.{arcAt}
+use Rattle.file.specs.Layout.{netFrom}
 use Rattle.file.specs.Facts.{Sound}
-use Rattle.file.specs.declared.Header.{Header}
-use Rattle.file.proofs.Bytes.{le16-lt}
+use Rattle.file_header.specs.declared.Header.{Header}
+use Rattle.file_words.proofs.Bytes.{le16-lt}
 use Rattle.arcs_column.specs.Gain.{sumTo, part, pulls, pullsAt, pulledIn, pulledTo, Run, Takes, Gives, Rested}
 use Rattle.arcs_column.proofs.Sums.{part-other}
 use Rattle.rules_tables.specs.Matched.{Starts}

@@ -8,11 +8,12 @@ ghost use Rattle.net.specs.Numbers.{among, first};
 ghost use Rattle.net.specs.Checker.{breaker, rule6, rule8, rule10};
 ghost use Rattle.file.specs.Criterion.{criterionRefusal};
 ghost use Rattle.file.specs.Layout.{netFrom, sliceFrom};
-ghost use Rattle.file.specs.Facts.{Placed, Sound};
+ghost use Rattle.file_header.specs.Facts.{Placed};
+ghost use Rattle.file.specs.Facts.{Sound};
 ghost use Rattle.rules_tables.specs.Matched.{Starts, Matched};
 ghost use Rattle.rules_effects.specs.Movers.{limitOn, changeLimit, moved, Resting};
 use arcs_column::AT_REST;
-use file::Header;
+use file_header::Header;
 use tables::entry;
 
 // Does the transition t move a place past its limit? The column comes back at rest.

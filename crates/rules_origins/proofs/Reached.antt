@@ -5,7 +5,7 @@ use mathlib.Core.List.{List}
 use native.Mathlib.Omega.{arith}
 use lib.ListN.{length}
 use Rattle.file.specs.Facts.{Sound}
-use Rattle.file.specs.declared.Header.{Header}
+use Rattle.file_header.specs.declared.Header.{Header}
 use Rattle.numbering.specs.Own.{Origins}
 
 module _ (s : List ℕ) (h : Header) (w : Sound s h) (k : h .kind ≡ 1) where

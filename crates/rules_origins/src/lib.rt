@@ -6,13 +6,14 @@ ghost use Rattle.net.specs.Net.{Net, Uncapped};
 ghost use Rattle.net.specs.Slice.{Slice};
 ghost use Rattle.net.specs.Checker.{breaker, rule1, rule2, rule3, rule5};
 ghost use Rattle.file.specs.Layout.{wordsFrom, netFrom, sliceFrom};
-ghost use Rattle.file.specs.Facts.{Placed, Sound};
+ghost use Rattle.file_header.specs.Facts.{Placed};
+ghost use Rattle.file.specs.Facts.{Sound};
 ghost use Rattle.file.specs.Criterion.{criterionRefusal};
 ghost use Rattle.numbering.specs.Own.{Own, Origins};
 ghost use Rattle.rules_origins.specs.Known.{Known, firstUnknown, sameAt};
-use file::CAPS;
-use file::Header;
-use file::word::get16;
+use file_header::CAPS;
+use file_header::Header;
+use file_words::get16;
 use tables::wide;
 
 // Scans `count` origins for the first that is not below `limit`; `count` where none is.

@@ -8,7 +8,7 @@ use Rattle.net.specs.Net.{capped}
 use Rattle.net.proofs.Numbers.{by-cases}
 use Rattle.net.proofs.Markings.{below-off}
 use Rattle.file.specs.Layout.{capAt, netFrom}
-use Rattle.file.specs.declared.Header.{Header}
+use Rattle.file_header.specs.declared.Header.{Header}
 
 pub capped-known : (plan : List ℕ) (hp : Header) (p : ℕ) → T (capped (netFrom plan hp) p) → p < hp .places
 unfolding capped

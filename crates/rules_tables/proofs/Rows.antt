@@ -7,8 +7,8 @@ use native.Mathlib.Omega.{arith}
 use Rattle.net.specs.Numbers.{among}
 use Rattle.net.specs.Slice.{renumber, restrict}
 use Rattle.net.specs.declared.Arc.{Arc}
-use Rattle.file.specs.Layout.{arcAt, arcsFrom}
-use Rattle.file.proofs.Laws.{arcs-cons, arcs-none}
+use Rattle.file_arcs.specs.Layout.{arcAt, arcsFrom}
+use Rattle.file_arcs.proofs.Laws.{arcs-cons, arcs-none}
 
 -- of n arcs, those from k on
 module _ (s : List ℕ) (start n k : ℕ) where

@@ -13,11 +13,13 @@ use Rattle.net.specs.Slice.{arcsOf}
 use Rattle.net.specs.declared.Arc.{Arc}
 use Rattle.net.proofs.Numbers.{by-cases}
 use Rattle.net.proofs.Weights.{arcsOf-append}
-use Rattle.file.specs.Layout.{arcAt, arcsFrom, netFrom}
+use Rattle.file_arcs.specs.Layout.{arcAt, arcsFrom}
+use Rattle.file.specs.Layout.{netFrom}
 use Rattle.file.specs.Facts.{Sound}
-use Rattle.file.specs.declared.Header.{Header}
+use Rattle.file_header.specs.declared.Header.{Header}
 use Rattle.arcs_starts.specs.Table.{slotAt, Split}
-use Rattle.file.proofs.Rows.{arcs-append, first, later, good-at}
+use Rattle.file_arcs.proofs.Rows.{arcs-append, first, later}
+use Rattle.file.proofs.Rows.{good-at}
 use Rattle.arcs_column.specs.Gain.{sumTo, part}
 use Rattle.arcs_column.proofs.Sums.{sum-next, sum-more, part-here}
 use Rattle.arcs_column.proofs.Weights.{weight-run}

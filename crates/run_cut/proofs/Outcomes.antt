@@ -15,11 +15,11 @@ use Rattle.net.specs.Run.{fed, runCut}
 use Rattle.net.proofs.Numbers.{at-position, position-lt, length-selected}
 use Rattle.net.proofs.Replay.{replay-means, fires-replay}
 use Rattle.file.specs.Layout.{netFrom}
-use Rattle.file.specs.Refusal.{refuse, orElse}
+use Rattle.file_words.specs.Refusal.{refuse, orElse}
 use Rattle.file.specs.Facts.{Sound}
 use Rattle.file.specs.Criterion.{criterionRefusal}
-use Rattle.file.specs.Writing.{sliceBytes}
-use Rattle.file.specs.declared.Header.{Header}
+use Rattle.file_writing.specs.Writing.{sliceBytes}
+use Rattle.file_header.specs.declared.Header.{Header}
 use Rattle.promise.specs.Calls.{CutAnswer, cutAnswer, written}
 use Rattle.promise.specs.Firing.{ReplayAnswer, replayOr, listRefusal}
 use Rattle.promise.specs.RunCut.{RunAnswer, runWritten, runOr, runRoom, runOutcome}

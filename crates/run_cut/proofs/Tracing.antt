@@ -9,11 +9,11 @@ use lib.ListN.{length, replicate, length-replicate}
 use borrow.Author.Tests.{leb-true}
 use Rattle.net.specs.Numbers.{among, Rising}
 use Rattle.net.proofs.Numbers.{and-true}
-use Rattle.file.specs.declared.Header.{Header}
+use Rattle.file_header.specs.declared.Header.{Header}
 use Rattle.file.proofs.Criterion.{passed}
 use Rattle.file.proofs.Rows.{rising-from}
 use Rattle.sets.specs.Member.{member}
-use Rattle.sets.proofs.Members.{zeros-at}
+use Rattle.tables.proofs.Zeros.{zeros-at}
 use Rattle.slice.specs.Kept.{keptSlice}
 use Rattle.run_feed.specs.Back.{Known, Entered, endOf, Back}
 use Rattle.run_feed.proofs.Ends.{begun, finished-places, finished-transitions, finished-slice, finished-positions, finished-end}

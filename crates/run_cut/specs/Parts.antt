@@ -10,7 +10,7 @@ use Rattle.net.specs.Run.{fed, runCut}
 use Rattle.file.specs.Layout.{netFrom}
 use Rattle.file.specs.Facts.{Sound}
 use Rattle.file.specs.Criterion.{criterionRefusal}
-use Rattle.file.specs.declared.Header.{Header}
+use Rattle.file_header.specs.declared.Header.{Header}
 use Rattle.sets.specs.declared.KeptSets.{KeptSets}
 use Rattle.slice.specs.Kept.{keptSlice, Within}
 use Rattle.run_feed.specs.Back.{endOf}

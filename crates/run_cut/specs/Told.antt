@@ -6,8 +6,8 @@ use mathlib.Core.Path.{_≡_}
 use lib.ListN.{length}
 use Rattle.net.specs.Run.{fed, runCut}
 use Rattle.file.specs.Layout.{netFrom}
-use Rattle.file.specs.Writing.{sliceBytes}
-use Rattle.file.specs.declared.Header.{Header}
+use Rattle.file_writing.specs.Writing.{sliceBytes}
+use Rattle.file_header.specs.declared.Header.{Header}
 use Rattle.promise.specs.Calls.{written}
 use Rattle.promise.specs.Firing.{listRefusal}
 use Rattle.promise.specs.RunCut.{RunAnswer, runWritten, runStuck, runOr, runOutcome}

@@ -15,7 +15,7 @@ ghost use Rattle.replay.specs.Told.{outcomeNumbers};
 ghost use Rattle.run_feed.specs.Back.{endOf};
 ghost use Rattle.run_cut.specs.Told.{answerTo, Answers};
 ghost use Rattle.run_cut.specs.Parts.{Given, Lent, Cleared, chosenBy, Reached, FedBy};
-use file::Header;
+use file_header::Header;
 use replay::Outcome;
 use sets::KeptSets;
 use slice::Cut;

@@ -15,7 +15,7 @@ use Rattle.net.proofs.Numbers.{fails, holds, rising-selected, selected-same}
 use Rattle.net.proofs.Feeding.{Feeding, feed, upto, chosen-at, chosen-below}
 use Rattle.net.proofs.Run.{drop-all, fed-is, run-places-rise, run-places-below, chosen-upto}
 use Rattle.file.specs.Layout.{netFrom}
-use Rattle.file.specs.declared.Header.{Header}
+use Rattle.file_header.specs.declared.Header.{Header}
 use Rattle.sets.specs.Member.{member}
 use Rattle.run_feed.specs.Back.{Known, Entered, endOf, Back}
 

@@ -14,7 +14,7 @@ use Rattle.net.specs.Net.{raises, takesFrom}
 use Rattle.net.proofs.Numbers.{by-cases, by-or, holds, fails, is-true, same-test, or-left, or-right}
 use Rattle.file.specs.Layout.{netFrom}
 use Rattle.file.specs.Facts.{Sound}
-use Rattle.file.specs.declared.Header.{Header}
+use Rattle.file_header.specs.declared.Header.{Header}
 use Rattle.sets.specs.Member.{member, Inserted}
 use Rattle.arcs_starts.specs.Table.{choose, Split}
 use Rattle.arcs_column.specs.Ways.{transitionAt, directionAt, placeAt}

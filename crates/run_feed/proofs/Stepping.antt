@@ -16,7 +16,7 @@ use Rattle.net.proofs.Feeding.{Feeding, feed, upto, upto-among, chosen-at, fed-
 use Rattle.net.proofs.Run.{drop-next, drop-at}
 use Rattle.file.specs.Layout.{netFrom}
 use Rattle.file.specs.Facts.{Sound}
-use Rattle.file.specs.declared.Header.{Header}
+use Rattle.file_header.specs.declared.Header.{Header}
 use Rattle.sets.specs.Member.{member, Inserted}
 use Rattle.arcs_starts.specs.Table.{choose, Split}
 use Rattle.cut_rows.proofs.Inputs.{takes-inside}

@@ -9,7 +9,7 @@ use Rattle.net.specs.Numbers.{among}
 use Rattle.net.specs.Net.{Net, raises, takesFrom}
 use Rattle.net.proofs.Feeding.{feed, upto}
 use Rattle.file.specs.Layout.{netFrom}
-use Rattle.file.specs.declared.Header.{Header}
+use Rattle.file_header.specs.declared.Header.{Header}
 use Rattle.arcs_starts.specs.Table.{Split}
 use Rattle.sets.specs.Member.{member}
 

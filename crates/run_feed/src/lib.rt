@@ -11,8 +11,8 @@ ghost use Rattle.file.specs.Layout.{netFrom};
 ghost use Rattle.arcs_starts.specs.Table.{choose, Split};
 ghost use Rattle.cut_rows.specs.Rows.{Rows};
 ghost use Rattle.run_feed.specs.Back.{Known, RaisersAdded, Entered, Met, Back};
-use file::Header;
-use file::arcs::arc;
+use file_arcs::arc;
+use file_header::Header;
 use tables::entry;
 use tables::wide;
 

@@ -9,8 +9,8 @@ use lib.ListN.{length, getD, take, drop}
 use lib.Dec.{ltb}
 use lib.Seq.{length-take-le, getD-take}
 use Rattle.net.specs.Slice.{Slice}
-use Rattle.file.specs.Refusal.{refuse}
-use Rattle.file.specs.declared.Header.{Header}
+use Rattle.file_words.specs.Refusal.{refuse}
+use Rattle.file_header.specs.declared.Header.{Header}
 use Rattle.promise.specs.Calls.{written}
 use Rattle.projection.specs.Choice.{chosenBy, Reached, Projects}
 use Rattle.projection.proofs.Choices.{chosen-few}

@@ -15,9 +15,9 @@ use Rattle.net.proofs.Numbers.{by-cases}
 use Rattle.net.proofs.Replay.{Meaning, replay-means}
 use Rattle.file.specs.Facts.{Sound}
 use Rattle.file.specs.Layout.{netFrom}
-use Rattle.file.specs.Refusal.{refuse, orElse}
-use Rattle.file.specs.declared.Header.{Header}
-use Rattle.file.proofs.Opening.{or-false}
+use Rattle.file_words.specs.Refusal.{refuse, orElse}
+use Rattle.file_header.specs.declared.Header.{Header}
+use Rattle.file_words.proofs.Laws.{or-false}
 use Rattle.inputs_lists.proofs.Passing.{list-short, list-known}
 use Rattle.promise.specs.Calls.{written}
 use Rattle.promise.specs.Firing.{listRefusal, ReplayAnswer, replayTold, replayOr}

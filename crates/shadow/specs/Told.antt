@@ -8,8 +8,8 @@ use lib.Dec.{ltb}
 use Rattle.net.specs.Net.{Net, fired, short, full, replay, tokens}
 use Rattle.net.specs.Slice.{Slice, project}
 use Rattle.file.specs.Facts.{Sound}
-use Rattle.file.specs.Refusal.{refuse}
-use Rattle.file.specs.declared.Header.{Header}
+use Rattle.file_words.specs.Refusal.{refuse}
+use Rattle.file_header.specs.declared.Header.{Header}
 use Rattle.promise.specs.Calls.{written}
 use Rattle.promise.specs.Firing.{replayTold}
 use Rattle.promise.specs.Shadow.{ShadowAnswer, shadowOf, lentRefusal, shadowOr}

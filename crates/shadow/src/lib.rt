@@ -9,7 +9,7 @@ ghost use Rattle.file.specs.Layout.{netFrom, sliceFrom};
 ghost use Rattle.file.specs.Facts.{Sound};
 ghost use Rattle.projection.specs.Choice.{chosenBy};
 ghost use Rattle.shadow.specs.Told.{firedOf, withCount, dueOf, firedProjection, Fireable, Given, Casts, Roomy, Follows};
-use file::Header;
+use file_header::Header;
 use replay::Outcome;
 use tables::LARGE;
 use tables::MIDDLE;

@@ -13,14 +13,17 @@ use Rattle.net.specs.Slice.{Slice, restrict, onKept, keeping}
 use Rattle.net.specs.declared.Arc.{Arc}
 use Rattle.net.proofs.Markings.{below-at}
 use Rattle.net.proofs.Numbers.{by-cases, among-at, below-passes, selected-rises, length-selected}
-use Rattle.file.specs.Facts.{ArcGood, Sound}
-use Rattle.file.specs.Layout.{placesLength, arcAt, arcsFrom, netFrom}
-use Rattle.file.specs.Word.{bytes16, bytes32}
-use Rattle.file.specs.Writing.{arcsBytes, originsBytes, sliceBody, trailerBytes, sliceBytes}
-use Rattle.file.specs.declared.Header.{Header}
-use Rattle.file.proofs.Bytes.{length-places, length-origins, length-arcs}
-use Rattle.file.proofs.Rows.{length-arcsFrom}
-use Rattle.file.proofs.Rows.{range-at}
+use Rattle.file_arcs.specs.Facts.{ArcGood}
+use Rattle.file.specs.Facts.{Sound}
+use Rattle.file_header.specs.Layout.{placesLength}
+use Rattle.file_arcs.specs.Layout.{arcAt, arcsFrom}
+use Rattle.file.specs.Layout.{netFrom}
+use Rattle.file_words.specs.Word.{bytes16, bytes32}
+use Rattle.file_writing.specs.Writing.{arcsBytes, originsBytes, sliceBody, trailerBytes, sliceBytes}
+use Rattle.file_header.specs.declared.Header.{Header}
+use Rattle.file_writing.proofs.Bytes.{length-places, length-origins, length-arcs}
+use Rattle.file_arcs.proofs.Rows.{length-arcsFrom}
+use Rattle.file_arcs.proofs.Rows.{range-at}
 use Rattle.slice_arcs.specs.Between.{keptArcs, Arcs, ArcsWritten}
 use Rattle.slice_arcs.proofs.Restricted.{arcs-restricted}
 use Rattle.slice_parts.specs.Trailer.{trailerFor}

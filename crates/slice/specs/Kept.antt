@@ -9,9 +9,9 @@ use lib.ListN.{length}
 use Rattle.net.specs.Numbers.{selected}
 use Rattle.net.specs.Slice.{Slice, keeping}
 use Rattle.file.specs.Layout.{netFrom}
-use Rattle.file.specs.Refusal.{refuse}
-use Rattle.file.specs.Writing.{sliceBytes}
-use Rattle.file.specs.declared.Header.{Header}
+use Rattle.file_words.specs.Refusal.{refuse}
+use Rattle.file_writing.specs.Writing.{sliceBytes}
+use Rattle.file_header.specs.declared.Header.{Header}
 use Rattle.promise.specs.Calls.{CutAnswer, cutAnswer, written}
 use Rattle.sets.specs.Member.{member}
 use Rattle.sets.specs.declared.KeptSets.{KeptSets}

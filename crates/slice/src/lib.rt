@@ -6,11 +6,11 @@ ghost use lib.Seq.{sets};
 ghost use Rattle.net.specs.Slice.{keeping};
 ghost use Rattle.file.specs.Facts.{Sound};
 ghost use Rattle.file.specs.Layout.{netFrom};
-ghost use Rattle.file.specs.Writing.{sliceBytes};
+ghost use Rattle.file_writing.specs.Writing.{sliceBytes};
 ghost use Rattle.promise.specs.Calls.{cutAnswer, written};
 ghost use Rattle.slice.specs.Kept.{cutNumbers, keptSlice, roomRefusal, Answers, Within};
 ghost use Rattle.slice.specs.Parts.{Cleared, Listable, Lists, MembersListed, Tables};
-use file::Header;
+use file_header::Header;
 use sets::KeptSets;
 use tables::LARGE;
 use tables::MIDDLE;
@@ -38,7 +38,7 @@ fn write_parts(
     requires { ⌜ length (sliceBytes (h .edition) (keeping (netFrom (now plan) h) (now ps) (now ts))) ≤ length (now buffer) ⌝ }
     ensures { λ r. ⌜ Answers (h .edition) (keeping (netFrom (now (plan .entry)) h) (now (ps .entry)) (now (ts .entry))) (now (buffer .entry)) (now (buffer .exit)) r ⌝ }
 {
-    let start = file::places_length(h.edition, ps.len());
+    let start = file_header::places_length(h.edition, ps.len());
     slice_parts::write_places(plan, h, ps, buffer);
     let middle = slice_arcs::write_arcs(
         plan,
@@ -76,7 +76,7 @@ fn write_if_room(
     requires { ⌜ Tables h (now ps) (now ts) (now places) (now transitions) ⌝ }
     ensures { λ r. ⌜ Answers (h .edition) (keeping (netFrom (now (plan .entry)) h) (now (ps .entry)) (now (ts .entry))) (now (buffer .entry)) (now (buffer .exit)) r ⌝ }
 {
-    let rest = file::places_length(h.edition, ps.len()) + 2 * ps.len() + 2 * ts.len() + 16;
+    let rest = file_header::places_length(h.edition, ps.len()) + 2 * ps.len() + 2 * ts.len() + 16;
     if rest + 8 * h.arcs <= buffer.len() {
         return write_parts(plan, h, ps, ts, places, transitions, buffer);
     }

@@ -9,10 +9,10 @@ use Rattle.net.specs.Numbers.{among, position}
 use Rattle.net.specs.Slice.{renumber, restrict}
 use Rattle.net.specs.declared.Arc.{Arc}
 use Rattle.net.proofs.Numbers.{by-cases}
-use Rattle.file.specs.Layout.{arcAt, arcsFrom}
+use Rattle.file_arcs.specs.Layout.{arcAt, arcsFrom}
 use Rattle.numbering.specs.Own.{ownEntry, Own}
 use Rattle.slice_arcs.specs.Between.{keptArc, keptArcs, Arcs}
-use Rattle.file.proofs.Rows.{first, later}
+use Rattle.file_arcs.proofs.Rows.{first, later}
 
 -- the entry of a kept number, and of one that is not
 module _ (os table : List ℕ) (owns : Own os table) (x : ℕ) (l : x < length table) where

@@ -5,9 +5,9 @@ use mathlib.Core.Path.{_≡_, refl, sym, ap, _∙_}
 use native.Mathlib.Omega.{arith}
 use lib.ListN.{length, getD, length-append}
 use Rattle.net.specs.declared.Arc.{Arc}
-use Rattle.file.specs.Layout.{arcAt, arcsFrom}
-use Rattle.file.specs.Writing.{arcBytes, arcsBytes}
-use Rattle.file.proofs.Laws.{arcs-cons, arcs-none}
+use Rattle.file_arcs.specs.Layout.{arcAt, arcsFrom}
+use Rattle.file_writing.specs.Writing.{arcBytes, arcsBytes}
+use Rattle.file_arcs.proofs.Laws.{arcs-cons, arcs-none}
 use Rattle.slice_arcs.specs.Between.{keptArc, keptArcs}
 
 bytes-append : (l m : List Arc) → arcsBytes (l ++ m) ≡ arcsBytes l ++ arcsBytes m

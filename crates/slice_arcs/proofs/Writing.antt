@@ -6,9 +6,9 @@ use native.Mathlib.Omega.{arith}
 use lib.ListN.{length, length-append}
 use lib.Seq.{sets, length-sets}
 use Rattle.net.specs.declared.Arc.{Arc}
-use Rattle.file.specs.Word.{bytes16}
-use Rattle.file.specs.Writing.{arcBytes, arcsBytes}
-use Rattle.file.proofs.Bytes.{length-arc}
+use Rattle.file_words.specs.Word.{bytes16}
+use Rattle.file_writing.specs.Writing.{arcBytes, arcsBytes}
+use Rattle.file_writing.proofs.Bytes.{length-arc}
 use Rattle.tables.proofs.Sets.{sets-join, sets-over}
 use Rattle.slice_arcs.specs.Between.{renumbered, keptArc, ArcsWritten}
 

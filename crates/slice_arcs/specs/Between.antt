@@ -6,7 +6,7 @@ use mathlib.Core.Path.{_≡_}
 use lib.ListN.{length, getD}
 use lib.Seq.{sets}
 use Rattle.net.specs.declared.Arc.{Arc}
-use Rattle.file.specs.Layout.{arcAt}
+use Rattle.file_arcs.specs.Layout.{arcAt}
 
 -- an arc by the entries of its transition and its place: in 16 bits one less than each, the new number
 abbrev pub renumbered : ℕ → ℕ → Arc → Arc

@@ -4,8 +4,8 @@ ghost use Prim.Native.Nat.{_+_, _<_, _≤_};
 ghost use lib.ListN.{length};
 ghost use lib.Seq.{sets};
 ghost use Rattle.net.specs.declared.Arc.{Arc};
-ghost use Rattle.file.specs.Layout.{arcsFrom};
-ghost use Rattle.file.specs.Writing.{arcBytes, arcsBytes};
+ghost use Rattle.file_arcs.specs.Layout.{arcsFrom};
+ghost use Rattle.file_writing.specs.Writing.{arcBytes, arcsBytes};
 ghost use Rattle.slice_arcs.specs.Between.{renumbered, keptArc, keptArcs, Arcs, ArcsWritten};
 use net::Arc;
 
@@ -36,7 +36,7 @@ pub fn count_arcs(
     let mut total: usize = 0;
     let mut j: usize = 0;
     while j < count {
-        let a = file::arcs::arc(plan, start + 8 * j);
+        let a = file_arcs::arc(plan, start + 8 * j);
         let t = a.transition;
         let p = a.place;
         total += one_if_kept(transitions[t], places[p]);
@@ -80,7 +80,7 @@ pub fn write_arcs(
     let mut at = first;
     let mut j: usize = 0;
     while j < count {
-        let a = file::arcs::arc(plan, start + 8 * j);
+        let a = file_arcs::arc(plan, start + 8 * j);
         let t = a.transition;
         let p = a.place;
         at = write_arc(a, transitions[t], places[p], at, buffer);

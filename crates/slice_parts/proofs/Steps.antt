@@ -11,10 +11,10 @@ use lib.ListN.{length, getD, drop}
 use borrow.Author.Tests.{eq-eqb, ne-eqb}
 use lib.Seq.{sets, drop-cons, drop-length}
 use Rattle.file.specs.Layout.{netFrom}
-use Rattle.file.specs.Word.{bytes16, bytes32}
-use Rattle.file.specs.Writing.{placeBytes, placesBytes, originsBytes}
-use Rattle.file.specs.declared.Header.{Header}
-use Rattle.file.proofs.Bytes.{length-32}
+use Rattle.file_words.specs.Word.{bytes16, bytes32}
+use Rattle.file_writing.specs.Writing.{placeBytes, placesBytes, originsBytes}
+use Rattle.file_header.specs.declared.Header.{Header}
+use Rattle.file_words.proofs.Bytes.{length-32}
 use Rattle.tables.proofs.Sets.{sets-after}
 use Rattle.slice_parts.specs.Places.{keptPlaceBytes}
 

@@ -1,7 +1,7 @@
 -- The trailer of a slice file.
 use Prim.Native.Nat.{ℕ}
 use mathlib.Core.List.{List, [], _∷_, _++_}
-use Rattle.file.specs.Word.{bytes16, bytes32}
+use Rattle.file_words.specs.Word.{bytes16, bytes32}
 
 -- "body length (4 bytes)", P, T, A (2 each), "kind (1): .. 1 slice", "edition (1)", "the letters BELL"
 unfoldable pub trailerFor : ℕ → ℕ → ℕ → ℕ → ℕ → List ℕ

@@ -4,14 +4,15 @@ ghost use mathlib.Core.Logic.{_≢_};
 ghost use Prim.Native.Nat.{ℕ, _+_, _*_, _<_, _≤_};
 ghost use lib.ListN.{length, getD};
 ghost use lib.Seq.{sets};
-ghost use Rattle.file.specs.Facts.{Placed};
-ghost use Rattle.file.specs.Layout.{netFrom, placesLength};
-ghost use Rattle.file.specs.Writing.{originsBytes};
+ghost use Rattle.file_header.specs.Facts.{Placed};
+ghost use Rattle.file_header.specs.Layout.{placesLength};
+ghost use Rattle.file.specs.Layout.{netFrom};
+ghost use Rattle.file_writing.specs.Writing.{originsBytes};
 ghost use Rattle.slice_parts.specs.Places.{keptPlaceBytes};
 ghost use Rattle.slice_parts.specs.Trailer.{trailerFor};
-use file::CAPS;
-use file::Header;
-use file::tail::LETTERS;
+use file_header::CAPS;
+use file_header::Header;
+use file_header::tail::LETTERS;
 
 // Writes the kept places in an edition without caps: 4 bytes each, the marking.
 fn write_markings(plan: &[u8], h: Header, ps: &[u16], buffer: &mut [u8])

@@ -3,8 +3,8 @@ ghost use mathlib.Core.Path.{_≡_};
 ghost use Prim.Native.Nat.{_+_, _<_, _≤_};
 ghost use lib.ListN.{length};
 ghost use lib.Seq.{sets};
-ghost use Rattle.file.specs.Word.{bytes16, bytes32};
-ghost use Rattle.file.specs.Writing.{arcBytes};
+ghost use Rattle.file_words.specs.Word.{bytes16, bytes32};
+ghost use Rattle.file_writing.specs.Writing.{arcBytes};
 use net::Arc;
 
 // A number in 2 bytes.

@@ -3,7 +3,7 @@ use Prim.Native.Nat.{ℕ, zero, suc, _+_, _*_}
 use mathlib.Core.Path.{_≡_, refl, ap, _∙_}
 use mathlib.Core.List.{List, [], _∷_, _++_}
 use native.Mathlib.Omega.{arith}
-use Rattle.file.specs.Word.{le64}
+use Rattle.file_words.specs.Word.{le64}
 use Rattle.terminal.specs.Entries.{longsFrom}
 
 pub longs-none : (s : List ℕ) (at : ℕ) → [] ≡ longsFrom s at 0

@@ -5,7 +5,7 @@ use mathlib.Core.List.{List, [], _∷_}
 use lib.ListN.{length, take}
 use Rattle.io.specs.Counts.{Counts}
 use Rattle.file.specs.Layout.{wordsFrom}
-use Rattle.file.specs.Word.{le64}
+use Rattle.file_words.specs.Word.{le64}
 
 -- the first r entries of a list are those of the bytes, as many as it takes
 pub record Decoded (bytes list : List ℕ) (r : ℕ) : Type 0 where

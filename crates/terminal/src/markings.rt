@@ -9,7 +9,7 @@ use crate::files;
 use crate::files::Loaded;
 use crate::phrases;
 use crate::say;
-use file::arcs::word;
+use file_arcs::word;
 
 // The arguments from `from` to before `end`, as many as `to` takes.
 fn numbers(from: usize, end: usize, to: &mut [u64]) -> Loaded

@@ -10,8 +10,9 @@ use Rattle.net.proofs.Markings.{tokens-are}
 use Rattle.net.proofs.Together as law
 use Rattle.file.specs.Layout.{netFrom}
 use Rattle.file.specs.Facts.{Sound}
-use Rattle.file.specs.declared.Header.{Header}
-use Rattle.file.proofs.Rows.{key-le, good-at}
+use Rattle.file_header.specs.declared.Header.{Header}
+use Rattle.file_arcs.proofs.Rows.{key-le}
+use Rattle.file.proofs.Rows.{good-at}
 use Rattle.promise.specs.Together.{standing, TogetherAnswer, togetherTold}
 use Rattle.arcs_starts.specs.Table.{slotAt, Split}
 use Rattle.arcs_column.specs.Ways.{transitionAt, directionAt}

@@ -8,7 +8,7 @@ use native.Mathlib.Nat.{mul-add, mul-le-mul-left}
 use lib.ListN.{length, getD, set, length-set}
 use lib.Seq.{getD-set-same, getD-set-other}
 use Rattle.net.specs.declared.Arc.{Arc}
-use Rattle.file.specs.Layout.{arcAt}
+use Rattle.file_arcs.specs.Layout.{arcAt}
 use Rattle.arcs_column.specs.Gain.{part}
 use Rattle.arcs_column.specs.Ways.{placeAt}
 use Rattle.arcs_column.proofs.Sums.{sum-next, sum-more, part-here, part-other}

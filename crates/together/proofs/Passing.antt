@@ -5,9 +5,9 @@ use mathlib.Core.Path.{_≡_, sym, ap, _∙_}
 use lib.Dec.{eqb, ltb, leb}
 use borrow.Author.Tests.{leb-false, ltb-false, eqb-true, not-false}
 use Rattle.net.specs.Together.{Takings}
-use Rattle.file.specs.Refusal.{refuse}
-use Rattle.file.specs.declared.Header.{Header}
-use Rattle.file.proofs.Opening.{refuse-0}
+use Rattle.file_words.specs.Refusal.{refuse}
+use Rattle.file_header.specs.declared.Header.{Header}
+use Rattle.file_words.proofs.Laws.{refuse-0}
 use Rattle.promise.specs.Together.{TogetherAnswer, togetherTold, togetherOr}
 use Rattle.together.specs.Told.{heldBack}
 

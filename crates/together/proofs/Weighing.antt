@@ -7,7 +7,7 @@ use native.Mathlib.Decide.{decLt, ℕ-discrete}
 use native.Mathlib.Nat.{mul-le-mul-left, mul-le-mul-right, div-le-self, div-mul-le-self, lt-div-mul-add}
 use lib.ListN.{length, getD}
 use Rattle.net.specs.declared.Arc.{Arc}
-use Rattle.file.specs.Layout.{arcAt}
+use Rattle.file_arcs.specs.Layout.{arcAt}
 use Rattle.arcs_column.specs.Ways.{placeAt}
 use Rattle.arcs_groups.specs.Groups.{weightAt, Stands, GroupEnd, runWeight}
 use Rattle.arcs_groups.proofs.Groups.{run-one}

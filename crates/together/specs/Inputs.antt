@@ -4,7 +4,7 @@ use mathlib.Core.List.{List}
 use mathlib.Core.Path.{_≡_}
 use lib.ListN.{length, getD}
 use Rattle.file.specs.Facts.{Sound}
-use Rattle.file.specs.declared.Header.{Header}
+use Rattle.file_header.specs.declared.Header.{Header}
 use Rattle.arcs_column.specs.Gain.{sumTo, Run}
 use Rattle.arcs_column.specs.Ways.{placeAt, transitionAt, directionAt}
 use Rattle.arcs_groups.specs.Groups.{weightAt}

@@ -3,8 +3,8 @@ use Prim.Native.Nat.{ℕ}
 use mathlib.Core.Bool.{true, false, not}
 use mathlib.Core.Path.{_≡_}
 use lib.Dec.{eqb, ltb, leb}
-use Rattle.file.specs.Refusal.{refuse}
-use Rattle.file.specs.declared.Header.{Header}
+use Rattle.file_words.specs.Refusal.{refuse}
+use Rattle.file_header.specs.declared.Header.{Header}
 use Rattle.promise.specs.Together.{TogetherAnswer}
 use Rattle.together.specs.declared.Together.{Together}
 use Rattle.together.specs.declared.Together.the-variants.{Times, Unlimited, Refused}

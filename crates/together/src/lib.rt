@@ -13,8 +13,8 @@ ghost use Rattle.together.specs.Told.{togetherNumbers, heldBack};
 ghost use Rattle.together.specs.Inputs.{drawn, OneWay, MostTimes, TakesTimes, Passed};
 use arcs_groups::group;
 use arcs_starts::first_from;
-use file::Header;
-use file::arcs::arc;
+use file_arcs::arc;
+use file_header::Header;
 
 // The largest number of times; any number; or refused.
 pub enum Together {

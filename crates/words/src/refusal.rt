@@ -1,5 +1,5 @@
 // Refusals in words: the table "Turned back, by place of checking" of paper 01, with the arc, origin, place or number that is turned back.
-use file::Due;
+use file_header::Due;
 use terminal::phrases;
 use terminal::say;
 

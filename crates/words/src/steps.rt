@@ -26,7 +26,7 @@ fn step_at(run: &[u8], at: usize)
     requires { ⌜ at + 8 ≤ length (now run) ⌝ }
 {
     before(at);
-    step(file::arcs::arc(run, at));
+    step(file_arcs::arc(run, at));
 }
 
 // Each arc of a run, and the end of the line.

@@ -2,7 +2,7 @@ use borrow.Author.Needs.{needs}
 use Prim.Native.Nat.{ℕ}
 use mathlib.Core.Path.{_≡_, sym, ap, _∙_}
 use native.Mathlib.Omega.{arith}
-use Rattle.file.specs.Word.{le16}
+use Rattle.file_words.specs.Word.{le16}
 use Rattle.arcs_groups.proofs.Groups.{only-one}
 use Rattle.arcs_groups.proofs.alone.Statement.{statement}
 use Rattle.arcs_groups.proofs.alone.Tie as tie

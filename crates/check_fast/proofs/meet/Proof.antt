@@ -5,7 +5,7 @@ use mathlib.Core.Path.{_≡_, refl, sym, _∙_, subst}
 use native.Mathlib.Omega.{arith}
 use borrow.Author.Tests.{not-false, not-true}
 use denote.Ref.{now}
-use Rattle.file.specs.Facts.{ArcWord}
+use Rattle.file_arcs.specs.Facts.{ArcWord}
 use Rattle.check_fast.specs.Pass.{keptOf}
 use Rattle.check_fast.proofs.Ends.{apart}
 use Rattle.check_fast.proofs.meet.Statement.{statement}

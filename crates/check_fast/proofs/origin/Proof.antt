@@ -6,7 +6,8 @@ use lib.ListN.{getD}
 use denote.Ref.{now}
 use Rattle.net.specs.declared.Arc.{Arc}
 use Rattle.file.specs.Layout.{sliceFrom}
-use Rattle.file.proofs.Rows.{range-at, words-at}
+use Rattle.file_arcs.proofs.Rows.{range-at}
+use Rattle.file.proofs.Rows.{words-at}
 use Rattle.rules_origins.proofs.Reached.{transition-origins}
 use Rattle.check_fast.proofs.origin.Statement.{statement}
 use Rattle.check_fast.proofs.origin.Tie as tie

@@ -47,9 +47,9 @@ use denote.Triple.Walked.{says, needs, Stays, stay-dropped, gave-ref, walkOf, go
 use denote.Exit.{yes}
 use denote.Triple.Clauses.{ensured, lasts}
 use Rattle.file.specs.Facts.{Sound}
-use Rattle.file.specs.declared.Header.{Header}
-use Rattle.file.proofs.Header as D
-use Rattle.file.proofs.Header.Laws as D′
+use Rattle.file_header.specs.declared.Header.{Header}
+use Rattle.file_header.proofs.Header as D
+use Rattle.file_header.proofs.Header.Laws as D′
 use Rattle.cut_rows.specs.Rows.{Rows}
 use Rattle.sets.specs.declared.KeptSets.{KeptSets}
 use Rattle.sets.proofs.KeptSets as T

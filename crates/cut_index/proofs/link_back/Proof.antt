@@ -4,7 +4,7 @@ use Prim.Native.Nat.{_+_, _-_, _*_}
 use mathlib.Core.Path.{_≡_, refl, sym, ap, _∙_}
 use native.Mathlib.Omega.{arith}
 use lib.ListN.{length, length-set, getD}
-use Rattle.file.specs.Word.{le16}
+use Rattle.file_words.specs.Word.{le16}
 use Rattle.arcs_groups.specs.Groups.{GroupEnd, runWeight}
 use Rattle.arcs_groups.proofs.Groups.{only-one, run-one}
 use Rattle.cut_index.specs.Steps.{arcIn}

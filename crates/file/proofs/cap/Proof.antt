@@ -2,7 +2,7 @@ use native.Mathlib.Omega.{arith}
 use Prim.Native.Nat.{_*_}
 use mathlib.Core.Path.{_≡_, sym, _∙_}
 use borrow.Author.Tests.{eq-eqb, ne-eqb}
-use Rattle.file.specs.Layout.{placesLength}
+use Rattle.file_header.specs.Layout.{placesLength}
 use Rattle.file.proofs.Caps.{cap-at, no-cap-by}
 use borrow.Author.Needs.{needs}
 use Rattle.file.proofs.cap.Statement.{statement}

@@ -3,10 +3,12 @@ use mathlib.Core.Path.{_≡_, sym, _∙_}
 use mathlib.Core.List.{List}
 use Prim.Native.Nat.{ℕ, _+_, _*_}
 use lib.ListN.{length}
-use Rattle.file.specs.Refusal.{arcsRefusal, linksRefusal, originsRefusal, tableRefusal, orElse}
-use Rattle.file.specs.declared.Header.{Header}
-use Rattle.file.proofs.Laws.{slice-part}
-use Rattle.file.proofs.Opening.{orElse-stop}
+use Rattle.file_words.specs.Refusal.{tableRefusal, orElse}
+use Rattle.file_arcs.specs.Refusal.{arcsRefusal}
+use Rattle.file.specs.Refusal.{linksRefusal, originsRefusal}
+use Rattle.file_header.specs.declared.Header.{Header}
+use Rattle.file_header.proofs.Laws.{slice-part}
+use Rattle.file_words.proofs.Laws.{orElse-stop}
 use borrow.Author.Needs.{needs}
 use Rattle.file.proofs.links_refusal.Statement.{statement}
 use Rattle.file.proofs.links_refusal.Tie as tie

@@ -6,7 +6,7 @@ use native.Mathlib.Numerals.{add-one}
 use mathlib.Core.List.{List, [], _∷_, _++_}
 use lib.ListN.{length, take, length-set}
 use lib.Seq.{take-suc-set}
-use Rattle.file.specs.Word.{le16}
+use Rattle.file_words.specs.Word.{le16}
 use Rattle.file.specs.Layout.{wordsFrom}
 use Rattle.inputs_criterion.proofs.Places.{words-more, words-none}
 use Rattle.inputs_criterion.proofs.decode.Statement.{statement}

@@ -1,4 +1,4 @@
-use Rattle.file.proofs.Opening.{orElse-stop}
+use Rattle.file_words.proofs.Laws.{orElse-stop}
 use borrow.Author.Needs.{needs}
 use Rattle.replay.proofs.held_back.Statement.{statement}
 use Rattle.replay.proofs.held_back.Tie as tie

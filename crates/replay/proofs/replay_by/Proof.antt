@@ -1,6 +1,6 @@
 use native.Mathlib.Omega.{arith}
 use lib.ListN.{length}
-use Rattle.file.specs.Word.{Bytes}
+use Rattle.file_words.specs.Word.{Bytes}
 use Rattle.arcs_starts.proofs.Reached.{tabled}
 use Rattle.replay.proofs.Loading.{listed, ready, ended}
 use borrow.Author.Needs.{needs}

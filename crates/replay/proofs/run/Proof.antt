@@ -5,8 +5,8 @@ use native.Mathlib.Omega.{arith}
 use lib.ListN.{length, getD}
 use mathlib.Core.List.{List}
 use Rattle.replay_steps.specs.Steps.{Underway}
-use Rattle.replay_steps.proofs.Underway.{Tabulated, tabulated, ready-still}
-use Rattle.replay_firing.proofs.Firing.{arcs-fit, split-by}
+use Rattle.replay_steps.proofs.Underway.{Tabulated, tabulated, ready-still, split-by}
+use Rattle.replay_firing.proofs.Firing.{arcs-fit}
 use Rattle.replay_firing.proofs.Short.{Covered, Weighed, covered-none, weigh, known}
 use Rattle.replay.proofs.Underway.{ended-fired, ended-short, firable, fired-plain}
 use borrow.Author.Needs.{needs}

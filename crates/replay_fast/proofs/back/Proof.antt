@@ -3,7 +3,7 @@ use Prim.Native.Nat.{ℕ, _+_, _-_, _%_, _^_, _≤_, _<_}
 use mathlib.Core.Path.{sym, ap, _∙_, subst}
 use native.Mathlib.Omega.{arith}
 use lib.ListN.{length, getD, set}
-use Rattle.file.specs.declared.Header.{Header}
+use Rattle.file_header.specs.declared.Header.{Header}
 use Rattle.replay_fast.specs.Moves.{Movable}
 use Rattle.replay_fast.proofs.Moving.{place-is, place-known, sub-turns, Moving, moving-none, moving-more, moving-end}
 use Rattle.replay_fast.proofs.back.Statement.{statement}

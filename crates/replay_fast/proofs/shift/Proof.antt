@@ -4,7 +4,7 @@ use mathlib.Core.Path.{sym, ap, _∙_, subst}
 use native.Mathlib.Omega.{arith}
 use lib.Bits.{bitOr}
 use lib.ListN.{length, getD, set}
-use Rattle.file.specs.declared.Header.{Header}
+use Rattle.file_header.specs.declared.Header.{Header}
 use Rattle.replay_fast.specs.Moves.{Movable}
 use Rattle.replay_fast.proofs.Moving.{place-is, place-known, Shifting, shifting-none, shifting-more, shifting-end}
 use Rattle.replay_fast.proofs.shift.Statement.{statement}

@@ -6,7 +6,8 @@ use borrow.Author.Needs.{needs}
 use Rattle.net.specs.Net.{ShortAt}
 use Rattle.file.specs.Layout.{netFrom}
 use Rattle.replay_steps.specs.Steps.{held}
-use Rattle.replay_firing.proofs.Firing.{arcs-fit, split-by}
+use Rattle.replay_steps.proofs.Underway.{split-by}
+use Rattle.replay_firing.proofs.Firing.{arcs-fit}
 use Rattle.replay_firing.proofs.Short.{Covered, Weighed, covered-none, weigh, known, supplied}
 use Rattle.replay_firing.proofs.lowest_short.Statement.{statement}
 use Rattle.replay_firing.proofs.lowest_short.Tie as tie

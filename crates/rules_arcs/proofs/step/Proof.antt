@@ -6,7 +6,7 @@ use lib.ListN.{getD}
 use denote.Ref.{now}
 use Rattle.net.specs.Checker.{sameArc}
 use Rattle.net.specs.declared.Arc.{Arc}
-use Rattle.file.specs.Layout.{arcAt}
+use Rattle.file_arcs.specs.Layout.{arcAt}
 use Rattle.rules_arcs.specs.Links.{numbered}
 use Rattle.rules_arcs.proofs.Walking.{one-word, step-out, step-end, step-same, step-other}
 use Rattle.rules_arcs.proofs.step.Statement.{statement}

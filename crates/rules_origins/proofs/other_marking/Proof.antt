@@ -5,7 +5,7 @@ use mathlib.Core.List.{List}
 use borrow.Author.Tests.{ne-eqb}
 use Rattle.net.specs.Net.{Uncapped}
 use Rattle.file.specs.Layout.{netFrom}
-use Rattle.file.specs.declared.Header.{Header}
+use Rattle.file_header.specs.declared.Header.{Header}
 use Rattle.file.proofs.Caps.{no-cap-by}
 use Rattle.rules_origins.proofs.other_marking.Statement.{statement}
 use Rattle.rules_origins.proofs.other_marking.Tie as tie

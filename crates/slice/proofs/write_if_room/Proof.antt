@@ -5,7 +5,7 @@ use native.Mathlib.Omega.{arith}
 use lib.ListN.{length}
 use Rattle.net.specs.Slice.{restrict, keeping}
 use Rattle.file.specs.Layout.{netFrom}
-use Rattle.file.specs.Writing.{sliceBytes}
+use Rattle.file_writing.specs.Writing.{sliceBytes}
 use Rattle.slice.proofs.Laws.{arcs-known, arcs-are, few-arcs, file-length, no-room}
 use Rattle.slice.proofs.write_if_room.Statement.{statement}
 use Rattle.slice.proofs.write_if_room.Tie as tie

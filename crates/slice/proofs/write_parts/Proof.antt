@@ -4,9 +4,11 @@ use mathlib.Core.Path.{_≡_, ap}
 use native.Mathlib.Omega.{arith}
 use lib.ListN.{length}
 use Rattle.net.specs.Slice.{Slice, restrict, keeping}
-use Rattle.file.specs.Layout.{placesLength, arcsFrom, netFrom}
-use Rattle.file.specs.Writing.{arcsBytes}
-use Rattle.file.proofs.Bytes.{length-arcs}
+use Rattle.file_header.specs.Layout.{placesLength}
+use Rattle.file_arcs.specs.Layout.{arcsFrom}
+use Rattle.file.specs.Layout.{netFrom}
+use Rattle.file_writing.specs.Writing.{arcsBytes}
+use Rattle.file_writing.proofs.Bytes.{length-arcs}
 use Rattle.slice_arcs.specs.Between.{keptArcs}
 use Rattle.slice.proofs.Laws.{arcs-known, arcs-are, few-arcs, file-length, parts-stored, room, kept-places, kept-transitions}
 use Rattle.slice.proofs.write_parts.Statement.{statement}

@@ -5,7 +5,7 @@ use mathlib.Core.Path.{_≡_, ap}
 use native.Mathlib.Omega.{arith}
 use lib.ListN.{length}
 use Rattle.net.specs.declared.Arc.{Arc}
-use Rattle.file.specs.Layout.{arcsFrom}
+use Rattle.file_arcs.specs.Layout.{arcsFrom}
 use Rattle.slice_arcs.specs.Between.{keptArcs}
 use Rattle.slice_arcs.proofs.Steps.{arcsAt, arcs-all, next-count, none-left}
 use Rattle.slice_arcs.proofs.count_arcs.Statement.{statement}

@@ -1,6 +1,6 @@
 use borrow.Author.Needs.{needs}
 use native.Mathlib.Omega.{arith}
-use Rattle.file.proofs.Bytes.{length-arcs}
+use Rattle.file_writing.proofs.Bytes.{length-arcs}
 use Rattle.slice_arcs.specs.Between.{keptArc}
 use Rattle.slice_arcs.proofs.write_arc.Statement.{statement}
 use Rattle.slice_arcs.proofs.write_arc.Tie as tie

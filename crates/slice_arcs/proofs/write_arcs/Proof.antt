@@ -5,8 +5,8 @@ use mathlib.Core.Path.{_≡_, ap, _∙_}
 use native.Mathlib.Omega.{arith}
 use lib.ListN.{length, getD}
 use Rattle.net.specs.declared.Arc.{Arc}
-use Rattle.file.specs.Layout.{arcsFrom}
-use Rattle.file.specs.Writing.{arcsBytes}
+use Rattle.file_arcs.specs.Layout.{arcsFrom}
+use Rattle.file_writing.specs.Writing.{arcsBytes}
 use Rattle.slice_arcs.specs.Between.{keptArcs}
 use Rattle.slice_arcs.proofs.Steps.{arcsAt, arcs-all, next-bytes, none-left, no-bytes}
 use Rattle.slice_arcs.proofs.Writing.{Writing, writing-all, writing-as, writing-arc, written}

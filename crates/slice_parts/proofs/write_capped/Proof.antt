@@ -5,8 +5,8 @@ use mathlib.Core.Path.{_≡_, refl}
 use native.Mathlib.Omega.{arith}
 use lib.ListN.{length, getD, length-append}
 use Rattle.file.specs.Layout.{netFrom}
-use Rattle.file.specs.Word.{bytes32}
-use Rattle.file.proofs.Bytes.{length-32}
+use Rattle.file_words.specs.Word.{bytes32}
+use Rattle.file_words.proofs.Bytes.{length-32}
 use Rattle.tables.proofs.Storing.{Storing, storing-all, storing-as, storing-part, storing-none}
 use Rattle.slice_parts.specs.Places.{keptPlaceBytes}
 use Rattle.slice_parts.proofs.Steps.{placesFrom, places-all, capped-next, two-stored, places-end}

@@ -3,9 +3,9 @@ use Prim.Native.Nat.{_+_, _-_, _*_, _≤_}
 use mathlib.Core.Path.{_≡_}
 use native.Mathlib.Omega.{arith}
 use lib.ListN.{length, getD, drop}
-use Rattle.file.specs.Word.{bytes16}
-use Rattle.file.specs.Writing.{originsBytes}
-use Rattle.file.proofs.Bytes.{length-16}
+use Rattle.file_words.specs.Word.{bytes16}
+use Rattle.file_writing.specs.Writing.{originsBytes}
+use Rattle.file_words.proofs.Bytes.{length-16}
 use Rattle.tables.proofs.Storing.{Storing, storing-all, storing-as, storing-from, storing-part, storing-none}
 use Rattle.slice_parts.proofs.Steps.{origins-next, origins-end}
 use Rattle.slice_parts.proofs.write_origins.Statement.{statement}

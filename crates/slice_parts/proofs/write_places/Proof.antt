@@ -2,7 +2,7 @@ use borrow.Author.Needs.{needs}
 use native.Mathlib.Omega.{arith}
 use lib.ListN.{length}
 use borrow.Author.Tests.{eq-eqb}
-use Rattle.file.proofs.Laws.{places-least}
+use Rattle.file_header.proofs.Laws.{places-least}
 use Rattle.slice_parts.proofs.write_places.Statement.{statement}
 use Rattle.slice_parts.proofs.write_places.Tie as tie
 

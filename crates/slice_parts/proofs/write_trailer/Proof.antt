@@ -4,7 +4,7 @@ use mathlib.Core.List.{List, _++_}
 use mathlib.Core.Path.{ap, _∙_}
 use native.Mathlib.Omega.{arith}
 use lib.Seq.{sets}
-use Rattle.file.specs.Word.{bytes16, bytes32}
+use Rattle.file_words.specs.Word.{bytes16, bytes32}
 use Rattle.slice_parts.specs.Trailer.{trailerFor}
 use Rattle.tables.proofs.Sets.{sets-after}
 use Rattle.slice_parts.proofs.Steps.{kind-edition}

@@ -2,7 +2,7 @@ use borrow.Author.Needs.{needs}
 use native.Mathlib.Omega.{arith}
 use native.Mathlib.Numerals.{add-one}
 use lib.ListN.{length-set}
-use Rattle.file.specs.Word.{bytes16}
+use Rattle.file_words.specs.Word.{bytes16}
 use Rattle.slice_put.proofs.put16.Statement.{statement}
 use Rattle.slice_put.proofs.put16.Tie as tie
 

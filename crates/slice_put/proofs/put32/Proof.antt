@@ -1,7 +1,7 @@
 use borrow.Author.Needs.{needs}
 use Prim.Native.Nat.{_+_, _/_}
 use native.Mathlib.Omega.{arith}
-use Rattle.file.specs.Word.{bytes16, bytes32}
+use Rattle.file_words.specs.Word.{bytes16, bytes32}
 use Rattle.tables.proofs.Sets.{sets-after}
 use Rattle.slice_put.proofs.put32.Statement.{statement}
 use Rattle.slice_put.proofs.put32.Tie as tie

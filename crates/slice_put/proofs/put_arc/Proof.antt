@@ -4,8 +4,8 @@ use native.Mathlib.Omega.{arith}
 use mathlib.Core.Path.{_≡_, ap, _∙_}
 use mathlib.Core.List.{List, [], _∷_, _++_}
 use lib.Seq.{sets}
-use Rattle.file.specs.Word.{bytes16}
-use Rattle.file.specs.Writing.{arcBytes}
+use Rattle.file_words.specs.Word.{bytes16}
+use Rattle.file_writing.specs.Writing.{arcBytes}
 use Rattle.tables.proofs.Sets.{sets-after}
 use Rattle.slice_put.proofs.put_arc.Statement.{statement}
 use Rattle.slice_put.proofs.put_arc.Tie as tie

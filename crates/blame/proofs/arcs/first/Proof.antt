@@ -1,7 +1,7 @@
 use mathlib.Core.Path.{_≡_, refl, sym, ap, _∙_}
 use native.Mathlib.Omega.{arith}
 use lib.ListN.{length}
-use Rattle.file.specs.Facts.{Placed}
+use Rattle.file_header.specs.Facts.{Placed}
 use Rattle.blame.specs.Arcs.{arcOf}
 use Rattle.blame.proofs.Heads.{placed, arc-answer}
 use borrow.Author.Needs.{needs}

@@ -3,7 +3,7 @@ use Prim.Native.Nat.{ℕ, _+_, _*_, _≤_}
 use mathlib.Core.Path.{_≡_, sym, ap, _∙_}
 use lib.ListN.{length}
 use borrow.Author.Tests.{eq-eqb, ne-eqb}
-use Rattle.file.specs.Layout.{placesLength}
+use Rattle.file_header.specs.Layout.{placesLength}
 use Rattle.blame.specs.Capacity.{placeOf}
 use Rattle.blame.proofs.Heads.{placed, places-inside, no-places, place-answer}
 use borrow.Author.Needs.{needs}

@@ -2,11 +2,12 @@ use mathlib.Core.Path.{_≡_, refl, sym, ap, _∙_}
 use mathlib.Core.Bool.{false}
 use lib.ListN.{length}
 use borrow.Author.Tests.{lt-ltb, le-ltb}
-use Rattle.file.specs.Layout.{trailerOf, headerOf, headerFrom}
-use Rattle.file.specs.Refusal.{lengthWrong, trailerRefusal}
-use Rattle.file.specs.declared.Trailer.{Trailer}
-use Rattle.file.specs.declared.Due.the-variants.{Either}
-use Rattle.file.proofs.Opening.{trailer-counts, trailer-fits}
+use Rattle.file_header.specs.Layout.{trailerOf, headerOf, headerFrom}
+use Rattle.file_header.specs.Refusal.{trailerRefusal}
+use Rattle.file.specs.Refusal.{lengthWrong}
+use Rattle.file_header.specs.declared.Trailer.{Trailer}
+use Rattle.file_header.specs.declared.Due.the-variants.{Either}
+use Rattle.file_header.proofs.Opening.{trailer-counts, trailer-fits}
 use Rattle.blame.proofs.Heads.{by-length, by-trailer, by-header}
 use borrow.Author.Needs.{needs}
 use Rattle.blame.proofs.head.head.Statement.{statement}

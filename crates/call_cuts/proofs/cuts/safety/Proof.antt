@@ -4,7 +4,7 @@ use Prim.Native.Nat.{ℕ}
 use mathlib.Core.Path.{_≡_, sym, _∙_}
 use Rattle.file.specs.Facts.{Opened}
 use Rattle.file.specs.Criterion.{criterionRefusal}
-use Rattle.file.specs.declared.Due.the-variants as due
+use Rattle.file_header.specs.declared.Due.the-variants as due
 use Rattle.file.proofs.Opening.{opened, turned-back}
 use Rattle.call_cuts.proofs.Cutting.{by-file, by-criterion, safety-refused, safety-untouched, safety-within, safety-written, safety-all}
 use Rattle.call_cuts.proofs.cuts.safety.Statement.{statement}

@@ -7,7 +7,7 @@ use Rattle.net.specs.Net.{hasCaps}
 use Rattle.file.specs.Facts.{Opened}
 use Rattle.file.specs.Layout.{netFrom}
 use Rattle.file.specs.Criterion.{criterionRefusal}
-use Rattle.file.specs.declared.Due.the-variants as due
+use Rattle.file_header.specs.declared.Due.the-variants as due
 use Rattle.file.proofs.Opening.{opened, turned-back}
 use Rattle.call_cuts.proofs.Running.{by-file, by-caps, by-criterion, run-refused, run-passed, run-all}
 use Rattle.call_cuts.proofs.recorded.run_cut.Statement.{statement}

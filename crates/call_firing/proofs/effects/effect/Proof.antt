@@ -2,7 +2,7 @@ use borrow.Author.Needs.{needs}
 use mathlib.Core.Path.{_∙_}
 use mir.Facts.{toZ-ofZ}
 use Rattle.file.specs.Facts.{Opened}
-use Rattle.file.specs.declared.Due.the-variants.{Either}
+use Rattle.file_header.specs.declared.Due.the-variants.{Either}
 use Rattle.file.proofs.Opening.{opened, turned-back}
 use Rattle.call_firing.proofs.Changes.{effect-file, effect-10, effect-12, effect-by}
 use Rattle.call_firing.proofs.effects.effect.Statement.{statement}

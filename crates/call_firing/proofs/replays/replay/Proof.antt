@@ -1,5 +1,5 @@
 use Rattle.file.specs.Facts.{Opened}
-use Rattle.file.specs.declared.Due.the-variants.{Either}
+use Rattle.file_header.specs.declared.Due.the-variants.{Either}
 use Rattle.file.proofs.Opening.{opened, turned-back}
 use Rattle.call_firing.proofs.Replayed.{file-answer, file-marking, read-answer, read-marking}
 use borrow.Author.Needs.{needs}

@@ -3,7 +3,7 @@ use mathlib.Core.Path.{_≡_, sym, ap, _∙_, refl}
 use native.Mathlib.Omega.{arith}
 use lib.ListN.{length}
 use Rattle.file.specs.Facts.{Opened}
-use Rattle.file.specs.declared.Due.the-variants as due
+use Rattle.file_header.specs.declared.Due.the-variants as due
 use Rattle.file.proofs.Opening.{opened}
 use Rattle.call_firing.proofs.ArcRuns.{not-read, plan-refused, slice-refused, no-start, of-slice, of-plan, start-of-slice, start-of-plan}
 use Rattle.call_firing.proofs.runs.arc_part.Statement.{statement}

@@ -2,7 +2,7 @@ use borrow.Author.Needs.{needs}
 use mathlib.Core.Path.{_≡_, sym, ap, _∙_, refl}
 use native.Mathlib.Omega.{arith}
 use Rattle.file.specs.Facts.{Opened}
-use Rattle.file.specs.declared.Due.the-variants as due
+use Rattle.file_header.specs.declared.Due.the-variants as due
 use Rattle.file.proofs.Opening.{opened}
 use Rattle.call_firing.proofs.ArcRuns.{not-read, plan-refused, slice-refused, of-slice, of-plan}
 use Rattle.call_firing.proofs.runs.arcs.Statement.{statement}

@@ -1,7 +1,7 @@
 use native.Mathlib.Omega.{arith}
-use Rattle.file.specs.Word.{Bytes}
+use Rattle.file_words.specs.Word.{Bytes}
 use Rattle.file.specs.Facts.{Opened}
-use Rattle.file.specs.declared.Due.the-variants as due
+use Rattle.file_header.specs.declared.Due.the-variants as due
 use Rattle.file.proofs.Opening.{opened, turned-back}
 use Rattle.call_firing.proofs.Followed.{slice-kind, by-plan, by-slice, both-read, ensured}
 use borrow.Author.Needs.{needs}

@@ -1,5 +1,5 @@
 use Rattle.file.specs.Facts.{Opened}
-use Rattle.file.specs.declared.Due.the-variants.{Plan}
+use Rattle.file_header.specs.declared.Due.the-variants.{Plan}
 use Rattle.file.proofs.Opening.{opened, turned-back}
 use Rattle.call_firing.proofs.Taken.{file-refused, answered}
 use borrow.Author.Needs.{needs}

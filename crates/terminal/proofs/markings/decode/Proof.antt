@@ -6,7 +6,7 @@ use native.Mathlib.Numerals.{add-one}
 use mathlib.Core.List.{List, [], _∷_, _++_}
 use lib.ListN.{length, take, length-set}
 use lib.Seq.{take-suc-set}
-use Rattle.file.specs.Word.{le64}
+use Rattle.file_words.specs.Word.{le64}
 use Rattle.terminal.specs.Entries.{longsFrom}
 use Rattle.terminal.proofs.Longs.{longs-more, longs-none}
 use Rattle.terminal.proofs.markings.decode.Statement.{statement}

@@ -1,0 +1,5 @@
+pub mod Laws
+pub mod Marks
+pub mod Opening
+pub mod Rows
+pub mod Words

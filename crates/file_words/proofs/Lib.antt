@@ -1,0 +1,5 @@
+pub mod Bytes
+pub mod Laws
+pub mod Rising
+pub mod Through
+pub mod Words
