@@ -5,8 +5,8 @@ ghost use Rattle.promise.specs.Calls.{safetyAnswer, safetyBuffer, branchingAnsw
 ghost use Rattle.promise.specs.Promise.{WritesSmallest};
 ghost use Rattle.slice.specs.Kept.{cutNumbers};
 use cut::Kind;
-use file_header::Due;
 use file::Reading;
+use file_header::Due;
 use slice::Cut;
 
 // The safety cut: writes the smallest slice that the check accepts for the plan and the criterion.
@@ -24,7 +24,7 @@ pub fn safety(plan: &[u8], criterion: &[u16], buffer: &mut [u8]) -> Cut
         return Cut::Refused(broken);
     }
     let kept = cut::kept(plan, h, criterion, Kind::Safety);
-    slice::write(plan, h, kept, buffer)
+    slice::write(plan, h, &kept.places, &kept.transitions, buffer)
 }
 
 // The branching cut.
@@ -41,5 +41,5 @@ pub fn branching(plan: &[u8], criterion: &[u16], buffer: &mut [u8]) -> Cut
         return Cut::Refused(broken);
     }
     let kept = cut::kept(plan, h, criterion, Kind::Branching);
-    slice::write(plan, h, kept, buffer)
+    slice::write(plan, h, &kept.places, &kept.transitions, buffer)
 }

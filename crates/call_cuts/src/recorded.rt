@@ -3,8 +3,8 @@ ghost use mathlib.Core.Path.{_≡_};
 ghost use lib.ListN.{length};
 ghost use Rattle.promise.specs.RunCut.{runAnswer, runBuffer, runPositions, RunsBack};
 ghost use Rattle.run_cut.specs.Told.{runNumbers};
-use file_header::Due;
 use file::Reading;
+use file_header::Due;
 use run_cut::RunCut;
 
 // Writes the slice of what fed the places of the criterion in the list, and the positions of the firings that did. The slice is for that run: the check need not accept it.

@@ -14,10 +14,11 @@ use Rattle.file.proofs.Criterion.{passed}
 use Rattle.file.proofs.Rows.{rising-from}
 use Rattle.sets.specs.Member.{member}
 use Rattle.tables.proofs.Zeros.{zeros-at}
+use Rattle.sets.proofs.Members.{none}
 use Rattle.slice.specs.Kept.{keptSlice}
 use Rattle.run_feed.specs.Back.{Known, Entered, endOf, Back}
 use Rattle.run_feed.proofs.Ends.{begun, finished-places, finished-transitions, finished-slice, finished-positions, finished-end}
-use Rattle.run_cut.specs.Parts.{Given, Lent, Cleared, chosenBy, FedBy}
+use Rattle.run_cut.specs.Parts.{Given, Lent, Cleared, Empty, chosenBy, FedBy}
 
 -- a plan that a size of tables holds
 pub sized : (p a t n m : ℕ) → (leb p n && leb a m) && leb t n ≡ true → (p ≤ n) × (a ≤ m) × (t ≤ n)
@@ -38,6 +39,10 @@ lent h n m p a t = record {
 
 pub cleared : (h : Header) (n : ℕ) → h .transitions ≤ n → Cleared h (replicate n 0)
 cleared h n t = record { long = omega (arith, length-replicate {A = ℕ} n 0); none = zeros-at n }
+
+-- sixteen words of 0 are an empty set
+pub empty : Empty (replicate 16 0)
+empty = record { long = length-replicate {A = ℕ} 16 0; none = none }
 
 module _ (s : List ℕ) (h : Header) (Q list : List ℕ) (g : Given s h Q list) where
   pub criterion-known : Known h Q

@@ -1,5 +1,6 @@
 -- The parts of a run cut: for the contracts of its functions, not for a reader of the call.
 use Prim.Native.Nat.{ℕ, _*_, _≤_, _<_}
+use mathlib.Core.Bool.{false}
 use mathlib.Core.List.{List}
 use mathlib.Core.Path.{_≡_}
 use lib.Dec.{ltb}
@@ -11,6 +12,7 @@ use Rattle.file.specs.Layout.{netFrom}
 use Rattle.file.specs.Facts.{Sound}
 use Rattle.file.specs.Criterion.{criterionRefusal}
 use Rattle.file_header.specs.declared.Header.{Header}
+use Rattle.sets.specs.Member.{member}
 use Rattle.sets.specs.declared.KeptSets.{KeptSets}
 use Rattle.slice.specs.Kept.{keptSlice, Within}
 use Rattle.run_feed.specs.Back.{endOf}
@@ -35,6 +37,11 @@ pub record Lent (h : Header) (head next first : List ℕ) : Type 0 where
 pub record Cleared (h : Header) (last : List ℕ) : Type 0 where
   pub long : h .transitions ≤ length last
   pub none : (t : ℕ) → getD last t 0 ≡ 0
+
+-- a set with no members
+pub record Empty (words : List ℕ) : Type 0 where
+  pub long : length words ≡ 16
+  pub none : (n : ℕ) → member words n ≡ false
 
 -- the positions that the entries of `last` tell: firing i is chosen if it is below the entry of its transition
 unfoldable pub chosenBy : List ℕ → List ℕ → List ℕ

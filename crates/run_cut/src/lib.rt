@@ -13,11 +13,11 @@ ghost use Rattle.promise.specs.Firing.{listRefusal, replayOr};
 ghost use Rattle.promise.specs.RunCut.{runOutcome};
 ghost use Rattle.replay.specs.Told.{outcomeNumbers};
 ghost use Rattle.run_feed.specs.Back.{endOf};
+ghost use Rattle.slice.specs.Kept.{keptPair};
 ghost use Rattle.run_cut.specs.Told.{answerTo, Answers};
-ghost use Rattle.run_cut.specs.Parts.{Given, Lent, Cleared, chosenBy, Reached, FedBy};
+ghost use Rattle.run_cut.specs.Parts.{Given, Lent, Cleared, Empty, chosenBy, Reached, FedBy};
 use file_header::Header;
 use replay::Outcome;
-use sets::KeptSets;
 use slice::Cut;
 use tables::LARGE;
 use tables::LARGE_ARCS;
@@ -32,13 +32,6 @@ pub enum RunCut {
     Written(u32, u32, u32, u32),
     Sticks(u32, u32, u32),
     Refused(u32),
-}
-
-// What fed the criterion: the places and the transitions of the slice, and one more than the last chosen firing.
-struct Traced {
-    places: [u64; 16],
-    transitions: [u64; 16],
-    end: usize,
 }
 
 // Firing i counts where it is below the entry of its transition.
@@ -91,34 +84,36 @@ fn write_positions(list: &[u16], last: &[u16], end: usize, positions: &mut [u16]
 }
 
 // Writes the slice and the positions, or neither where one has no room.
-fn write(
+fn write<'a>(
     plan: &[u8],
     h: Header,
     criterion: &[u16],
     list: &[u16],
     last: &[u16],
-    kept: KeptSets,
+    places: &'a [u64; 16],
+    transitions: &'a [u64; 16],
     end: usize,
     buffer: &mut [u8],
     positions: &mut [u16],
 ) -> RunCut
     requires { ⌜ Given (now plan) h (now criterion) (now list) ⌝ }
-    requires { ⌜ FedBy (now plan) h (now criterion) (now list) (now last) kept end ⌝ }
+    requires { ⌜ FedBy (now plan) h (now criterion) (now list) (now last) (keptPair (now places) (now transitions)) end ⌝ }
     ensures { λ r. ⌜ Answers (now (plan .entry)) h (now (criterion .entry)) (now (list .entry)) (runOutcome (h .edition) (netFrom (now (plan .entry)) h) (now (criterion .entry)) (now (list .entry)) (length (now (buffer .entry))) (length (now (positions .entry)))) (now (buffer .entry)) (now (buffer .exit)) (now (positions .entry)) (now (positions .exit)) r ⌝ }
 {
     if lacks(list, last, end, positions.len()) {
         return RunCut::Refused(13);
     }
-    let slice = slice::write(plan, h, kept, buffer);
-    let Cut::Written(bytes, places, transitions) = slice else {
+    let slice = slice::write(plan, h, places, transitions, buffer);
+    let Cut::Written(bytes, np, nt) = slice else {
         return RunCut::Refused(13);
     };
     let count = write_positions(list, last, end, positions);
     let chosen = count as u32;
-    RunCut::Written(bytes, places, transitions, chosen)
+    RunCut::Written(bytes, np, nt, chosen)
 }
 
-// What fed the criterion, by tables that the caller lends: `last` gets one more than the last chosen firing of each transition.
+// What fed the criterion, by tables that the caller lends: its places and transitions are added to two empty sets, and `last` gets one more than the last chosen firing of each transition.
+// The answer is one more than the last of all.
 fn fed_by(
     plan: &[u8],
     h: Header,
@@ -128,32 +123,28 @@ fn fed_by(
     next: &mut [u32],
     first: &mut [u16],
     last: &mut [u16],
-) -> Traced
+    places: &mut [u64; 16],
+    transitions: &mut [u64; 16],
+) -> usize
     requires { ⌜ Given (now plan) h (now criterion) (now list) ⌝ }
     requires { ⌜ Lent h (now head) (now next) (now first) × Cleared h (now last) ⌝ }
-    ensures { λ r. ⌜ FedBy (now (plan .entry)) h (now (criterion .entry)) (now (list .entry)) (now (last .exit)) (record { places = r .places; transitions = r .transitions }) (r .end) ⌝ }
+    requires { ⌜ Empty (now places) × Empty (now transitions) ⌝ }
+    ensures { λ r. ⌜ FedBy (now (plan .entry)) h (now (criterion .entry)) (now (list .entry)) (now (last .exit)) (keptPair (now (places .exit)) (now (transitions .exit))) r ⌝ }
 {
     cut_index::index(plan, h, head, next);
-    let mut places = [0u64; 16];
-    let mut transitions = [0u64; 16];
-    run_feed::enter_criterion(plan, h, head, next, last, criterion, &mut places, first);
-    let end = run_feed::back(
+    run_feed::enter_criterion(plan, h, head, next, last, criterion, places, first);
+    run_feed::back(
         plan,
         h,
         head,
         next,
         criterion,
         list,
-        &mut places,
-        first,
-        &mut transitions,
-        last,
-    );
-    Traced {
         places,
+        first,
         transitions,
-        end,
-    }
+        last,
+    )
 }
 
 // The run cut where the list fires, by tables that the caller lends.
@@ -173,21 +164,29 @@ fn write_by(
     requires { ⌜ Lent h (now head) (now next) (now first) × Cleared h (now last) ⌝ }
     ensures { λ r. ⌜ Answers (now (plan .entry)) h (now (criterion .entry)) (now (list .entry)) (runOutcome (h .edition) (netFrom (now (plan .entry)) h) (now (criterion .entry)) (now (list .entry)) (length (now (buffer .entry))) (length (now (positions .entry)))) (now (buffer .entry)) (now (buffer .exit)) (now (positions .entry)) (now (positions .exit)) r ⌝ }
 {
-    let f = fed_by(plan, h, criterion, list, head, next, first, last);
-    let places = f.places;
-    let transitions = f.transitions;
-    let kept = KeptSets {
-        places,
-        transitions,
-    };
+    let mut places = [0u64; 16];
+    let mut transitions = [0u64; 16];
+    let end = fed_by(
+        plan,
+        h,
+        criterion,
+        list,
+        head,
+        next,
+        first,
+        last,
+        &mut places,
+        &mut transitions,
+    );
     write(
         plan,
         h,
         criterion,
         list,
         last,
-        kept,
-        f.end,
+        &places,
+        &transitions,
+        end,
         buffer,
         positions,
     )

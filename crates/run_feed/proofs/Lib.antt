@@ -1,3 +1,4 @@
 pub mod Raising
 pub mod Stepping
 pub mod Ends
+pub mod Passing

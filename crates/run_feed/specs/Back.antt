@@ -48,10 +48,14 @@ pub record Entered (s : List ℕ) (h : Header) (new : ℕ → Bool) (last places
   pub places-long : length places′ ≡ 16
   pub first-long : length first′ ≡ length first
 
+-- none of the firings r..k waits
+abbrev pub PassedBy : List ℕ → List ℕ → ℕ → ℕ → Type 0
+PassedBy ts first r k = (i : ℕ) → r ≤ i → i < k → getD first (getD ts i 0) 0 ≡ 0
+
 -- going back from firing k, the first one met whose transition waits is the one before r; there is none where r is 0
 pub record Met (ts first : List ℕ) (k r : ℕ) : Type 0 where
   pub within : r ≤ k
-  pub passed : (i : ℕ) → r ≤ i → i < k → getD first (getD ts i 0) 0 ≡ 0
+  pub passed : PassedBy ts first r k
   pub waiting : 0 < r → 0 < getD first (getD ts (r - 1) 0) 0
 
 -- one past the last of the positions; 0 where there is none

@@ -1,6 +1,7 @@
 // Back over a recorded run: which firings fed the places of the criterion (document 02, A1; source document 002, algorithm 2).
 // A transition that raises a place of W is drawn in, and waits for a firing of it: `first` gets one more than the arc with which its arcs start. When one is met it is chosen, and the entry is 0 again. So a firing is looked at once, by one entry, and most often nothing is to be done.
 ghost use mathlib.Core.Path.{_≡_};
+ghost use mathlib.Core.Bool.{true};
 ghost use Prim.Native.Nat.{ℕ, _+_, _*_, _-_, _<_, _≤_};
 ghost use lib.Dec.{eqb};
 ghost use lib.ListN.{length, getD};
@@ -10,7 +11,7 @@ ghost use Rattle.file.specs.Facts.{Sound};
 ghost use Rattle.file.specs.Layout.{netFrom};
 ghost use Rattle.arcs_starts.specs.Table.{choose, Split};
 ghost use Rattle.cut_rows.specs.Rows.{Rows};
-ghost use Rattle.run_feed.specs.Back.{Known, RaisersAdded, Entered, Met, Back};
+ghost use Rattle.run_feed.specs.Back.{Known, RaisersAdded, Entered, PassedBy, Met, Back};
 use file_arcs::arc;
 use file_header::Header;
 use tables::entry;
@@ -119,15 +120,49 @@ pub fn enter_criterion(
     }
 }
 
+// The entry of the transition of firing i: 0 where it does not wait.
+fn waiting(list: &[u16], first: &[u16], i: usize) -> usize
+    requires { ⌜ (i < length (now list)) × ((j : ℕ) → j < length (now list) → getD (now list) j 0 < length (now first)) ⌝ }
+    ensures { λ r. ⌜ (r ≡ getD (now (first .entry)) (getD (now (list .entry)) i 0) 0) × (r < 65536) ⌝ }
+{
+    entry(first, wide(list[i]))
+}
+
+// Does none of the four firings from i on wait?
+fn four_pass(list: &[u16], first: &[u16], i: usize) -> bool
+    requires { ⌜ (i + 4 ≤ length (now list)) × ((j : ℕ) → j < length (now list) → getD (now list) j 0 < length (now first)) ⌝ }
+    ensures { λ r. ⌜ (r ≡ true → PassedBy (now (list .entry)) (now (first .entry)) i (i + 4)) ⌝ }
+{
+    let a = waiting(list, first, i);
+    let b = waiting(list, first, i + 1);
+    let c = waiting(list, first, i + 2);
+    let d = waiting(list, first, i + 3);
+    a + b + c + d == 0
+}
+
+// Going back from firing k, four at a time: where it comes to, with none that waits on the way.
+fn pass(list: &[u16], first: &[u16], k: usize) -> usize
+    requires { ⌜ (k ≤ length (now list)) × ((i : ℕ) → i < length (now list) → getD (now list) i 0 < length (now first)) ⌝ }
+    ensures { λ r. ⌜ (r ≤ k) × PassedBy (now (list .entry)) (now (first .entry)) r k ⌝ }
+{
+    let mut i = k;
+    while 16 <= i {
+        if !four_pass(list, first, i - 4) {
+            return i;
+        }
+        i -= 4;
+    }
+    i
+}
+
 // Going back from firing k, one more than the first one met whose transition waits; 0 where there is none.
 fn met(list: &[u16], first: &[u16], k: usize) -> usize
     requires { ⌜ (k ≤ length (now list)) × ((i : ℕ) → i < length (now list) → getD (now list) i 0 < length (now first)) ⌝ }
     ensures { λ r. ⌜ Met (now (list .entry)) (now (first .entry)) k r ⌝ }
 {
-    let mut i = k;
+    let mut i = pass(list, first, k);
     while 0 < i {
-        let t = wide(list[i - 1]);
-        if entry(first, t) != 0 {
+        if waiting(list, first, i - 1) != 0 {
             return i;
         }
         i -= 1;

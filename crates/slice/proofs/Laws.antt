@@ -15,15 +15,14 @@ use Rattle.net.proofs.Markings.{below-at}
 use Rattle.net.proofs.Numbers.{by-cases, among-at, below-passes, selected-rises, length-selected}
 use Rattle.file_arcs.specs.Facts.{ArcGood}
 use Rattle.file.specs.Facts.{Sound}
-use Rattle.file_header.specs.Layout.{placesLength}
 use Rattle.file_arcs.specs.Layout.{arcAt, arcsFrom}
+use Rattle.file_header.specs.Layout.{placesLength}
 use Rattle.file.specs.Layout.{netFrom}
 use Rattle.file_words.specs.Word.{bytes16, bytes32}
 use Rattle.file_writing.specs.Writing.{arcsBytes, originsBytes, sliceBody, trailerBytes, sliceBytes}
 use Rattle.file_header.specs.declared.Header.{Header}
 use Rattle.file_writing.proofs.Bytes.{length-places, length-origins, length-arcs}
-use Rattle.file_arcs.proofs.Rows.{length-arcsFrom}
-use Rattle.file_arcs.proofs.Rows.{range-at}
+use Rattle.file_arcs.proofs.Rows.{length-arcsFrom, range-at}
 use Rattle.slice_arcs.specs.Between.{keptArcs, Arcs, ArcsWritten}
 use Rattle.slice_arcs.proofs.Restricted.{arcs-restricted}
 use Rattle.slice_parts.specs.Trailer.{trailerFor}

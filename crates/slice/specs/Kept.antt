@@ -27,6 +27,10 @@ cutNumbers (Refused k) = record { refused = true; refusal = k; length = 0; place
 abbrev pub ToldApart : Type 0
 ToldApart = (a b : Cut) → cutNumbers a ≡ cutNumbers b → a ≡ b
 
+-- the pair of kept sets, from the two
+abbrev pub keptPair : List ℕ → List ℕ → KeptSets
+keptPair places transitions = record { places = places; transitions = transitions }
+
 -- each kept place is one of the plan's, and so is each kept transition
 pub record Within (kept : KeptSets) (h : Header) : Type 0 where
   pub places : (p : ℕ) → member (kept .places) p ≡ true → p < h .places

@@ -8,10 +8,9 @@ ghost use Rattle.file.specs.Facts.{Sound};
 ghost use Rattle.file.specs.Layout.{netFrom};
 ghost use Rattle.file_writing.specs.Writing.{sliceBytes};
 ghost use Rattle.promise.specs.Calls.{cutAnswer, written};
-ghost use Rattle.slice.specs.Kept.{cutNumbers, keptSlice, roomRefusal, Answers, Within};
+ghost use Rattle.slice.specs.Kept.{cutNumbers, keptPair, keptSlice, roomRefusal, Answers, Within};
 ghost use Rattle.slice.specs.Parts.{Cleared, Listable, Lists, MembersListed, Tables};
 use file_header::Header;
-use sets::KeptSets;
 use tables::LARGE;
 use tables::MIDDLE;
 use tables::SMALL;
@@ -118,114 +117,141 @@ fn list_members(words: &[u64; 16], n: usize, list: &mut [u16]) -> usize
     count
 }
 
-// The same, once the kept numbers are listed.
+// The same from the kept sets, with tables for the members of each and for their new numbers.
 fn write_sets(
     plan: &[u8],
     h: Header,
-    kept: KeptSets,
+    places: &[u64; 16],
+    transitions: &[u64; 16],
     ps: &mut [u16],
     ts: &mut [u16],
-    places: &mut [u16],
-    transitions: &mut [u16],
+    pn: &mut [u16],
+    tn: &mut [u16],
     buffer: &mut [u8],
 ) -> Cut
     requires { ⌜ Sound (now plan) h ⌝ }
-    requires { ⌜ Within kept h ⌝ }
+    requires { ⌜ Within (keptPair (now places) (now transitions)) h ⌝ }
     requires { ⌜ (h .places ≤ length (now ps)) × (h .transitions ≤ length (now ts)) ⌝ }
-    requires { ⌜ Cleared (h .places) (now places) × Cleared (h .transitions) (now transitions) ⌝ }
-    ensures { λ r. ⌜ Answers (h .edition) (keptSlice (now (plan .entry)) h kept) (now (buffer .entry)) (now (buffer .exit)) r ⌝ }
+    requires { ⌜ Cleared (h .places) (now pn) × Cleared (h .transitions) (now tn) ⌝ }
+    ensures { λ r. ⌜ Answers (h .edition) (keptSlice (now (plan .entry)) h (keptPair (now (places .entry)) (now (transitions .entry)))) (now (buffer .entry)) (now (buffer .exit)) r ⌝ }
 {
-    let kept_places = kept.places;
-    let kept_transitions = kept.transitions;
-    let np = list_members(&kept_places, h.places, ps);
-    let nt = list_members(&kept_transitions, h.transitions, ts);
-    write_lists(plan, h, &ps[..np], &ts[..nt], places, transitions, buffer)
+    let np = list_members(places, h.places, ps);
+    let nt = list_members(transitions, h.transitions, ts);
+    write_lists(plan, h, &ps[..np], &ts[..nt], pn, tn, buffer)
 }
 
 // With tables for 16 places and transitions.
-fn write_small(plan: &[u8], h: Header, kept: KeptSets, buffer: &mut [u8]) -> Cut
+fn write_small(
+    plan: &[u8],
+    h: Header,
+    places: &[u64; 16],
+    transitions: &[u64; 16],
+    buffer: &mut [u8],
+) -> Cut
     requires { ⌜ Sound (now plan) h ⌝ }
-    requires { ⌜ Within kept h ⌝ }
+    requires { ⌜ Within (keptPair (now places) (now transitions)) h ⌝ }
     requires { ⌜ (h .places ≤ 16) × (h .transitions ≤ 16) ⌝ }
-    ensures { λ r. ⌜ Answers (h .edition) (keptSlice (now (plan .entry)) h kept) (now (buffer .entry)) (now (buffer .exit)) r ⌝ }
+    ensures { λ r. ⌜ Answers (h .edition) (keptSlice (now (plan .entry)) h (keptPair (now (places .entry)) (now (transitions .entry)))) (now (buffer .entry)) (now (buffer .exit)) r ⌝ }
 {
     let mut ps = [0u16; SMALL];
     let mut ts = [0u16; SMALL];
-    let mut places = [0u16; SMALL];
-    let mut transitions = [0u16; SMALL];
+    let mut pn = [0u16; SMALL];
+    let mut tn = [0u16; SMALL];
     write_sets(
         plan,
         h,
-        kept,
+        places,
+        transitions,
         &mut ps,
         &mut ts,
-        &mut places,
-        &mut transitions,
+        &mut pn,
+        &mut tn,
         buffer,
     )
 }
 
 // With tables for 128 places and transitions.
-fn write_middle(plan: &[u8], h: Header, kept: KeptSets, buffer: &mut [u8]) -> Cut
+fn write_middle(
+    plan: &[u8],
+    h: Header,
+    places: &[u64; 16],
+    transitions: &[u64; 16],
+    buffer: &mut [u8],
+) -> Cut
     requires { ⌜ Sound (now plan) h ⌝ }
-    requires { ⌜ Within kept h ⌝ }
+    requires { ⌜ Within (keptPair (now places) (now transitions)) h ⌝ }
     requires { ⌜ (h .places ≤ 128) × (h .transitions ≤ 128) ⌝ }
-    ensures { λ r. ⌜ Answers (h .edition) (keptSlice (now (plan .entry)) h kept) (now (buffer .entry)) (now (buffer .exit)) r ⌝ }
+    ensures { λ r. ⌜ Answers (h .edition) (keptSlice (now (plan .entry)) h (keptPair (now (places .entry)) (now (transitions .entry)))) (now (buffer .entry)) (now (buffer .exit)) r ⌝ }
 {
     let mut ps = [0u16; MIDDLE];
     let mut ts = [0u16; MIDDLE];
-    let mut places = [0u16; MIDDLE];
-    let mut transitions = [0u16; MIDDLE];
+    let mut pn = [0u16; MIDDLE];
+    let mut tn = [0u16; MIDDLE];
     write_sets(
         plan,
         h,
-        kept,
+        places,
+        transitions,
         &mut ps,
         &mut ts,
-        &mut places,
-        &mut transitions,
+        &mut pn,
+        &mut tn,
         buffer,
     )
 }
 
 // With tables for 1,024 places and transitions.
-fn write_large(plan: &[u8], h: Header, kept: KeptSets, buffer: &mut [u8]) -> Cut
+fn write_large(
+    plan: &[u8],
+    h: Header,
+    places: &[u64; 16],
+    transitions: &[u64; 16],
+    buffer: &mut [u8],
+) -> Cut
     requires { ⌜ Sound (now plan) h ⌝ }
-    requires { ⌜ Within kept h ⌝ }
-    ensures { λ r. ⌜ Answers (h .edition) (keptSlice (now (plan .entry)) h kept) (now (buffer .entry)) (now (buffer .exit)) r ⌝ }
+    requires { ⌜ Within (keptPair (now places) (now transitions)) h ⌝ }
+    ensures { λ r. ⌜ Answers (h .edition) (keptSlice (now (plan .entry)) h (keptPair (now (places .entry)) (now (transitions .entry)))) (now (buffer .entry)) (now (buffer .exit)) r ⌝ }
 {
     let mut ps = [0u16; LARGE];
     let mut ts = [0u16; LARGE];
-    let mut places = [0u16; LARGE];
-    let mut transitions = [0u16; LARGE];
+    let mut pn = [0u16; LARGE];
+    let mut tn = [0u16; LARGE];
     write_sets(
         plan,
         h,
-        kept,
+        places,
+        transitions,
         &mut ps,
         &mut ts,
-        &mut places,
-        &mut transitions,
+        &mut pn,
+        &mut tn,
         buffer,
     )
 }
 
 // Writes the slice of a plan that has the kept places and transitions, where the buffer has room for its file.
-pub fn write(plan: &[u8], h: Header, kept: KeptSets, buffer: &mut [u8]) -> Cut
+// The two sets have one lifetime, so that they may be lent from one pair.
+pub fn write<'a>(
+    plan: &[u8],
+    h: Header,
+    places: &'a [u64; 16],
+    transitions: &'a [u64; 16],
+    buffer: &mut [u8],
+) -> Cut
     requires { ⌜ Sound (now plan) h ⌝ }
-    requires { ⌜ Within kept h ⌝ }
-    ensures answer { λ r. ⌜ cutNumbers r ≡ cutAnswer (roomRefusal (h .edition) (length (now (buffer .entry))) (keptSlice (now (plan .entry)) h kept)) (length (sliceBytes (h .edition) (keptSlice (now (plan .entry)) h kept))) (keptSlice (now (plan .entry)) h kept) ⌝ }
-    ensures buffer { λ r. ⌜ now (buffer .exit) ≡ written (roomRefusal (h .edition) (length (now (buffer .entry))) (keptSlice (now (plan .entry)) h kept)) (sliceBytes (h .edition) (keptSlice (now (plan .entry)) h kept)) (now (buffer .entry)) ⌝ }
+    requires { ⌜ Within (keptPair (now places) (now transitions)) h ⌝ }
+    ensures answer { λ r. ⌜ cutNumbers r ≡ cutAnswer (roomRefusal (h .edition) (length (now (buffer .entry))) (keptSlice (now (plan .entry)) h (keptPair (now (places .entry)) (now (transitions .entry))))) (length (sliceBytes (h .edition) (keptSlice (now (plan .entry)) h (keptPair (now (places .entry)) (now (transitions .entry)))))) (keptSlice (now (plan .entry)) h (keptPair (now (places .entry)) (now (transitions .entry)))) ⌝ }
+    ensures buffer { λ r. ⌜ now (buffer .exit) ≡ written (roomRefusal (h .edition) (length (now (buffer .entry))) (keptSlice (now (plan .entry)) h (keptPair (now (places .entry)) (now (transitions .entry))))) (sliceBytes (h .edition) (keptSlice (now (plan .entry)) h (keptPair (now (places .entry)) (now (transitions .entry))))) (now (buffer .entry)) ⌝ }
 {
     if h.places <= SMALL {
         if h.transitions <= SMALL {
-            return write_small(plan, h, kept, buffer);
+            return write_small(plan, h, places, transitions, buffer);
         }
     }
     if h.places <= MIDDLE {
         if h.transitions <= MIDDLE {
-            return write_middle(plan, h, kept, buffer);
+            return write_middle(plan, h, places, transitions, buffer);
         }
     }
-    write_large(plan, h, kept, buffer)
+    write_large(plan, h, places, transitions, buffer)
 }

@@ -1,7 +1,4 @@
 use borrow.Author.Needs.{needs}
-use Prim.Native.Nat.{ℕ}
-use lib.ListN.{length-replicate}
-use Rattle.sets.proofs.Members.{none}
 use Rattle.run_cut.proofs.Tracing.{criterion-known, starts, traced}
 use Rattle.run_cut.proofs.fed_by.Statement.{statement}
 use Rattle.run_cut.proofs.fed_by.Tie as tie
@@ -29,25 +26,29 @@ ready-of c = c .before .before .before .before .before .before .before
 index-requires : tie.Need-index-requires
 index-requires c κs =
     let s = call (c .before .before) in
-    let lent = s .pre .1 .0 in
+    let lent = s .pre .1 .0 .0 in
     (s .pre .0 .sound, ((lent .head-long, lent .next-long), lent .no-row))
 
 enter-criterion-requires : tie.Need-enter-criterion-requires
 enter-criterion-requires c κs =
     let indexed = indexed-of (c .before .before .before .before .before) in
     let s = start-of indexed in
-    ((s .pre .0 .sound, indexed .index .ensures, length-replicate {A = ℕ} 16 0, s .pre .1 .1 .long, s .pre .1 .0 .first-long), criterion-known _ (s .args .h) _ _ (s .pre .0))
+    let tables = s .pre .1 .0 in
+    let places = s .pre .1 .1 .0 in
+    ((s .pre .0 .sound, indexed .index .ensures, places .long, tables .1 .long, tables .0 .first-long), criterion-known _ (s .args .h) _ _ (s .pre .0))
 
 back-requires : tie.Need-back-requires
 back-requires c κs =
     let entered = entered-of (c .before .before .before .before .before .before) in
     let indexed = indexed-of (lent-of entered) in
     let s = start-of indexed in
-    let g = s .pre .0 in (
+    let g = s .pre .0 in
+    let tables = s .pre .1 .0 in
+    let sets = s .pre .1 .1 in (
       (g .sound, indexed .index .ensures, criterion-known _ (s .args .h) _ _ g),
       (
         (g .short, g .known),
-        starts _ (s .args .h) _ _ g _ _ _ _ _ _ _ _ (s .pre .1 .0) (s .pre .1 .1) none none (length-replicate {A = ℕ} 16 0) (entered .enter-criterion .ensures),
+        starts _ (s .args .h) _ _ g _ _ _ _ _ _ _ _ (tables .0) (tables .1) (sets .0 .none) (sets .1 .none) (sets .1 .long) (entered .enter-criterion .ensures),
       ),
     )
 

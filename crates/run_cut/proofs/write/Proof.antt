@@ -4,7 +4,8 @@ use mathlib.Core.Path.{sym, ap, _∙_}
 use native.Mathlib.Omega.{arith}
 use lib.ListN.{length}
 use borrow.Author.Tests.{ltb-true, ltb-false}
-use Rattle.slice.specs.Kept.{cutNumbers}
+use Rattle.sets.specs.declared.KeptSets.{KeptSets}
+use Rattle.slice.specs.Kept.{cutNumbers, keptPair}
 use Rattle.run_cut.specs.Parts.{chosenBy}
 use Rattle.run_cut.proofs.Outcomes.{count-few, no-entries, no-room, whole}
 use Rattle.run_cut.proofs.write.Statement.{statement}
@@ -21,6 +22,10 @@ asked-of c = c .before .before .before
 abbrev written-of : tie.After-slice → tie.After-write
 written-of c = c .before .before .before .before
 
+-- the sets that are lent
+abbrev kept-of : tie.Start → KeptSets
+kept-of s = keptPair (s .args .places .now) (s .args .transitions .now)
+
 -- all chosen positions have room
 enough : (c : tie.After-write) → let s = call (asked-of c) in length (chosenBy (s .args .list .now) (s .args .last .now)) ≤ length (s .args .positions .now)
 enough c = let s = call (asked-of c) in ltb-false _ _ (sym (asked-of c .lacks .ensures) ∙ c .before .before .if1 .left)
@@ -31,7 +36,7 @@ lacks-requires c κs = let f = c .before .before .before .before .before .before
 returns : tie.Need-returns
 returns c =
     let s = call (c .before) in
-    no-entries _ (s .args .h) _ _ _ (s .args .kept) _ (s .pre .0) (s .pre .1) _ _ (ltb-true _ _ (sym (c .before .lacks .ensures) ∙ c .if1 .taken))
+    no-entries _ (s .args .h) _ _ _ (kept-of s) _ (s .pre .0) (s .pre .1) _ _ (ltb-true _ _ (sym (c .before .lacks .ensures) ∙ c .if1 .taken))
 
 write-requires : tie.Need-write-requires
 write-requires c κs = let s = call (c .before .before) in (s .pre .0 .sound, s .pre .1 .within)
@@ -49,7 +54,7 @@ returns-2 : tie.Need-returns-2
 returns-2 c =
     let after = c .before .before .before .before in
     let s = call (asked-of after) in
-    no-room _ (s .args .h) _ _ _ (s .args .kept) _ (s .pre .0) (s .pre .1) _ _ _ (after .write .ensures .1) _ (sym (ap cutNumbers (c .enum-told .given .1)) ∙ after .write .ensures .0)
+    no-room _ (s .args .h) _ _ _ (kept-of s) _ (s .pre .0) (s .pre .1) _ _ _ (after .write .ensures .1) _ (sym (ap cutNumbers (c .enum-told .given .1)) ∙ after .write .ensures .0)
 
 write-positions-requires : tie.Need-write-positions-requires
 write-positions-requires c κs =
@@ -62,7 +67,7 @@ cast-chosen : tie.Need-cast-chosen
 cast-chosen c =
     let put = c .before .before in
     let s = call (asked-of (written-of (put .before .before .before))) in
-    omega (arith, put .write-positions .ensures .0, count-few _ (s .args .h) _ _ _ (s .args .kept) _ (s .pre .0) (s .pre .1) (s .args .buffer .now) (s .args .positions .now))
+    omega (arith, put .write-positions .ensures .0, count-few _ (s .args .h) _ _ _ (kept-of s) _ (s .pre .0) (s .pre .1) (s .args .buffer .now) (s .args .positions .now))
 
 same-length-2 : tie.Need-same-length-2
 same-length-2 c = search needs
@@ -76,7 +81,7 @@ returns-3 c =
     let told = put .before .before .before in
     let after = written-of told in
     let s = call (asked-of after) in
-    whole _ (s .args .h) _ _ _ (s .args .kept) _ (s .pre .0) (s .pre .1) _ _ _ (after .write .ensures .1) _ _ _ (sym (ap cutNumbers (told .slice .given .1)) ∙ after .write .ensures .0)
+    whole _ (s .args .h) _ _ _ (kept-of s) _ (s .pre .0) (s .pre .1) _ _ _ (after .write .ensures .1) _ _ _ (sym (ap cutNumbers (told .slice .given .1)) ∙ after .write .ensures .0)
     (enough after) _ (put .write-positions .ensures .0) _ (put .write-positions .ensures .1)
 
 pub write-spec : {M : Type 1} → statement M

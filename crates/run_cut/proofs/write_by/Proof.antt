@@ -1,11 +1,12 @@
 use borrow.Author.Needs.{needs}
+use Rattle.run_cut.proofs.Tracing.{empty}
 use Rattle.run_cut.proofs.write_by.Statement.{statement}
 use Rattle.run_cut.proofs.write_by.Tie as tie
 
 -- ---- the states: the call, the tables made, written
 
 abbrev lent-of : tie.After-fed-by → tie.After-slice-known6
-lent-of c = c .before .before .before .before .before
+lent-of c = c .before .before .before .before .before .before .before
 
 abbrev call : tie.After-slice-known4 → tie.Start
 call c = c .before .before .before .before .before .before .before
@@ -17,7 +18,10 @@ abbrev last-of : tie.After-last → tie.After-fed-by
 last-of c = c .before .before .before .before .before .before .before
 
 fed-by-requires : tie.Need-fed-by-requires
-fed-by-requires c κs = search needs
+fed-by-requires c κs =
+    let lent = c .before .before .before .before .before .before in
+    let s = call (lent .before .before) in
+    (s .pre .0, (s .pre .1, (empty, empty)))
 
 write-requires : tie.Need-write-requires
 write-requires c κs =

@@ -4,8 +4,8 @@ use mathlib.Core.Path.{_≡_, ap}
 use native.Mathlib.Omega.{arith}
 use lib.ListN.{length}
 use Rattle.net.specs.Slice.{Slice, restrict, keeping}
-use Rattle.file_header.specs.Layout.{placesLength}
 use Rattle.file_arcs.specs.Layout.{arcsFrom}
+use Rattle.file_header.specs.Layout.{placesLength}
 use Rattle.file.specs.Layout.{netFrom}
 use Rattle.file_writing.specs.Writing.{arcsBytes}
 use Rattle.file_writing.proofs.Bytes.{length-arcs}

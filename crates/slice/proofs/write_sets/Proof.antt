@@ -8,12 +8,10 @@ use Rattle.slice.proofs.write_sets.Tie as tie
 -- ---- the states: the places listed, the transitions listed
 
 abbrev call : tie.After-list-members → tie.Start
-call c =
-    let sets = c .before .before .before .before in
-    sets .before .before .before .before .before .before .before
+call c = c .before .before .before .before .before .before .before .before
 
 abbrev places-of : tie.After-list-members2 → tie.After-list-members
-places-of c = c .before .before .before .before .before
+places-of c = c .before .before .before .before
 
 abbrev listed : tie.After-write-lists-arg → tie.After-list-members2
 listed c = c .before .before .before
