@@ -8,6 +8,7 @@ use native.Mathlib.Numerals.{add-one}
 use lib.ListN.{length, getD, take}
 use lib.Seq.{take-all}
 use Rattle.net.specs.Numbers.{any}
+use Rattle.net.proofs.Numbers.{holds, is-true, any-has, among-at}
 
 or-assoc : (a b c : Bool) → (a || (b || c)) ≡ (a || b || c)
 or-assoc true b c = refl
@@ -33,3 +34,9 @@ module _ (f : ℕ → Bool) where
 
   pub any-all : (l : List ℕ) (i : ℕ) → length l ≤ i → any f (take i l) ≡ any f l
   any-all l i h = ap (any f) (take-all i l h)
+
+  pub any-met : (l : List ℕ) (i : ℕ) → i < length l → f (getD l i 0) ≡ true → any f l ≡ true
+  any-met l i h e = is-true (any f l) (any-has f l (getD l i 0) (among-at l i h) (holds (f (getD l i 0)) e))
+
+  pub any-not-yet : (l : List ℕ) (i : ℕ) → i < length l → any f (take i l) ≡ false → f (getD l i 0) ≡ false → any f (take (i + 1) l) ≡ false
+  any-not-yet l i h e g = rw (any-next l i h, e, g)

@@ -1,8 +1,8 @@
 // Projection of a list of plan transitions to a slice's own numbers.
 ghost use mathlib.Core.Path.{_≡_};
 ghost use mathlib.Core.List.{_++_};
-ghost use Prim.Native.Nat.{_≤_};
-ghost use lib.ListN.{length, drop};
+ghost use Prim.Native.Nat.{ℕ, _≤_};
+ghost use lib.ListN.{length, getD, drop};
 ghost use lib.Dec.{ltb};
 ghost use Rattle.file.specs.Layout.{sliceFrom};
 ghost use Rattle.file.specs.Facts.{Sound};
@@ -82,10 +82,11 @@ pub fn write(table: &[u16], list: &[u16], out: &mut [u16]) -> usize
     n
 }
 
-// Makes the table by which lists of the plan's numbers are projected to a slice.
+// Makes the table by which lists of the plan's numbers are projected to a slice, of one with zeros.
 pub fn numbers(slice: &[u8], h: Header, table: &mut [u16])
     requires { ⌜ Sound (now slice) h × (h .kind ≡ 1) ⌝ }
+    requires { ⌜ ((k : ℕ) → getD (now table) k 0 ≡ 0) ⌝ }
     ensures { λ _. ⌜ Projects (sliceFrom (now (slice .entry)) h) (length (now (table .entry))) (now (table .exit)) ⌝ }
 {
-    numbering::own(slice, h.originstart + 2 * h.places, h.transitions, table);
+    numbering::own_in(slice, h.originstart + 2 * h.places, h.transitions, table);
 }

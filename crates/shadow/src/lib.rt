@@ -1,9 +1,9 @@
 // A run and its shadow: a list is replayed on a plan, and its fired part projected to a slice.
 ghost use mathlib.Core.Path.{_≡_};
-ghost use Prim.Native.Nat.{_<_, _≤_};
+ghost use Prim.Native.Nat.{ℕ, _<_, _≤_};
 ghost use mathlib.Core.Bool.{_||_};
 ghost use mathlib.Core.List.{_++_};
-ghost use lib.ListN.{length, take, drop};
+ghost use lib.ListN.{length, getD, take, drop};
 ghost use lib.Dec.{ltb, leb};
 ghost use Rattle.file.specs.Layout.{netFrom, sliceFrom};
 ghost use Rattle.file.specs.Facts.{Sound};
@@ -64,7 +64,7 @@ fn write_fired(table: &[u16], list: &[u16], o: Outcome, out: &mut [u16]) -> Shad
     with_count(o, count)
 }
 
-// Projects what a replay of the list fired, by a table that reaches each number of it.
+// Projects what a replay of the list fired, by a table of zeros that reaches each number of it.
 fn project_by(
     slice: &[u8],
     s: Header,
@@ -74,6 +74,7 @@ fn project_by(
     out: &mut [u16],
 ) -> Shadow
     requires { ⌜ Given (now slice) s (now list) o (length (now table)) ⌝ }
+    requires { ⌜ ((k : ℕ) → getD (now table) k 0 ≡ 0) ⌝ }
     ensures { λ r. ⌜ Casts (firedProjection (sliceFrom (now (slice .entry)) s) o (now (list .entry))) (now (out .entry)) (now (out .exit)) o r ⌝ }
 {
     projection::numbers(slice, s, table);
@@ -98,6 +99,34 @@ fn project_fired(
     }
     let mut table = [0u16; LARGE];
     project_by(slice, s, list, o, &mut table, out)
+}
+
+// The same of a plan with at most 64 transitions: apart, so that the compiler makes it a part of its one caller.
+fn project_few(slice: &[u8], s: Header, list: &[u16], o: Outcome, out: &mut [u16]) -> Shadow
+    requires { ⌜ Given (now slice) s (now list) o 64 ⌝ }
+    ensures { λ r. ⌜ Casts (firedProjection (sliceFrom (now (slice .entry)) s) o (now (list .entry))) (now (out .entry)) (now (out .exit)) o r ⌝ }
+{
+    let mut table = [0u16; 64];
+    projection::numbers(slice, s, &mut table);
+    write_fired(&table, list, o, out)
+}
+
+// Projects what a replay in the lent marking fired, after which nothing is left to do.
+fn project_last(
+    transitions: usize,
+    slice: &[u8],
+    s: Header,
+    list: &[u16],
+    o: Outcome,
+    out: &mut [u16],
+) -> Shadow
+    requires { ⌜ Given (now slice) s (now list) o transitions × (transitions ≤ 1024) ⌝ }
+    ensures { λ r. ⌜ Casts (firedProjection (sliceFrom (now (slice .entry)) s) o (now (list .entry))) (now (out .entry)) (now (out .exit)) o r ⌝ }
+{
+    if transitions <= 64 {
+        return project_few(slice, s, list, o, out);
+    }
+    project_fired(transitions, slice, s, list, o, out)
 }
 
 // How many entries of the marking are due: one a place, or none where the call is refused.
@@ -195,7 +224,7 @@ pub fn shadow_of(
 {
     if certain(list.len(), out.len(), marking.len(), p.places) {
         let o = replay::replay(plan, p, list, marking);
-        return project_fired(p.transitions, slice, s, list, o, out);
+        return project_last(p.transitions, slice, s, list, o, out);
     }
     shadow_sized(plan, p, slice, s, list, marking, out)
 }

@@ -3,17 +3,17 @@ use Rattle.projection.proofs.Tables.{origins-of, projects}
 use Rattle.projection.proofs.numbers.Statement.{statement}
 use Rattle.projection.proofs.numbers.Tie as tie
 
-abbrev call : tie.After-own-arg → tie.Start
+abbrev call : tie.After-own-in-arg → tie.Start
 call c = c .before .before .before .before .before
 
-mul-own : tie.Need-mul-own
-mul-own c = search needs
+mul-own-in : tie.Need-mul-own-in
+mul-own-in c = search needs
 
-add-own : tie.Need-add-own
-add-own c = search needs
+add-own-in : tie.Need-add-own-in
+add-own-in c = search needs
 
-own-requires : tie.Need-own-requires
-own-requires c κs = origins-of _ _ (call c .pre .0) (call c .pre .1)
+own-in-requires : tie.Need-own-in-requires
+own-in-requires c κs = (origins-of _ _ (call c .pre .0 .0) (call c .pre .0 .1), call c .pre .1)
 
 same-length : tie.Need-same-length
 same-length c = search needs
@@ -22,7 +22,7 @@ returns : tie.Need-returns
 returns c =
     let numbered = c .before .before in
     let s = call (numbered .before) .args in
-    projects (s .slice .now) (s .h) (numbered .own .ensures .0) (numbered .own .ensures .1)
+    projects (s .slice .now) (s .h) (numbered .own-in .ensures .0) (numbered .own-in .ensures .1)
 
 pub numbers-spec : {M : Type 1} → statement M
-numbers-spec = tie.close (tie.spec mul-own add-own own-requires same-length returns)
+numbers-spec = tie.close (tie.spec mul-own-in add-own-in own-in-requires same-length returns)

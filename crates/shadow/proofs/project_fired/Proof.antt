@@ -1,4 +1,5 @@
 use native.Mathlib.Omega.{arith}
+use Rattle.tables.proofs.Zeros.{zeros-at}
 use Rattle.shadow.proofs.Casting.{given-up}
 use borrow.Author.Needs.{needs}
 use Rattle.shadow.proofs.project_fired.Statement.{statement}
@@ -11,7 +12,7 @@ project-by-requires : tie.Need-project-by-requires
 project-by-requires c κs =
     let few = c .before .before in
     let s = few .before .before .before .before in
-    given-up (s .pre .0) (omega (arith, few .if1 .taken))
+    (given-up (s .pre .0) (omega (arith, few .if1 .taken)), zeros-at 64)
 
 same-length : tie.Need-same-length
 same-length c = search needs
@@ -25,7 +26,7 @@ slice-aggregate-project-by-2 c = search needs
 project-by-requires-2 : tie.Need-project-by-requires-2
 project-by-requires-2 c κs =
     let s = c .before .before .before .before .before .before in
-    given-up (s .pre .0) (omega (arith, s .pre .1))
+    (given-up (s .pre .0) (omega (arith, s .pre .1)), zeros-at 1024)
 
 same-length-2 : tie.Need-same-length-2
 same-length-2 c = search needs

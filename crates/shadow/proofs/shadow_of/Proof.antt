@@ -22,8 +22,8 @@ certain-requires c κs = search needs
 replay-requires : tie.Need-replay-requires
 replay-requires c κs = search needs
 
-project-fired-requires : tie.Need-project-fired-requires
-project-fired-requires c κs =
+project-last-requires : tie.Need-project-last-requires
+project-last-requires c κs =
     let done = c .before .before .before in
     let s = call (done .before .before .before) in
     (given-by (s .args .plan .now) (s .args .p) (s .args .list .now) _ (s .pre .1 .0) (s .pre .1 .1) (done .replay .ensures .0), s .pre .0 .placed .transitions)
@@ -40,7 +40,7 @@ returns c =
     let done = cast .before .before .before .before in
     let sure = done .before .before in
     let s = call (sure .before) in
-    follows-straight (s .args .plan .now) (s .args .p) _ (s .args .list .now) (stays sure) (done .replay .ensures .0) (done .replay .ensures .1) (cast .project-fired .ensures)
+    follows-straight (s .args .plan .now) (s .args .p) _ (s .args .list .now) (stays sure) (done .replay .ensures .0) (done .replay .ensures .1) (cast .project-last .ensures)
 
 shadow-sized-requires : tie.Need-shadow-sized-requires
 shadow-sized-requires c κs =
@@ -64,7 +64,7 @@ shadow-of-spec =
     (tie.spec
     certain-requires
     replay-requires
-    project-fired-requires
+    project-last-requires
     same-length
     same-length-2
     returns
