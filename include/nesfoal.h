@@ -61,14 +61,14 @@
  * x86-64: the tests make every call on a stack of just so many. The memcpy and memset of the C library count with it, once they are
  * bound; a linker that binds them at the first call takes some 3 KB more then.
  */
-#define NESFOAL_STACK_CHECK 32768
-#define NESFOAL_STACK_VERDICT 30720
+#define NESFOAL_STACK_CHECK 25600
+#define NESFOAL_STACK_VERDICT 23552
 #define NESFOAL_STACK_EFFECT 1024
-#define NESFOAL_STACK_REPLAY 33792
+#define NESFOAL_STACK_REPLAY 30720
 #define NESFOAL_STACK_SAFETY 27648
 #define NESFOAL_STACK_BRANCHING 27648
-#define NESFOAL_STACK_RUN_CUT 62464
-#define NESFOAL_STACK_SHADOW 45056
+#define NESFOAL_STACK_RUN_CUT 59392
+#define NESFOAL_STACK_SHADOW 41984
 #define NESFOAL_STACK_TOGETHER 1024
 #define NESFOAL_STACK_ARCS 1024
 

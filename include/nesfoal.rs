@@ -17,14 +17,14 @@ pub const NESFOAL_MARKING_ROOM: usize = NESFOAL_MAX_PLACES;
 pub const NESFOAL_SHADOW_ROOM: usize = NESFOAL_MAX_LIST_ENTRIES;
 pub const NESFOAL_POSITIONS_ROOM: usize = NESFOAL_MAX_LIST_ENTRIES;
 
-pub const NESFOAL_STACK_CHECK: usize = 32768;
-pub const NESFOAL_STACK_VERDICT: usize = 30720;
+pub const NESFOAL_STACK_CHECK: usize = 25600;
+pub const NESFOAL_STACK_VERDICT: usize = 23552;
 pub const NESFOAL_STACK_EFFECT: usize = 1024;
-pub const NESFOAL_STACK_REPLAY: usize = 33792;
+pub const NESFOAL_STACK_REPLAY: usize = 30720;
 pub const NESFOAL_STACK_SAFETY: usize = 27648;
 pub const NESFOAL_STACK_BRANCHING: usize = 27648;
-pub const NESFOAL_STACK_RUN_CUT: usize = 62464;
-pub const NESFOAL_STACK_SHADOW: usize = 45056;
+pub const NESFOAL_STACK_RUN_CUT: usize = 59392;
+pub const NESFOAL_STACK_SHADOW: usize = 41984;
 pub const NESFOAL_STACK_TOGETHER: usize = 1024;
 pub const NESFOAL_STACK_ARCS: usize = 1024;
 

@@ -1,7 +1,7 @@
 //! How the time grows with the net: an eighth, a quarter, a half and the whole of each family.
 
 use crate::calls::{Call, Jobs, Program, CALLS, LIBRARY, TUNED};
-use crate::nets::{chain, doubles, many, parallel, random, readers_writers, wide, Input};
+use crate::nets::{capped, chain, doubles, many, parallel, random, readers_writers, wide, Input};
 use crate::table::{agree, microseconds};
 use crate::time::{interleaved, Effort, Side};
 
@@ -17,13 +17,14 @@ pub fn print(effort: Effort) {
         "Random nets: sixteen of each size in turn. On one and the same net again and again, branches are learnt by"
     );
     println!("heart as long as it is small.");
-    let families: [[Vec<Input>; 4]; 6] = [
+    let families: [[Vec<Input>; 4]; 7] = [
         [128, 256, 512, 1_024].map(|n| many(random, n)),
         [128, 256, 512, 1_024].map(|n| vec![chain(n)]),
         [128, 256, 512, 1_024].map(|n| vec![wide(n)]),
         [8, 11, 16, 22].map(|n| vec![readers_writers(n)]),
         [128, 256, 512, 1_024].map(|n| many(doubles, n)),
         [512, 1_024, 2_048, 4_096].map(|n| vec![parallel(n)]),
+        [128, 256, 512, 1_024].map(|n| many(capped, n)),
     ];
     for family in &families {
         println!();
@@ -34,6 +35,9 @@ pub fn print(effort: Effort) {
         println!("| call | program | 1/8 | 1/4 | 1/2 | 1 | 1/4 : 1/8 | 1/2 : 1/4 | 1 : 1/2 |");
         println!("|---|---|---|---|---|---|---|---|---|");
         for call in CALLS {
+            if family[0][0].capped && call == Call::RunCut {
+                continue;
+            }
             family.iter().flatten().for_each(|input| agree(call, input));
             for (name, program) in [("ours", &LIBRARY), ("tuned", &TUNED)] {
                 if let Some(line) = line(program, call, family, effort) {

@@ -9,6 +9,7 @@ ghost use Rattle.file.specs.Facts.{Sound};
 ghost use Rattle.file.specs.Layout.{netFrom};
 ghost use Rattle.arcs_effect.specs.Runs.{Within, FromPlace, PartOf, runOf};
 use arcs_starts::first_from;
+use arcs_starts::next_from;
 use file_header::Header;
 
 // The first of the arcs `from` to `to` whose place is not below the place, by halving: they are of one transition and one direction.
@@ -63,8 +64,8 @@ pub fn effect(file: &[u8], h: Header, place: usize, transition: usize) -> i32
 {
     let start = h.arcstart;
     let a = first_from(file, start, h.arcs, 2 * transition);
-    let b = first_from(file, start, h.arcs, 2 * transition + 1);
-    let c = first_from(file, start, h.arcs, 2 * transition + 2);
+    let b = next_from(file, start, a, h.arcs, 2 * transition + 1);
+    let c = next_from(file, start, b, h.arcs, 2 * transition + 2);
     let input = weight(file, start, a, b, place);
     let output = weight(file, start, b, c, place);
     difference(output, input)
@@ -88,7 +89,7 @@ pub fn run_part(file: &[u8], h: Header, transition: usize) -> Part
         };
     }
     let a = first_from(file, h.arcstart, h.arcs, 2 * transition);
-    let e = first_from(file, h.arcstart, h.arcs, 2 * transition + 2);
+    let e = next_from(file, h.arcstart, a, h.arcs, 2 * transition + 2);
     if e <= a {
         return Part {
             start: 0,

@@ -125,3 +125,7 @@ module _ {s : List ℕ} {start n : ℕ} (order : (i j : ℕ) → i ≤ j → j <
   splits E latest (suc k) =
       let e : k + 1 ≡ suc k = omega arith in
       next k _ _ (splits E latest k) (subst (λ (x : ℕ). Table.Latest s start n k (getD E x 0)) e (latest k)) (ltb (Table.runningMost E k) (getD E (suc k) 0)) refl
+
+-- what is below k is below a larger number
+pub past-by : {s : List ℕ} {start n k k′ r : ℕ} → Table.Split s start n k r → k ≤ k′ → Table.Past s start r k′
+past-by x l i m = omega (arith, x .below i m, l)

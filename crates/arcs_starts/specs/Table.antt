@@ -45,6 +45,10 @@ pub record Split (s : List ℕ) (start n k r : ℕ) : Type 0 where
   pub below : (i : ℕ) → i < r → slotAt s start i < k
   pub above : (i : ℕ) → r ≤ i → i < n → k ≤ slotAt s start i
 
+-- the slots of the arcs before r are below k
+abbrev pub Past : List ℕ → ℕ → ℕ → ℕ → Type 0
+Past s start r k = (i : ℕ) → i < r → slotAt s start i < k
+
 -- n arcs stand in the file, and their slots do not fall
 pub record Ordered (s : List ℕ) (start n : ℕ) : Type 0 where
   pub fit : start + 8 * n ≤ length s
@@ -65,3 +69,12 @@ pub record Tabled (s : List ℕ) (start n T size : ℕ) : Type 0 where
   pub long : 2 * T < size
   pub slots : (i : ℕ) → i < n → slotAt s start i < 2 * T
   pub order : (i j : ℕ) → i ≤ j → j < n → slotAt s start i ≤ slotAt s start j
+
+-- the entries from next to last have become v, those before are kept, and r is the first that was not set
+pub record PutUp (next last v : ℕ) (was is : List ℕ) (r : ℕ) : Type 0 where
+  pub long : length is ≡ length was
+  pub kept : (k : ℕ) → k < next → getD is k 0 ≡ getD was k 0
+  pub set : (k : ℕ) → next ≤ k → k ≤ last → getD is k 0 ≡ v
+  pub from : next ≤ r
+  pub past : last < r
+  pub to : (m : ℕ) → next ≤ m → last < m → r ≤ m

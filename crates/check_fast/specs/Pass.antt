@@ -11,8 +11,8 @@ use Rattle.net.specs.Slice.{Slice, restrict}
 use Rattle.net.specs.declared.Arc.{Arc}
 use Rattle.file_arcs.specs.Layout.{arcAt, arcsFrom}
 use Rattle.file.specs.Layout.{netFrom, sliceFrom}
-use Rattle.file.specs.Facts.{Sound}
 use Rattle.file_arcs.specs.Facts.{ArcWord, arcOf}
+use Rattle.file.specs.Facts.{Sound}
 use Rattle.file_header.specs.declared.Header.{Header}
 use Rattle.check_fast.specs.Entries.{leftPlace, leftCapped, leftTransition, numbered, marked, either, Reached}
 

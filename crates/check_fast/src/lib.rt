@@ -11,29 +11,29 @@
 ghost use mathlib.Core.Path.{_≡_};
 ghost use mathlib.Core.Bool.{true, _&&_};
 ghost use Prim.Native.Nat.{ℕ, _+_, _-_, _*_, _/_, _%_, _<_, _≤_};
-ghost use lib.Dec.{ltb};
+ghost use lib.Dec.{eqb, ltb};
 ghost use lib.ListN.{length, getD};
 ghost use lib.Bits.{bitXor};
 ghost use lib.IntN.{pos};
 ghost use lib.Signed.{leZ};
 ghost use Rattle.net.specs.Net.{counted};
 ghost use Rattle.net.specs.Checker.{breaker, rule4};
+ghost use Rattle.file_arcs.specs.Facts.{arcOf};
 ghost use Rattle.file_header.specs.Facts.{Placed};
 ghost use Rattle.file.specs.Facts.{Sound};
-ghost use Rattle.file_arcs.specs.Facts.{arcOf};
 ghost use Rattle.file_arcs.specs.Layout.{arcAt};
 ghost use Rattle.file.specs.Layout.{wordsFrom, netFrom, sliceFrom};
 ghost use Rattle.file.specs.Criterion.{criterionRefusal};
 ghost use Rattle.numbering.specs.Own.{Origins};
 ghost use Rattle.rules_tables.specs.Agreed.{Agreed};
-ghost use Rattle.check_fast.specs.Entries.{leftPlace, bound, Numbered, Marked, Bound, Reached};
+ghost use Rattle.check_fast.specs.Entries.{leftPlace, leftCapped, flagged, either, bound, Numbered, Marked, Bound, Reached};
 ghost use Rattle.check_fast.specs.Pass.{Ready, joinedOf, keptOf, oddOf, quietOf, dueOf, Meets, Settled, Walked, Passed, Blank};
-use file_header::CAPS;
-use file_header::Header;
 use file_arcs::DIRECTION;
 use file_arcs::PLACE;
 use file_arcs::arc_of;
 use file_arcs::word;
+use file_header::CAPS;
+use file_header::Header;
 use file_words::get16;
 use tables::wide;
 
@@ -100,17 +100,20 @@ fn mark(criterion: &[u16], places: &mut [usize])
     }
 }
 
-// The entry v of a place with this cap: the mark where it is kept and capped.
+// The entry v of a place that has a cap: the mark where it is kept.
+fn capped(v: usize) -> usize
+    ensures { λ r. ⌜ r ≡ either (eqb v leftPlace) leftCapped (flagged v) ⌝ }
+{
+    let marked = v / 262144 * 262144 + 131072;
+    if v == LEFT_PLACE { LEFT_CAPPED } else { marked }
+}
+
+// The entry v of a place with this cap. Both entries are made, so that there is no branch on which places have one.
 fn bounded(v: usize, cap: usize) -> usize
     ensures { λ r. ⌜ r ≡ bound cap v ⌝ }
 {
-    if cap == 0 {
-        return v;
-    }
-    if v == LEFT_PLACE {
-        return LEFT_CAPPED;
-    }
-    v / 262144 * 262144 + 131072
+    let other = capped(v);
+    if cap == 0 { v } else { other }
 }
 
 // Marks the capped places.

@@ -214,6 +214,38 @@ fn large_agrees(plan: &[u8], hp: Header, slice: &[u8], hs: Header, criterion: &[
     further(doubt, plan, hp, slice, hs, criterion, &places, &transitions)
 }
 
+// The same for nets that are not small.
+fn wide_agrees(plan: &[u8], hp: Header, slice: &[u8], hs: Header, criterion: &[u16]) -> Found
+    requires { ⌜ Judged (now plan) hp (now slice) hs (now criterion) ⌝ }
+    requires { ⌜ KnownIn hp (sliceFrom (now slice) hs) ⌝ }
+    ensures { λ r. ⌜ Agreed (r .doubt) (netFrom (now (plan .entry)) hp) (sliceFrom (now (slice .entry)) hs) (now (criterion .entry)) ⌝ }
+    ensures { λ r. ⌜ (r .other < hp .transitions → r .other ≡ breaker (rule4 (netFrom (now (plan .entry)) hp) (sliceFrom (now (slice .entry)) hs))) ⌝ }
+{
+    if within(hp, hs, MIDDLE) {
+        return middle_agrees(plan, hp, slice, hs, criterion);
+    }
+    large_agrees(plan, hp, slice, hs, criterion)
+}
+
+// The same where there are many places, and where there are many transitions: two functions, so that the compiler keeps the large tables out of the small net's frame.
+fn many_places(plan: &[u8], hp: Header, slice: &[u8], hs: Header, criterion: &[u16]) -> Found
+    requires { ⌜ Judged (now plan) hp (now slice) hs (now criterion) ⌝ }
+    requires { ⌜ KnownIn hp (sliceFrom (now slice) hs) ⌝ }
+    ensures { λ r. ⌜ Agreed (r .doubt) (netFrom (now (plan .entry)) hp) (sliceFrom (now (slice .entry)) hs) (now (criterion .entry)) ⌝ }
+    ensures { λ r. ⌜ (r .other < hp .transitions → r .other ≡ breaker (rule4 (netFrom (now (plan .entry)) hp) (sliceFrom (now (slice .entry)) hs))) ⌝ }
+{
+    wide_agrees(plan, hp, slice, hs, criterion)
+}
+
+fn many_transitions(plan: &[u8], hp: Header, slice: &[u8], hs: Header, criterion: &[u16]) -> Found
+    requires { ⌜ Judged (now plan) hp (now slice) hs (now criterion) ⌝ }
+    requires { ⌜ KnownIn hp (sliceFrom (now slice) hs) ⌝ }
+    ensures { λ r. ⌜ Agreed (r .doubt) (netFrom (now (plan .entry)) hp) (sliceFrom (now (slice .entry)) hs) (now (criterion .entry)) ⌝ }
+    ensures { λ r. ⌜ (r .other < hp .transitions → r .other ≡ breaker (rule4 (netFrom (now (plan .entry)) hp) (sliceFrom (now (slice .entry)) hs))) ⌝ }
+{
+    wide_agrees(plan, hp, slice, hs, criterion)
+}
+
 // What one pass tells of the rules 4 to 10, in tables that are not much larger than the net.
 pub fn agreeing(plan: &[u8], hp: Header, slice: &[u8], hs: Header, criterion: &[u16]) -> Found
     requires { ⌜ Judged (now plan) hp (now slice) hs (now criterion) ⌝ }
@@ -221,11 +253,11 @@ pub fn agreeing(plan: &[u8], hp: Header, slice: &[u8], hs: Header, criterion: &[
     ensures { λ r. ⌜ Agreed (r .doubt) (netFrom (now (plan .entry)) hp) (sliceFrom (now (slice .entry)) hs) (now (criterion .entry)) ⌝ }
     ensures { λ r. ⌜ (r .other < hp .transitions → r .other ≡ breaker (rule4 (netFrom (now (plan .entry)) hp) (sliceFrom (now (slice .entry)) hs))) ⌝ }
 {
-    if within(hp, hs, SMALL) {
-        return small_agrees(plan, hp, slice, hs, criterion);
+    if SMALL < hp.places {
+        return many_places(plan, hp, slice, hs, criterion);
     }
-    if within(hp, hs, MIDDLE) {
-        return middle_agrees(plan, hp, slice, hs, criterion);
+    if (SMALL < hp.transitions) | (SMALL < hs.transitions) {
+        return many_transitions(plan, hp, slice, hs, criterion);
     }
-    large_agrees(plan, hp, slice, hs, criterion)
+    small_agrees(plan, hp, slice, hs, criterion)
 }

@@ -7,6 +7,7 @@ ghost use Rattle.file.specs.Layout.{netFrom, sliceFrom};
 ghost use Rattle.file.specs.Facts.{Sound};
 ghost use Rattle.file.specs.Criterion.{criterionOf, criterionBytesRefusal};
 ghost use Rattle.promise.specs.Calls.{told};
+ghost use Rattle.rules_tables.specs.Agreed.{Agreed};
 ghost use Rattle.check_rules.specs.Answer.{outcomeNumbers};
 ghost use Rattle.check_rules.specs.Room.{rulesFrom4, Judged};
 ghost use Rattle.check_sizes.specs.Sizes.{KnownIn};
@@ -64,6 +65,30 @@ pub fn number(v: Verdict) -> u32
     }
 }
 
+// Every rule from 4 on, and the rules from the first in doubt on: two functions, so that the compiler keeps their tables out of the frame of a check that is accepted at once.
+fn all_in_doubt(plan: &[u8], hp: Header, slice: &[u8], hs: Header, criterion: &[u16]) -> Outcome
+    requires { ⌜ Judged (now plan) hp (now slice) hs (now criterion) ⌝ }
+    requires { ⌜ Agreed 0 (netFrom (now plan) hp) (sliceFrom (now slice) hs) (now criterion) ⌝ }
+    ensures { λ r. ⌜ outcomeNumbers r ≡ told (verdictFrom 4 (rulesFrom4 (netFrom (now (plan .entry)) hp) (sliceFrom (now (slice .entry)) hs) (now (criterion .entry)))) ⌝ }
+{
+    sized(0, plan, hp, slice, hs, criterion)
+}
+
+fn in_doubt(
+    doubt: usize,
+    plan: &[u8],
+    hp: Header,
+    slice: &[u8],
+    hs: Header,
+    criterion: &[u16],
+) -> Outcome
+    requires { ⌜ Judged (now plan) hp (now slice) hs (now criterion) ⌝ }
+    requires { ⌜ Agreed doubt (netFrom (now plan) hp) (sliceFrom (now slice) hs) (now criterion) ⌝ }
+    ensures { λ r. ⌜ outcomeNumbers r ≡ told (verdictFrom 4 (rulesFrom4 (netFrom (now (plan .entry)) hp) (sliceFrom (now (slice .entry)) hs) (now (criterion .entry)))) ⌝ }
+{
+    sized(doubt, plan, hp, slice, hs, criterion)
+}
+
 // Rules 4 to 10, of places and transitions that the plan knows: one pass, then the rules that it leaves in doubt.
 fn others_outcome(plan: &[u8], hp: Header, slice: &[u8], hs: Header, criterion: &[u16]) -> Outcome
     requires { ⌜ Judged (now plan) hp (now slice) hs (now criterion) ⌝ }
@@ -71,15 +96,18 @@ fn others_outcome(plan: &[u8], hp: Header, slice: &[u8], hs: Header, criterion: 
     ensures { λ r. ⌜ outcomeNumbers r ≡ told (verdictFrom 4 (rulesFrom4 (netFrom (now (plan .entry)) hp) (sliceFrom (now (slice .entry)) hs) (now (criterion .entry)))) ⌝ }
 {
     let found = agreeing(plan, hp, slice, hs, criterion);
-    let t = found.other;
-    if t < hp.transitions {
-        return Outcome::OtherArcs(t as u16);
-    }
     let doubt = found.doubt;
     if 10 < doubt {
         return Outcome::Accepted;
     }
-    sized(doubt, plan, hp, slice, hs, criterion)
+    if doubt == 0 {
+        return all_in_doubt(plan, hp, slice, hs, criterion);
+    }
+    let t = found.other;
+    if t < hp.transitions {
+        return Outcome::OtherArcs(t as u16);
+    }
+    in_doubt(doubt, plan, hp, slice, hs, criterion)
 }
 
 // Rules 1 to 3, then the others.

@@ -67,10 +67,10 @@ pub(crate) fn all_good(
     ensures { λ r. ⌜ (r ≡ true → arcsRefusal (now (file .entry)) places transitions start 0 count ≡ 0) ⌝ }
 {
     let room = room(places, transitions);
+    let stop = start + 16 * (count / 2);
     let mut at = start;
     let mut least: usize = 0;
-    let mut left = count;
-    while 1 < left {
+    while at < stop {
         let w = word(file, at);
         let v = word(file, at + 8);
         if !fit(w, v, room) {
@@ -83,9 +83,8 @@ pub(crate) fn all_good(
         }
         least = second;
         at += 16;
-        left -= 2;
     }
-    if left == 0 {
+    if count % 2 == 0 {
         return true;
     }
     let w = word(file, at);

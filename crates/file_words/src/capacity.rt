@@ -18,13 +18,12 @@ fn bounded(file: &[u8], start: usize, count: usize) -> bool
     requires { ⌜ start + 8 * count ≤ length (now file) ⌝ }
     ensures { λ r. ⌜ r ≡ eqb (capsRefusal (now (file .entry)) start count) 0 ⌝ }
 {
+    let stop = start + 8 * count;
     let mut at = start;
     let mut above = false;
-    let mut left = count;
-    while 0 < left {
+    while at < stop {
         above = above | over(get32(file, at), get32(file, at + 4));
         at += 8;
-        left -= 1;
     }
     !above
 }

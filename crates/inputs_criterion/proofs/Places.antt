@@ -1,13 +1,13 @@
 -- Refusals 9 and 10, place by place.
 use Prim.Native.Nat.{ℕ, zero, suc, _+_, _-_, _*_, _/_, _%_, _≤_, _<_}
-use mathlib.Core.Path.{_≡_, refl, ap, _∙_}
+use mathlib.Core.Path.{_≡_, refl, sym, ap, _∙_}
 use mathlib.Core.Bool.{true, false, _||_}
 use mathlib.Core.List.{List, [], _∷_, _++_}
 use native.Mathlib.Omega.{arith}
 use native.Mathlib.Numerals.{add-one}
 use lib.Dec.{ltb, leb}
-use lib.ListN.{length, getD, drop}
-use lib.Seq.{drop-cons}
+use lib.ListN.{length, getD, take, drop, set}
+use lib.Seq.{drop-cons, take-suc-set}
 use borrow.Author.Tests.{eq-eqb, ne-eqb}
 use Rattle.file_words.specs.Word.{le16}
 use Rattle.file.specs.Layout.{wordsFrom}
@@ -57,13 +57,22 @@ pub words-none : (s : List ℕ) (at : ℕ) → [] ≡ wordsFrom s at 0
 unfolding wordsFrom
 words-none s at = refl
 
-pub words-more : (s : List ℕ) (at n : ℕ) → wordsFrom s at (n + 1) ≡ wordsFrom s at n ++ (le16 s (at + 2 * n) ∷ [])
+words-more : (s : List ℕ) (at n : ℕ) → wordsFrom s at (n + 1) ≡ wordsFrom s at n ++ (le16 s (at + 2 * n) ∷ [])
 unfolding wordsFrom
 words-more s at zero = let e : at + 2 * 0 ≡ at = omega arith in rw e
 words-more s at (suc n) =
     let e : suc n + 1 ≡ suc (n + 1) = omega arith in
     let f : at + 2 + 2 * n ≡ at + 2 * suc n = omega arith in
     rw e (ap (λ (l : List ℕ). le16 s at ∷ l) (words-more s (at + 2) n ∙ ap (λ (k : ℕ). wordsFrom s (at + 2) n ++ (le16 s k ∷ [])) f))
+
+-- one place more is stored
+pub words-set : (s l : List ℕ) (i x : ℕ) → i < length l → take i l ≡ wordsFrom s 0 i → x ≡ le16 s (2 * i) → take (i + 1) (set l i x) ≡ wordsFrom s 0 (i + 1)
+words-set s l i x inside e is =
+    let f : 2 * i ≡ 0 + 2 * i = omega arith in
+    rw (add-one i) (take-suc-set l i x inside)
+    ∙ ap (λ (k : List ℕ). k ++ (x ∷ [])) e
+    ∙ ap (λ (n : ℕ). wordsFrom s 0 i ++ (n ∷ [])) (is ∙ ap (le16 s) f)
+    ∙ sym (words-more s 0 i)
 
 -- ---- refusal 9
 

@@ -69,7 +69,12 @@ pub fn decode(q: &[u8], count: usize, list: &mut [u16])
     requires { ⌜ (2 * count ≤ length (now q)) × (count ≤ length (now list)) ⌝ }
     ensures { λ _. ⌜ take count (now (list .exit)) ≡ wordsFrom (now (q .entry)) 0 count ⌝ }
 {
-    let mut i: usize = 0;
+    if count == 0 {
+        return;
+    }
+    // most criteria have one place, and the compiler makes a call of memcpy of the loop: the first place stands apart
+    list[0] = get16(q, 0) as u16;
+    let mut i: usize = 1;
     while i < count {
         list[i] = get16(q, 2 * i) as u16;
         i += 1;

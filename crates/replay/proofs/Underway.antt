@@ -3,7 +3,7 @@ use Prim.Native.Nat.{ℕ, _+_, _-_, _^_, _<_, _≤_}
 use mathlib.Core.Path.{_≡_, refl, ap, sym, subst, subst⁻¹, _∙_}
 use mathlib.Core.List.{List}
 use native.Mathlib.Omega.{arith}
-use lib.ListN.{length, getD}
+use lib.ListN.{length, getD, drop}
 use Rattle.net.specs.Net.{Answer, Replay, Supplied, fire, replayFrom}
 use Rattle.net.proofs.Uncapped.{uncapped-enabled}
 use Rattle.file_words.specs.Word.{Bytes}
@@ -11,7 +11,7 @@ use Rattle.file.specs.Layout.{netFrom}
 use Rattle.file.specs.Facts.{Sound}
 use Rattle.file_header.specs.declared.Header.{Header}
 use Rattle.promise.specs.Firing.{replayTold}
-use Rattle.replay_steps.specs.Steps.{held, Plain, Holds, Underway}
+use Rattle.replay_steps.specs.Steps.{held, Ready, Plain, Holds, Listed, Underway}
 use Rattle.replay_steps.proofs.Underway.{known, fired-on, replay-end, replay-short, replay-full}
 use Rattle.replay_firing.specs.Short.{needAt}
 use Rattle.replay_firing.specs.Firing.{Testable, Firable, Tried}
@@ -23,6 +23,32 @@ use Rattle.replay.specs.Told.{outcomeNumbers}
 use Rattle.replay.specs.Steps.{Ended}
 use Rattle.replay.specs.declared.Outcome.{Outcome}
 use Rattle.replay.specs.declared.Outcome.the-variants.{Fired, Short, Full}
+
+pub underway-from : {s : List ℕ} {h : Header} {ts m₀ m₁ m : List ℕ} {k : ℕ} → m₁ ≡ m₀ → Underway s h ts m₁ m k → Underway s h ts m₀ m k
+underway-from {s} {h} {ts} {m₀} {m₁} {m} {k} e u = subst (λ (l : List ℕ). Underway s h ts l m k) e u
+
+-- a replay of which no firing is done: what replays from its marking replays from the first
+module _ {s : List ℕ} {h : Header} {ts m₀ m : List ℕ} {n : ℕ} (u : Underway s h ts m₀ m n) (none : n ≡ 0) where
+  pub listed-still : Listed s h ts m
+  listed-still = record { short = u .listed .short; known = u .listed .known; low = λ p. omega (arith, u .low p, none); caps = u .caps }
+
+  pub underway-then : {m′ : List ℕ} {k : ℕ} → Underway s h ts m m′ k → Underway s h ts m₀ m′ k
+  underway-then v = record {
+    listed = u .listed;
+    within = v .within;
+    long = v .long ∙ u .long;
+    low = v .low;
+    caps = v .caps;
+    same = v .same ∙ subst (λ (i : ℕ). replayFrom (netFrom s h) i (held m) (drop i ts) ≡ replayFrom (netFrom s h) 0 (held m₀) ts) none (u .same);
+  }
+
+-- a replay that was at m₁ is at m
+module _ {s : List ℕ} {h : Header} {ts m₀ m₁ m : List ℕ} {n k : ℕ} (was : Underway s h ts m₀ m₁ n) (is : Underway s h ts m₀ m k) where
+  pub long-still : length m ≡ length m₁
+  long-still = is .long ∙ sym (was .long)
+
+  pub ready-on : {table : List ℕ} → Ready s h table m₁ → Ready s h table m
+  ready-on r = record { sound = r .sound; bytes = r .bytes; long = r .long; starts = r .starts; places = long-still ∙ r .places }
 
 module _ {s : List ℕ} {h : Header} {ts m₀ m : List ℕ} {k : ℕ} (u : Underway s h ts m₀ m k) where
   ended : {a : Answer} (o : Outcome) → replayFrom (netFrom s h) 0 (held m₀) ts ≡ record { answer = a; marking = held m } → outcomeNumbers o ≡ replayTold a → Ended s h ts m₀ m o

@@ -3,7 +3,7 @@ use Prim.Native.Nat.{ℕ}
 use mathlib.Core.List.{List}
 use mathlib.Core.Path.{_≡_}
 use lib.ListN.{length}
-use Rattle.net.specs.Net.{replayFrom}
+use Rattle.net.specs.Net.{tokens, replayFrom}
 use Rattle.file.specs.Layout.{netFrom}
 use Rattle.file.specs.Facts.{Sound}
 use Rattle.file_header.specs.declared.Header.{Header}
@@ -11,6 +11,10 @@ use Rattle.promise.specs.Firing.{replayTold, listRefusal}
 use Rattle.replay_steps.specs.Steps.{held, Holds}
 use Rattle.replay.specs.Told.{outcomeNumbers}
 use Rattle.replay.specs.declared.Outcome.{Outcome}
+
+-- the initial marking, as a list
+abbrev pub begun : List ℕ → Header → List ℕ
+begun s h = tokens (netFrom s h) (netFrom s h .marking)
 
 -- the file was read, the list is not refused, and m has an entry for each place
 pub record Passed (s : List ℕ) (h : Header) (ts m : List ℕ) : Type 0 where

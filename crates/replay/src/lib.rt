@@ -8,10 +8,10 @@ ghost use Rattle.file.specs.Facts.{Sound};
 ghost use Rattle.promise.specs.Calls.{written};
 ghost use Rattle.promise.specs.Firing.{replayTold, replayOr};
 ghost use Rattle.replay.specs.Told.{outcomeNumbers, heldBack};
-ghost use Rattle.replay_steps.specs.Steps.{Ready, Plain, Holds, Listed, Underway};
-ghost use Rattle.replay.specs.Steps.{Passed, Ended};
-use file_header::Header;
+ghost use Rattle.replay_steps.specs.Steps.{Ready, Plain, Underway};
+ghost use Rattle.replay.specs.Steps.{begun, Passed, Ended};
 use file_arcs::arc;
+use file_header::Header;
 use replay_firing::Test;
 use replay_firing::add_up;
 use replay_firing::attempt;
@@ -30,22 +30,39 @@ pub enum Outcome {
     Refused(u32),
 }
 
-// A quick way through the first firings: how many it has done. It may answer 0, and leave the marking alone.
-fn head_start(file: &[u8], h: Header, table: &[u16], list: &[u16], marking: &mut [u64]) -> usize
-    requires { ⌜ Plain (now file) h (now table) (now marking) ⌝ }
-    requires { ⌜ Listed (now file) h (now list) (now marking) ⌝ }
-    ensures { λ r. ⌜ Underway (now (file .entry)) h (now (list .entry)) (now (marking .entry)) (now (marking .exit)) r ⌝ }
+// A quick way through the first firings where none is done: how many are done then. It may do none, and leave the marking alone.
+fn head_start(
+    file: &[u8],
+    h: Header,
+    table: &[u16],
+    list: &[u16],
+    done: usize,
+    marking: &mut [u64],
+) -> usize
+    requires { ⌜ Ready (now file) h (now table) (now marking) ⌝ }
+    requires { ⌜ Underway (now file) h (now list) (begun (now file) h) (now marking) done ⌝ }
+    ensures { λ r. ⌜ Underway (now (file .entry)) h (now (list .entry)) (begun (now (file .entry)) h) (now (marking .exit)) r ⌝ }
 {
+    if done != 0 {
+        return done;
+    }
     replay_fast::ahead(file, h, table, list, marking)
 }
 
-// Fires the listed transitions of a net without caps in turn, until one is not enabled.
-fn run(file: &[u8], h: Header, table: &[u16], list: &[u16], marking: &mut [u64]) -> Outcome
+// Fires the listed transitions of a net without caps in turn, after those that are done, until one is not enabled.
+fn run(
+    file: &[u8],
+    h: Header,
+    table: &[u16],
+    list: &[u16],
+    done: usize,
+    marking: &mut [u64],
+) -> Outcome
     requires { ⌜ Plain (now file) h (now table) (now marking) ⌝ }
-    requires { ⌜ Listed (now file) h (now list) (now marking) ⌝ }
-    ensures { λ r. ⌜ Ended (now (file .entry)) h (now (list .entry)) (now (marking .entry)) (now (marking .exit)) r ⌝ }
+    requires { ⌜ Underway (now file) h (now list) (begun (now file) h) (now marking) done ⌝ }
+    ensures { λ r. ⌜ Ended (now (file .entry)) h (now (list .entry)) (begun (now (file .entry)) h) (now (marking .exit)) r ⌝ }
 {
-    let mut k = head_start(file, h, table, list, marking);
+    let mut k = done;
     'firings: loop {
         if list.len() <= k {
             break 'firings Outcome::Fired;
@@ -76,12 +93,19 @@ fn run(file: &[u8], h: Header, table: &[u16], list: &[u16], marking: &mut [u64])
 }
 
 // The same for any net, one firing after the other.
-fn run_capped(file: &[u8], h: Header, table: &[u16], list: &[u16], marking: &mut [u64]) -> Outcome
+fn run_capped(
+    file: &[u8],
+    h: Header,
+    table: &[u16],
+    list: &[u16],
+    done: usize,
+    marking: &mut [u64],
+) -> Outcome
     requires { ⌜ Ready (now file) h (now table) (now marking) ⌝ }
-    requires { ⌜ Listed (now file) h (now list) (now marking) ⌝ }
-    ensures { λ r. ⌜ Ended (now (file .entry)) h (now (list .entry)) (now (marking .entry)) (now (marking .exit)) r ⌝ }
+    requires { ⌜ Underway (now file) h (now list) (begun (now file) h) (now marking) done ⌝ }
+    ensures { λ r. ⌜ Ended (now (file .entry)) h (now (list .entry)) (begun (now (file .entry)) h) (now (marking .exit)) r ⌝ }
 {
-    let mut k: usize = 0;
+    let mut k = done;
     while k < list.len() {
         let t = list[k] as usize;
         let index = k as u32;
@@ -95,65 +119,104 @@ fn run_capped(file: &[u8], h: Header, table: &[u16], list: &[u16], marking: &mut
     Outcome::Fired
 }
 
-// The same for any net, by the quicker of the two.
-fn run_either(file: &[u8], h: Header, table: &[u16], list: &[u16], marking: &mut [u64]) -> Outcome
+// The same for any net: by a quick way first, then by the quicker of the two.
+fn run_either(
+    file: &[u8],
+    h: Header,
+    table: &[u16],
+    list: &[u16],
+    done: usize,
+    marking: &mut [u64],
+) -> Outcome
     requires { ⌜ Ready (now file) h (now table) (now marking) ⌝ }
-    requires { ⌜ Listed (now file) h (now list) (now marking) ⌝ }
-    ensures { λ r. ⌜ Ended (now (file .entry)) h (now (list .entry)) (now (marking .entry)) (now (marking .exit)) r ⌝ }
+    requires { ⌜ Underway (now file) h (now list) (begun (now file) h) (now marking) done ⌝ }
+    ensures { λ r. ⌜ Ended (now (file .entry)) h (now (list .entry)) (begun (now (file .entry)) h) (now (marking .exit)) r ⌝ }
 {
+    let k = head_start(file, h, table, list, done, marking);
     if file::has_caps(file, h) {
-        return run_capped(file, h, table, list, marking);
+        return run_capped(file, h, table, list, k, marking);
     }
-    run(file, h, table, list, marking)
+    run(file, h, table, list, k, marking)
 }
 
 // Writes the initial marking of each place.
 fn load(file: &[u8], h: Header, marking: &mut [u64])
     requires { ⌜ Sound (now file) h ⌝ }
     requires { ⌜ length (now marking) ≡ h .places ⌝ }
-    ensures { λ _. ⌜ Holds (now (marking .entry)) (now (marking .exit)) (netFrom (now (file .entry)) h .marking) ⌝ }
+    ensures { λ _. ⌜ now (marking .exit) ≡ begun (now (file .entry)) h ⌝ }
 {
     let mut p: usize = 0;
+    if h.edition == file_header::CAPS {
+        while p < h.places {
+            marking[p] = file_words::get32(file, h.markstart + 8 * p) as u64;
+            p += 1;
+        }
+        return;
+    }
     while p < h.places {
-        marking[p] = file::marking(file, h, p) as u64;
+        marking[p] = file_words::get32(file, h.markstart + 4 * p) as u64;
         p += 1;
     }
 }
 
-// Replays a list that is not refused, with one entry of the marking for each place.
+// The initial marking, and the firings that a small net does at once from there: how many.
+fn begin(file: &[u8], h: Header, list: &[u16], marking: &mut [u64]) -> usize
+    requires { ⌜ Passed (now file) h (now list) (now marking) ⌝ }
+    ensures { λ r. ⌜ Underway (now (file .entry)) h (now (list .entry)) (begun (now (file .entry)) h) (now (marking .exit)) r ⌝ }
+{
+    load(file, h, marking);
+    replay_fast::small(file, h, list, marking)
+}
+
+// Replays what is left of a list, with one entry of the marking for each place.
 fn replay_by(
     file: &[u8],
     h: Header,
     list: &[u16],
+    done: usize,
     table: &mut [u16],
     marking: &mut [u64],
 ) -> Outcome
-    requires { ⌜ Passed (now file) h (now list) (now marking) ⌝ }
+    requires { ⌜ Sound (now file) h ⌝ }
+    requires { ⌜ Underway (now file) h (now list) (begun (now file) h) (now marking) done ⌝ }
     requires { ⌜ 2 * h .transitions < length (now table) ⌝ }
     ensures { λ r. ⌜ outcomeNumbers r ≡ replayTold (replayOf (netFrom (now (file .entry)) h) (now (list .entry)) .answer) ⌝ }
     ensures { λ _. ⌜ now (marking .exit) ≡ tokens (netFrom (now (file .entry)) h) (replayOf (netFrom (now (file .entry)) h) (now (list .entry)) .marking) ⌝ }
 {
     arcs_starts::starts(file, h.arcstart, h.arcs, h.transitions, table);
-    load(file, h, marking);
-    run_either(file, h, table, list, marking)
+    run_either(file, h, table, list, done, marking)
 }
 
 // The same, with a table that is as large as the net needs it.
-fn replay_all(file: &[u8], h: Header, list: &[u16], marking: &mut [u64]) -> Outcome
-    requires { ⌜ Passed (now file) h (now list) (now marking) ⌝ }
+fn replay_rest(file: &[u8], h: Header, list: &[u16], done: usize, marking: &mut [u64]) -> Outcome
+    requires { ⌜ Sound (now file) h ⌝ }
+    requires { ⌜ Underway (now file) h (now list) (begun (now file) h) (now marking) done ⌝ }
     ensures { λ r. ⌜ outcomeNumbers r ≡ replayTold (replayOf (netFrom (now (file .entry)) h) (now (list .entry)) .answer) ⌝ }
     ensures { λ _. ⌜ now (marking .exit) ≡ tokens (netFrom (now (file .entry)) h) (replayOf (netFrom (now (file .entry)) h) (now (list .entry)) .marking) ⌝ }
 {
     if h.transitions <= SMALL {
         let mut table = [0u16; 2 * SMALL + 1];
-        return replay_by(file, h, list, &mut table, marking);
+        return replay_by(file, h, list, done, &mut table, marking);
     }
     if h.transitions <= MIDDLE {
         let mut table = [0u16; 2 * MIDDLE + 1];
-        return replay_by(file, h, list, &mut table, marking);
+        return replay_by(file, h, list, done, &mut table, marking);
     }
     let mut table = [0u16; 2 * LARGE + 1];
-    replay_by(file, h, list, &mut table, marking)
+    replay_by(file, h, list, done, &mut table, marking)
+}
+
+// Replays a list that is not refused, with one entry of the marking for each place.
+fn replay_all(file: &[u8], h: Header, list: &[u16], marking: &mut [u64]) -> Outcome
+    requires { ⌜ Passed (now file) h (now list) (now marking) ⌝ }
+    ensures { λ r. ⌜ outcomeNumbers r ≡ replayTold (replayOf (netFrom (now (file .entry)) h) (now (list .entry)) .answer) ⌝ }
+    ensures { λ _. ⌜ now (marking .exit) ≡ tokens (netFrom (now (file .entry)) h) (replayOf (netFrom (now (file .entry)) h) (now (list .entry)) .marking) ⌝ }
+{
+    let done = begin(file, h, list, marking);
+    if list.len() <= done {
+        return Outcome::Fired;
+    }
+    replay_rest(file, h, list, done, marking)
 }
 
 // Checks the list, then the room for the marking: 0, 11, 12 or 13.

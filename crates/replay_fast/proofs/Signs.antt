@@ -38,6 +38,15 @@ change-takes d w z = rw (eq-eqb d 0 z)
 pub change-gives : (d w : ℕ) → (d ≡ 0 → ⊥) → changeOf d w ≡ w
 change-gives d w z = rw (ne-eqb d 0 z)
 
+module _ (d w : ℕ) (f : Weighs w) where
+  pub signed-takes : d ≡ 0 → (r : ℕ) → r < 18446744073709551616 → (r + w) % 2 ^ 64 ≡ 0 → Signed (changeOf d w) r
+  signed-takes z r fits q =
+      let e = change-takes d w z in
+      record { gives = λ l. absurd (omega (arith, e, f .below, l)); takes = λ l. omega (arith, e, f .some, f .below, fits, q) }
+
+  pub signed-gives : (d ≡ 0 → ⊥) → Signed (changeOf d w) w
+  signed-gives z = let e = change-gives d w z in record { gives = λ l. omega (arith, e); takes = λ l. absurd (omega (arith, e, f .below, l)) }
+
 module _ (d w : ℕ) (f : Weighs w) (c : ℕ) (x : Signed (changeOf d w) c) where
   pub takes-is : d ≡ 0 → c + w ≡ 18446744073709551616
   takes-is z = let e = change-takes d w z in omega (arith, e, f .some, f .below, x .takes (omega (arith, e, f .below)))

@@ -1,14 +1,16 @@
 -- What each arc adds to its place, as one number, and entries that wrap below 0 in the middle of a firing.
-use Prim.Native.Nat.{ℕ, _+_, _*_, _-_, _%_, _^_, _≤_, _<_}
+use Prim.Native.Nat.{ℕ, zero, suc, _+_, _*_, _-_, _%_, _≤_, _<_}
 use mathlib.Core.List.{List}
 use mathlib.Core.Path.{_≡_}
 use lib.Dec.{eqb}
 use lib.ListN.{length, getD}
+use Rattle.net.specs.Net.{Uncapped, counted}
 use Rattle.file_words.specs.Word.{Bytes}
 use Rattle.file_arcs.specs.Layout.{arcAt}
+use Rattle.file.specs.Layout.{netFrom}
 use Rattle.file.specs.Facts.{Sound}
 use Rattle.file_header.specs.declared.Header.{Header}
-use Rattle.arcs_starts.specs.Table.{choose}
+use Rattle.arcs_starts.specs.Table.{choose, Split}
 use Rattle.arcs_column.specs.Ways.{placeAt, sumOn}
 
 -- what an arc adds to its place, modulo 2 ^ 32; an input arc takes its weight
@@ -51,10 +53,9 @@ abbrev pub liftAt : List ℕ → ℕ → ℕ
 liftAt m p = lift (getD m p 0)
 
 -- the arcs from..to, inputs first, can move the entries of m, none of which leaves its room
-pub record Movable (s : List ℕ) (h : Header) (places changes : List ℕ) (from to : ℕ) (m : List ℕ) : Type 0 where
+pub record Movable (s : List ℕ) (h : Header) (from to : ℕ) (m : List ℕ) : Type 0 where
   pub sound : Sound s h
   pub bytes : Bytes s
-  pub moves-of : MovesOf s h places changes
   pub rising : from ≤ to
   pub within : to ≤ h .arcs
   pub held : length m ≡ h .places
@@ -64,10 +65,10 @@ pub record Movable (s : List ℕ) (h : Header) (places changes : List ℕ) (from
   pub most : (p : ℕ) → p < length m → liftAt m p < 13835058055282163712
   pub fits : (p : ℕ) → getD m p 0 < 18446744073709551616
 
--- each entry has lost the weights of the arcs from..to in direction d, and got those in direction g
-pub record Moved (d g : ℕ) (s : List ℕ) (h : Header) (from to : ℕ) (was is : List ℕ) : Type 0 where
+-- each entry has lost the weights of the arcs from..to, of those that start at `start`, in direction d, and got those in direction g
+pub record Moved (d g : ℕ) (s : List ℕ) (start from to : ℕ) (was is : List ℕ) : Type 0 where
   pub long : length is ≡ length was
-  pub at : (p : ℕ) → p < length was → liftAt is p + sumOn d s (h .arcstart) p to + sumOn g s (h .arcstart) p from ≡ liftAt was p + sumOn g s (h .arcstart) p to + sumOn d s (h .arcstart) p from
+  pub at : (p : ℕ) → p < length was → liftAt is p + sumOn d s start p to + sumOn g s start p from ≡ liftAt was p + sumOn g s start p to + sumOn d s start p from
   pub fits : (p : ℕ) → getD is p 0 < 18446744073709551616
 
 -- no entry has wrapped
@@ -75,6 +76,29 @@ abbrev pub Whole : List ℕ → Type 0
 Whole m = (p : ℕ) → p < length m → 9223372036854775808 ≤ liftAt m p
 
 -- the arcs from..to have moved the entries, and where bit 63 of the answer is 0 no input took more than the tokens
-pub record Shifted (s : List ℕ) (h : Header) (from to : ℕ) (was is : List ℕ) (r : ℕ) : Type 0 where
-  pub moved : Moved 0 1 s h from to was is
-  pub enough : r < 9223372036854775808 → Whole was → (p : ℕ) → p < length was → 9223372036854775808 + sumOn 0 s (h .arcstart) p to ≤ liftAt was p + sumOn 0 s (h .arcstart) p from
+pub record Shifted (s : List ℕ) (start from to : ℕ) (was is : List ℕ) (r : ℕ) : Type 0 where
+  pub moved : Moved 0 1 s start from to was is
+  pub enough : r < 9223372036854775808 → Whole was → (p : ℕ) → p < length was → 9223372036854775808 + sumOn 0 s start p to ≤ liftAt was p + sumOn 0 s start p from
+
+-- the same where r is `to`; where it is below, the arcs up to r have moved the entries, and the others not
+pub record Stopped (s : List ℕ) (start from to : ℕ) (was is : List ℕ) (r : ℕ) : Type 0 where
+  pub whole : to ≤ r → Shifted s start from to was is 0
+  pub part : r < to → (from ≤ r) × Moved 0 1 s start from (r + 1) was is
+
+-- no place of the arcs from..to has more tokens in m than its cap
+pub record Roomy (s : List ℕ) (h : Header) (from to : ℕ) (m : List ℕ) : Type 0 where
+  pub at : (j : ℕ) → from ≤ j → j < to → 0 < netFrom s h .cap (placeAt s (h .arcstart) j) → getD m (placeAt s (h .arcstart) j) 0 ≤ netFrom s h .cap (placeAt s (h .arcstart) j)
+
+-- how many of the entries 1..n are as the one before
+unfoldable pub repeatsTo : List ℕ → ℕ → ℕ
+repeatsTo table zero = 0
+repeatsTo table (suc n) = repeatsTo table n + counted (eqb (getD table (suc n) 0) (getD table n 0)) 1
+
+-- a file without caps that was read, where the arcs of each transition start, and m has an entry for each place
+pub record Indexed (s : List ℕ) (h : Header) (table m : List ℕ) : Type 0 where
+  pub sound : Sound s h
+  pub bytes : Bytes s
+  pub uncapped : Uncapped (netFrom s h)
+  pub long : h .transitions < length table
+  pub firsts : (t : ℕ) → t ≤ h .transitions → Split s (h .arcstart) (h .arcs) (2 * t) (getD table t 0)
+  pub places : length m ≡ h .places

@@ -13,6 +13,7 @@ ghost use Rattle.together.specs.Told.{togetherNumbers, heldBack};
 ghost use Rattle.together.specs.Inputs.{drawn, OneWay, MostTimes, TakesTimes, Passed};
 use arcs_groups::group;
 use arcs_starts::first_from;
+use arcs_starts::next_from;
 use file_arcs::arc;
 use file_header::Header;
 
@@ -83,7 +84,7 @@ fn largest(file: &[u8], h: Header, transition: usize, marking: &[u64], rest: &mu
 {
     let start = h.arcstart;
     let from = first_from(file, start, h.arcs, 2 * transition);
-    let to = first_from(file, start, h.arcs, 2 * transition + 1);
+    let to = next_from(file, start, from, h.arcs, 2 * transition + 1);
     copy(marking, rest);
     if to <= from {
         return Together::Unlimited;

@@ -1,12 +1,14 @@
 use borrow.Author.Needs.{needs}
 use mathlib.Core.Path.{_∙_}
 use mir.Facts.{toZ-ofZ}
+use native.Mathlib.Omega.{arith}
 use Rattle.arcs_starts.proofs.Reached.{ordered}
+use Rattle.arcs_starts.proofs.Splits.{past-by}
 use Rattle.arcs_effect.proofs.Parts.{inputs-in, outputs-in, effect-is}
 use Rattle.arcs_effect.proofs.effect.Statement.{statement}
 use Rattle.arcs_effect.proofs.effect.Tie as tie
 
-abbrev call : tie.After-first-from3 → tie.Start
+abbrev call : tie.After-next-from2 → tie.Start
 call c = c .before .before .before .before
 
 mul-first-from : tie.Need-mul-first-from
@@ -15,31 +17,31 @@ mul-first-from c = search needs
 first-from-requires : tie.Need-first-from-requires
 first-from-requires c κs = ordered _ _ (c .before .pre .0)
 
-mul-first-from-2 : tie.Need-mul-first-from-2
-mul-first-from-2 c = search needs
+mul-next-from : tie.Need-mul-next-from
+mul-next-from c = search needs
 
-add-first-from : tie.Need-add-first-from
-add-first-from c = search needs
+add-next-from : tie.Need-add-next-from
+add-next-from c = search needs
 
-first-from-requires-2 : tie.Need-first-from-requires-2
-first-from-requires-2 c κs = ordered _ _ (c .before .before .pre .0)
+next-from-requires : tie.Need-next-from-requires
+next-from-requires c κs = let a = c .first-from .ensures in (ordered _ _ (c .before .before .pre .0), a .within, past-by a (omega arith))
 
-mul-first-from-3 : tie.Need-mul-first-from-3
-mul-first-from-3 c = search needs
+mul-next-from-2 : tie.Need-mul-next-from-2
+mul-next-from-2 c = search needs
 
-add-first-from-2 : tie.Need-add-first-from-2
-add-first-from-2 c = search needs
+add-next-from-2 : tie.Need-add-next-from-2
+add-next-from-2 c = search needs
 
-first-from-requires-3 : tie.Need-first-from-requires-3
-first-from-requires-3 c κs = ordered _ _ (c .before .before .before .pre .0)
+next-from-requires-2 : tie.Need-next-from-requires-2
+next-from-requires-2 c κs = let b = c .next-from .ensures in (ordered _ _ (c .before .before .before .pre .0), b .within, past-by b (omega arith))
 
 weight-requires : tie.Need-weight-requires
-weight-requires c κs = inputs-in _ _ (call c .pre .0) _ _ _ _ (c .before .before .first-from .ensures) (c .before .first-from2 .ensures) (c .first-from3 .ensures)
+weight-requires c κs = inputs-in _ _ (call c .pre .0) _ _ _ _ (c .before .before .first-from .ensures) (c .before .next-from .ensures) (c .next-from2 .ensures)
 
 weight-requires-2 : tie.Need-weight-requires-2
 weight-requires-2 c κs =
     let found = c .before in
-    outputs-in _ _ (call found .pre .0) _ _ _ _ (found .before .before .first-from .ensures) (found .before .first-from2 .ensures) (found .first-from3 .ensures)
+    outputs-in _ _ (call found .pre .0) _ _ _ _ (found .before .before .first-from .ensures) (found .before .next-from .ensures) (found .next-from2 .ensures)
 
 difference-requires : tie.Need-difference-requires
 difference-requires c κs = search needs
@@ -49,7 +51,7 @@ returns c =
     let found = c .before .before .before in
     toZ-ofZ (record { sfits = c .difference .ok })
     ∙ c .difference .ensures
-    ∙ effect-is _ _ (call found .pre .0) _ _ _ _ (found .before .before .first-from .ensures) (found .before .first-from2 .ensures) (found .first-from3 .ensures) _ _ _ (c .before .before .weight .ensures .0) (c .before .weight2 .ensures .0)
+    ∙ effect-is _ _ (call found .pre .0) _ _ _ _ (found .before .before .first-from .ensures) (found .before .next-from .ensures) (found .next-from2 .ensures) _ _ _ (c .before .before .weight .ensures .0) (c .before .weight2 .ensures .0)
 
 pub effect-spec : {M : Type 1} → statement M
 effect-spec =
@@ -57,12 +59,12 @@ effect-spec =
     (tie.spec
     mul-first-from
     first-from-requires
-    mul-first-from-2
-    add-first-from
-    first-from-requires-2
-    mul-first-from-3
-    add-first-from-2
-    first-from-requires-3
+    mul-next-from
+    add-next-from
+    next-from-requires
+    mul-next-from-2
+    add-next-from-2
+    next-from-requires-2
     weight-requires
     weight-requires-2
     difference-requires

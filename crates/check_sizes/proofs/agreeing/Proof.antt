@@ -1,27 +1,40 @@
 use borrow.Author.Needs.{needs}
+use borrow.Author.Tests.{ltb-false}
+use lib.Dec.{ltb}
+use mathlib.Core.Bool.{_||_}
+use Rattle.net.proofs.Numbers.{fails, is-false, or-left, or-right}
 use Rattle.check_sizes.proofs.agreeing.Statement.{statement}
 use Rattle.check_sizes.proofs.agreeing.Tie as tie
 
-within-requires : tie.Need-within-requires
-within-requires c κs = search needs
-
-small-agrees-requires : tie.Need-small-agrees-requires
-small-agrees-requires c κs = (c .before .before .before .before .before .pre .0, (c .before .before .before .before .before .pre .1, c .before .within .ensures (c .if1 .taken)))
+many-places-requires : tie.Need-many-places-requires
+many-places-requires c κs = search needs
 
 returns : tie.Need-returns
 returns c = search needs
 
-within-requires-2 : tie.Need-within-requires-2
-within-requires-2 c κs = search needs
-
-middle-agrees-requires : tie.Need-middle-agrees-requires
-middle-agrees-requires c κs = (c .before .before .before .before .before .before .before .pre .0, (c .before .before .before .before .before .before .before .pre .1, c .before .within2 .ensures (c .if2 .taken)))
+many-transitions-requires : tie.Need-many-transitions-requires
+many-transitions-requires c κs = search needs
 
 returns-2 : tie.Need-returns-2
 returns-2 c = search needs
 
-large-agrees-requires : tie.Need-large-agrees-requires
-large-agrees-requires c κs = search needs
+small-agrees-requires : tie.Need-small-agrees-requires
+small-agrees-requires c κs =
+    let first = c .before .before .before in
+    let start = first .before .before .before .before .before in
+    let a = ltb 16 (start .args .hp .transitions) in
+    let b = ltb 16 (start .args .hs .transitions) in
+    let few = fails (a || b) (c .if2 .left) in (
+      start .pre .0,
+      (
+        start .pre .1,
+        record {
+          places = first .if1 .left;
+          transitions = ltb-false 16 _ (is-false a (λ t. few (or-left a b t)));
+          own = ltb-false 16 _ (is-false b (λ t. few (or-right a b t)));
+        },
+      ),
+    )
 
 returns-3 : tie.Need-returns-3
 returns-3 c = search needs
@@ -30,11 +43,9 @@ pub agreeing-spec : {M : Type 1} → statement M
 agreeing-spec =
     tie.close
     (tie.spec
-    within-requires
-    small-agrees-requires
+    many-places-requires
     returns
-    within-requires-2
-    middle-agrees-requires
+    many-transitions-requires
     returns-2
-    large-agrees-requires
+    small-agrees-requires
     returns-3)

@@ -1,29 +1,29 @@
--- Outer loop: what was the marking after k₀ firings is that after k, from which the rest of the list replays as the whole list does from the start (`Underway`).
+-- Outer loop: from the marking after k firings the rest of the list replays as the whole list does from the start (`Underway`).
 -- Inner loop: every place has enough for the input arcs passed (`Covered`).
-use Prim.Native.Nat.{ℕ, _*_, _+_, _-_}
+use Prim.Native.Nat.{_*_, _+_, _-_}
 use native.Mathlib.Omega.{arith}
 use lib.ListN.{length, getD}
-use mathlib.Core.List.{List}
 use Rattle.replay_steps.specs.Steps.{Underway}
-use Rattle.replay_steps.proofs.Underway.{Tabulated, tabulated, ready-still, split-by}
+use Rattle.replay_steps.proofs.Underway.{Tabulated, tabulated, split-by}
 use Rattle.replay_firing.proofs.Firing.{arcs-fit}
 use Rattle.replay_firing.proofs.Short.{Covered, Weighed, covered-none, weigh, known}
-use Rattle.replay.proofs.Underway.{ended-fired, ended-short, firable, fired-plain}
+use Rattle.replay.specs.Steps.{begun}
+use Rattle.replay.proofs.Underway.{ready-on, long-still, ended-fired, ended-short, firable, fired-plain}
 use borrow.Author.Needs.{needs}
 use Rattle.replay.proofs.run.Statement.{statement}
 use Rattle.replay.proofs.run.Tie as tie
 
 abbrev Inv-loop : tie.InvT-loop
-Inv-loop file h table list marking k t from middle j₀ last₀ need₀ j last need = Covered file h t from middle marking j last need
+Inv-loop file h table list done marking k t from middle j₀ last₀ need₀ j last need = Covered file h t from middle marking j last need
 
 abbrev μ-loop : tie.MeasureT-loop
-μ-loop file h table list marking k t from middle j₀ last₀ need₀ j last need = h .arcs - j
+μ-loop file h table list done marking k t from middle j₀ last₀ need₀ j last need = h .arcs - j
 
 abbrev Inv-firings : tie.InvT-firings
-Inv-firings file h table list marking₀ k₀ marking k = (m : List ℕ) → Underway file h list m marking₀ k₀ → Underway file h list m marking k
+Inv-firings file h table list done marking₀ k₀ marking k = Underway file h list (begun file h) marking k
 
 abbrev μ-firings : tie.MeasureT-firings
-μ-firings file h table list marking₀ k₀ marking k = length list - k
+μ-firings file h table list done marking₀ k₀ marking k = length list - k
 
 -- ---- the states: the call, the head of a firing, the head of an input arc
 
@@ -31,7 +31,7 @@ abbrev Firing : Type 0
 Firing = tie.At-firings Inv-loop μ-loop Inv-firings μ-firings
 
 abbrev call : Firing → tie.Start Inv-loop μ-loop Inv-firings μ-firings
-call c = let a = c .before .before .before in a .before .before .before .before .before .before
+call c = c .before .before .before .before .before
 
 abbrev Input : Type 0
 Input = tie.At-loop Inv-loop μ-loop Inv-firings μ-firings
@@ -39,13 +39,9 @@ Input = tie.At-loop Inv-loop μ-loop Inv-firings μ-firings
 abbrev firing : Input → Firing
 firing c = c .before .before .before .before .before
 
--- the marking after k firings, of those ahead and of the loop
-here : (c : Firing) → let s = call c in Underway (s .args .file .now) (s .args .h) (s .args .list .now) (s .args .marking .now) (c .firings .marking) (c .firings .k)
-here c = c .firings .inv (call c .args .marking .now) (c .before .before .before .head-start .ensures)
-
 -- the transition listed at k, in the table
 listed : (c : tie.After-shared-slice-known4 Inv-loop μ-loop Inv-firings μ-firings) → let s = call (c .before .before) in Tabulated (s .args .h) (s .args .table .now) (s .args .list .now) (c .before .before .firings .k)
-listed c = tabulated (here (c .before .before)) (c .before .if1 .left) (call (c .before .before) .pre .0 .ready)
+listed c = tabulated (c .before .before .firings .inv) (c .before .if1 .left) (call (c .before .before) .pre .0 .ready)
 
 -- the place of input arc j, and what the arcs up to it take from there
 weighed : (c : tie.After-add-up Inv-loop μ-loop Inv-firings μ-firings) → let x = c .before .before .before .before in let f = firing x in let s = call f in
@@ -57,11 +53,8 @@ weighed c =
 
 -- ---- to the firings
 
-head-start-requires : tie.Need-head-start-requires Inv-loop μ-loop Inv-firings μ-firings
-head-start-requires c κs = search needs
-
 firings-holds : tie.Need-firings-holds Inv-loop μ-loop Inv-firings μ-firings
-firings-holds c = λ m u. u
+firings-holds c = c .before .before .before .before .pre .1
 
 -- ---- the transition that is listed, and where its inputs stand
 
@@ -125,14 +118,14 @@ mul-count c = omega (arith, c .before .arc .ensures .1 .place)
 slice-read-count : tie.Need-slice-read-count Inv-loop μ-loop Inv-firings μ-firings
 slice-read-count c =
     let f = firing (c .before .before .before .before .before) in
-    omega (arith, weighed (c .before) .place, here f .long, call f .pre .0 .ready .places)
+    omega (arith, weighed (c .before) .place, f .firings .inv .long, call f .pre .0 .ready .places)
 
 -- ---- a place that is short
 
 cast-index : tie.Need-cast-index Inv-loop μ-loop Inv-firings μ-firings
 cast-index c =
     let x = c .before .before .before .before .before .before in
-    omega (arith, x .before .before .before .before .if1 .left, here (firing x) .listed .short)
+    omega (arith, x .before .before .before .before .if1 .left, firing x .firings .inv .listed .short)
 
 cast-place : tie.Need-cast-place Inv-loop μ-loop Inv-firings μ-firings
 cast-place c = omega (arith, c .before .before .before .arc .ensures .1 .place)
@@ -161,12 +154,12 @@ fire-requires : tie.Need-fire-requires Inv-loop μ-loop Inv-firings μ-firings
 fire-requires c κs =
     let x = c .before .before in
     let f = firing x in
-    (ready-still (here f) (call f .pre .0 .ready), firable (here f) (x .before .before .before .before .if1 .left) (x .loop .inv) (c .before .loop-test .left))
+    (ready-on (call f .pre .1) (f .firings .inv) (call f .pre .0 .ready), firable (f .firings .inv) (x .before .before .before .before .if1 .left) (x .loop .inv) (c .before .loop-test .left))
 
 add-k : tie.Need-add-k Inv-loop μ-loop Inv-firings μ-firings
 add-k c =
     let x = c .before .before .before .before .before in
-    omega (arith, x .before .before .before .before .if1 .left, here (firing x) .listed .short)
+    omega (arith, x .before .before .before .before .if1 .left, firing x .firings .inv .listed .short)
 
 firings-less : tie.Need-firings-less Inv-loop μ-loop Inv-firings μ-firings
 firings-less c =
@@ -174,26 +167,28 @@ firings-less c =
     omega (arith, x .before .before .before .before .if1 .left)
 
 firings-again : tie.Need-firings-again Inv-loop μ-loop Inv-firings μ-firings
-firings-again c = λ m u.
+firings-again c =
     let x = c .before .before .before .before .before in
     let f = firing x in
-    fired-plain (f .firings .inv m u) (x .before .before .before .before .if1 .left) (x .loop .inv) (c .before .before .before .before .loop-test .left) (call f .pre .0) (c .before .before .fire .ensures)
+    fired-plain (f .firings .inv) (x .before .before .before .before .if1 .left) (x .loop .inv) (c .before .before .before .before .loop-test .left) (call f .pre .0) (c .before .before .fire .ensures)
 
 -- ---- the ends
 
 same-length : tie.Need-same-length Inv-loop μ-loop Inv-firings μ-firings
-same-length c = here (c .before) .long
+same-length c = let f = c .before in long-still (call f .pre .1) (f .firings .inv)
 
 returns : tie.Need-returns Inv-loop μ-loop Inv-firings μ-firings
-returns c = ended-fired (here (c .before)) (c .if1 .taken)
+returns c = ended-fired (c .before .firings .inv) (c .if1 .taken)
 
 same-length-2 : tie.Need-same-length-2 Inv-loop μ-loop Inv-firings μ-firings
-same-length-2 c = here (firing (c .before .before .before .before .before .before .before)) .long
+same-length-2 c =
+    let f = firing (c .before .before .before .before .before .before .before) in
+    long-still (call f .pre .1) (f .firings .inv)
 
 returns-2 : tie.Need-returns-2 Inv-loop μ-loop Inv-firings μ-firings
 returns-2 c =
     let x = c .before .before .before .before .before .before .before in
-    ended-short (here (firing x)) (x .before .before .before .before .if1 .left) (weighed (c .before .before .before)) (c .before .if2 .taken) (c .missing .ensures)
+    ended-short (firing x .firings .inv) (x .before .before .before .before .if1 .left) (weighed (c .before .before .before)) (c .before .if2 .taken) (c .missing .ensures)
 
 pub run-spec : {M : Type 1} → statement M
 run-spec =
@@ -203,7 +198,6 @@ run-spec =
     μ-loop
     Inv-firings
     μ-firings
-    head-start-requires
     firings-holds
     mul-t
     shared-slice-read-t

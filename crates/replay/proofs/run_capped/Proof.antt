@@ -1,19 +1,20 @@
 -- The marking is that after k firings, from which the rest of the list replays as the whole list does from the start (`Underway`).
 use Prim.Native.Nat.{_-_, _<_}
+use mathlib.Core.Path.{_∙_, sym}
 use native.Mathlib.Omega.{arith}
 use lib.ListN.{length}
 use Rattle.replay_steps.specs.Steps.{Underway}
-use Rattle.replay_steps.proofs.Underway.{underway-begin, ready-still}
-use Rattle.replay.proofs.Underway.{ended-fired, testable, fired-next, tried-short, tried-full}
+use Rattle.replay.specs.Steps.{begun}
+use Rattle.replay.proofs.Underway.{ready-on, long-still, ended-fired, testable, fired-next, tried-short, tried-full}
 use borrow.Author.Needs.{needs}
 use Rattle.replay.proofs.run_capped.Statement.{statement}
 use Rattle.replay.proofs.run_capped.Tie as tie
 
 abbrev Inv-loop : tie.InvT-loop
-Inv-loop file h table list marking₀ k₀ marking k = Underway file h list marking₀ marking k
+Inv-loop file h table list done marking₀ k₀ marking k = Underway file h list (begun file h) marking k
 
 abbrev μ-loop : tie.MeasureT-loop
-μ-loop file h table list marking₀ k₀ marking k = length list - k
+μ-loop file h table list done marking₀ k₀ marking k = length list - k
 
 -- ---- the states: the call, the head of a firing, the firing tried
 
@@ -33,7 +34,7 @@ listed : (c : Tested) → firing c .loop .k < length (call (firing c) .args .lis
 listed c = c .before .before .before .loop-test .taken
 
 loop-holds : tie.Need-loop-holds Inv-loop μ-loop
-loop-holds c = underway-begin (c .before .before .before .before .pre .1)
+loop-holds c = c .before .before .before .before .pre .1
 
 mul-t : tie.Need-mul-t Inv-loop μ-loop
 mul-t c = search needs
@@ -50,7 +51,7 @@ cast-index c = omega (arith, c .before .loop-test .taken, c .before .before .loo
 attempt-requires : tie.Need-attempt-requires Inv-loop μ-loop
 attempt-requires c κs =
     let f = c .before .before .before in
-    (ready-still (f .loop .inv) (call f .pre .0), testable (f .loop .inv) (c .before .before .loop-test .taken))
+    (ready-on (call f .pre .1) (f .loop .inv) (call f .pre .0), testable (f .loop .inv) (c .before .before .loop-test .taken))
 
 -- ---- a transition that has fired
 
@@ -82,7 +83,7 @@ returns c =
     tried-short (firing a .loop .inv) (listed a) (a .attempt .ensures) (c .before .test .given .1)
 
 same-length : tie.Need-same-length Inv-loop μ-loop
-same-length c = returns c .1 .long
+same-length c = returns c .1 .long ∙ sym (call (firing (c .before .before .before .before .before)) .pre .1 .long)
 
 -- ---- one for which a place is full
 
@@ -95,12 +96,12 @@ returns-2 c =
     tried-full (firing a .loop .inv) (listed a) (a .attempt .ensures) (c .before .test2 .given .1)
 
 same-length-2 : tie.Need-same-length-2 Inv-loop μ-loop
-same-length-2 c = returns-2 c .1 .long
+same-length-2 c = returns-2 c .1 .long ∙ sym (call (firing (c .before .before .before .before .before)) .pre .1 .long)
 
 -- ---- all have fired
 
 same-length-3 : tie.Need-same-length-3 Inv-loop μ-loop
-same-length-3 c = c .before .loop .inv .long
+same-length-3 c = long-still (call (c .before) .pre .1) (c .before .loop .inv)
 
 returns-3 : tie.Need-returns-3 Inv-loop μ-loop
 returns-3 c = ended-fired (c .before .loop .inv) (c .loop-test .left)

@@ -1,16 +1,16 @@
 use borrow.Author.Needs.{needs}
-use Prim.Native.Nat.{ℕ, _+_, _-_, _%_, _^_, _≤_, _<_}
-use mathlib.Core.Path.{sym, ap, _∙_, subst}
+use Prim.Native.Nat.{_-_, _≤_, _<_}
+use mathlib.Core.Path.{_∙_}
 use native.Mathlib.Omega.{arith}
-use lib.ListN.{length, getD, set}
+use lib.ListN.{length}
 use Rattle.file_header.specs.declared.Header.{Header}
-use Rattle.replay_fast.specs.Moves.{Movable}
-use Rattle.replay_fast.proofs.Moving.{place-is, place-known, sub-turns, Moving, moving-none, moving-more, moving-end}
+use Rattle.replay_fast.specs.Moves.{MovesOf, Movable}
+use Rattle.replay_fast.proofs.Moving.{change-is, place-inside, Moving, moving-none, moving-end, back-more}
 use Rattle.replay_fast.proofs.back.Statement.{statement}
 use Rattle.replay_fast.proofs.back.Tie as tie
 
 abbrev Inv-loop : tie.InvT-loop
-Inv-loop file places changes from to marking₀ j₀ marking j = (j ≤ to) × ((h : Header) → Movable file h places changes from to marking₀ → Moving 1 0 file h from j marking₀ marking)
+Inv-loop file places changes from to marking₀ j₀ marking j = (j ≤ to) × ((h : Header) → Movable file h from to marking₀ → MovesOf file h places changes → Moving 1 0 file (h .arcstart) from j marking₀ marking)
 
 abbrev μ-loop : tie.MeasureT-loop
 μ-loop file places changes from to marking₀ j₀ marking j = to - j
@@ -32,28 +32,26 @@ inside c =
     let t = c .before in
     let at = t .before .loop in
     let s = call (t .before) in
-    let can = s .pre in
-    let is = c .entry .ensures .0 ∙ place-is can (at .j) (t .loop-test .taken) in
-    let known = place-known can (at .j) (t .loop-test .taken) in
-    let long = at .inv .1 (s .args .h) can .moved .long in
-    (omega (arith, is, known, long), omega (arith, is, known, can .held, can .sound .placed .places))
+    let can = s .pre .0 in
+    let is = c .entry .ensures .0 ∙ s .pre .1 .place (at .j) (omega (arith, can .within, t .loop-test .taken)) in
+    place-inside can (at .j) (t .loop-test .taken) is (at .inv .1 (s .args .h) can (s .pre .1) .moved .long)
 
 loop-holds : tie.Need-loop-holds Inv-loop μ-loop
-loop-holds c = (c .before .before .before .before .pre .rising, λ h can. moving-none (can .fits))
+loop-holds c = (c .before .before .before .before .pre .0 .rising, λ h can mv. moving-none (can .fits))
 
 entry-requires : tie.Need-entry-requires Inv-loop μ-loop
 entry-requires c κs =
-    let can = call (c .before) .pre in
-    omega (arith, can .moves-of .room, can .within, c .loop-test .taken)
+    let pre = call (c .before) .pre in
+    omega (arith, pre .1 .room, pre .0 .within, c .loop-test .taken)
 
 mul-signed : tie.Need-mul-signed Inv-loop μ-loop
-mul-signed c = let t = c .before in let can = call (t .before) .pre in omega (arith, can .sound .placed .arcs, can .within, t .loop-test .taken)
+mul-signed c = let t = c .before in let can = call (t .before) .pre .0 in omega (arith, can .sound .placed .arcs, can .within, t .loop-test .taken)
 
 shared-slice-read-signed : tie.Need-shared-slice-read-signed Inv-loop μ-loop
 shared-slice-read-signed c =
     let t = c .before .before in
-    let can = call (t .before) .pre in
-    omega (arith, can .moves-of .long, can .within, t .loop-test .taken)
+    let pre = call (t .before) .pre in
+    omega (arith, pre .1 .long, pre .0 .within, t .loop-test .taken)
 
 signed-requires : tie.Need-signed-requires Inv-loop μ-loop
 signed-requires c κs = search needs
@@ -86,25 +84,21 @@ loop-again c =
     let at = t .before .loop in
     let j = at .j in
     let l = t .loop-test .taken in
-    let a = call (t .before) .args in
-    let y = signed-of c .signed .ensures in
-    let v = c .wrapping-sub-u64 .result in (
+    let y = signed-of c .signed .ensures in (
       omega (arith, l),
-      λ h can.
-          let e = placed .entry .ensures .0 ∙ place-is can j l in
-          let x = at .inv .1 h can in
-          subst (λ (q : ℕ). Moving 1 0 (a .file .now) h (a .from) (j + 1) (a .marking .now) (set (at .marking) q v)) (sym e)
-          (moving-more can j l x v (omega arith) (sub-turns can j l y x v (c .wrapping-sub-u64 .ensures ∙ ap (λ (q : ℕ). getD (at .marking) q 0) e))),
+      λ h can mv.
+          let in-table : j < h .arcs = omega (arith, l, can .within) in
+          back-more can j l (change-is mv in-table y) (at .inv .1 h can mv) (placed .entry .ensures .0 ∙ mv .place j in-table) (c .wrapping-sub-u64 .result) (omega arith) (c .wrapping-sub-u64 .ensures),
     )
 
 same-length : tie.Need-same-length Inv-loop μ-loop
-same-length c = let s = call (c .before) in c .before .loop .inv .1 (s .args .h) (s .pre) .moved .long
+same-length c = let s = call (c .before) in c .before .loop .inv .1 (s .args .h) (s .pre .0) (s .pre .1) .moved .long
 
 returns : tie.Need-returns Inv-loop μ-loop
 returns c =
     let x = c .before .loop .inv in
     let s = call (c .before) in
-    moving-end (x .0) (c .loop-test .left) (x .1 (s .args .h) (s .pre))
+    moving-end (x .0) (c .loop-test .left) (x .1 (s .args .h) (s .pre .0) (s .pre .1))
 
 pub back-spec : {M : Type 1} → statement M
 back-spec =

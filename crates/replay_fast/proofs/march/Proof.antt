@@ -3,9 +3,10 @@ use borrow.Author.Needs.{needs}
 use Prim.Native.Nat.{_-_}
 use native.Mathlib.Omega.{arith}
 use lib.ListN.{length}
+use Rattle.net.proofs.Uncapped.{within-caps}
 use Rattle.replay_steps.specs.Steps.{Underway}
 use Rattle.replay_steps.proofs.Underway.{Tabulated, tabulated, underway-begin}
-use Rattle.replay_fast.proofs.Marching.{Step, step}
+use Rattle.replay_fast.proofs.Marching.{Step, step, by-slots}
 use Rattle.replay_fast.proofs.march.Statement.{statement}
 use Rattle.replay_fast.proofs.march.Tie as tie
 
@@ -29,11 +30,12 @@ listed c = tabulated (c .before .before .loop .inv) (c .before .loop-test .taken
 
 -- its firing, by the arcs that the table tells
 step-at : (c : tie.After-entry2 Inv-loop μ-loop) → let x = c .before .before .before .before in let s = call x in
-    Step (s .args .file .now) (s .args .h) (s .args .places .now) (s .args .changes .now) (s .args .list .now) (s .args .marking .now) (x .loop .marking) (x .loop .k) (c .before .entry .result) (c .entry2 .result)
+    Step (s .args .file .now) (s .args .h) (s .args .list .now) (s .args .marking .now) (x .loop .marking) (x .loop .k) (c .before .entry .result) (c .entry2 .result)
 step-at c =
     let x = c .before .before .before .before in
     let pre = call x .pre in
-    step (pre .0) (pre .1 .1) (x .loop .inv) (c .before .before .before .loop-test .taken) (c .before .entry .ensures .0) (c .entry2 .ensures .0)
+    let ready = pre .0 .ready in
+    step (ready .places) (x .loop .inv) (c .before .before .before .loop-test .taken) (by-slots (listed (c .before .before) .known) ready (c .before .entry .ensures .0) (c .entry2 .ensures .0))
 
 loop-holds : tie.Need-loop-holds Inv-loop μ-loop
 loop-holds c = underway-begin (c .before .before .before .before .before .before .pre .1 .0)
@@ -63,26 +65,38 @@ entry-requires-2 : tie.Need-entry-requires-2 Inv-loop μ-loop
 entry-requires-2 c κs = omega (arith, listed (c .before) .known, listed (c .before) .long)
 
 shift-requires : tie.Need-shift-requires Inv-loop μ-loop
-shift-requires c κs = step-at (c .before) .shifting
+shift-requires c κs =
+    let entry = c .before in
+    let x = entry .before .before .before .before in
+    (step-at entry .shifting, call x .pre .1 .1)
 
 -- ---- a firing that is undone
+
+add-back : tie.Need-add-back Inv-loop μ-loop
+add-back c =
+    let entry = c .before .before .before .before .before in
+    let can = step-at entry .shifting in
+    omega (arith, c .if1 .taken, can .within, can .sound .placed .arcs)
 
 back-requires : tie.Need-back-requires Inv-loop μ-loop
 back-requires c κs =
     let shift = c .before .before .before .before in
-    step-at (shift .before .before) .undoing _ _ (shift .shift .ensures)
+    let entry = shift .before .before in
+    let x = entry .before .before .before .before in
+    let part = shift .shift .ensures .part (c .before .if1 .taken) in
+    (step-at entry .leaving _ (part .0) (c .before .if1 .taken) _ (part .1), call x .pre .1 .1)
 
 same-length : tie.Need-same-length Inv-loop μ-loop
 same-length c =
     let back = c .before .before in
     let shift = back .before .before .before .before .before in
-    step-at (shift .before .before) .undone _ _ _ (shift .shift .ensures) (back .back .ensures) .long
+    step-at (shift .before .before) .left _ _ _ (shift .shift .ensures .part (back .before .before .if1 .taken) .1) (back .back .ensures) .long
 
 returns : tie.Need-returns Inv-loop μ-loop
 returns c =
     let back = c .before .before in
     let shift = back .before .before .before .before .before in
-    step-at (shift .before .before) .undone _ _ _ (shift .shift .ensures) (back .back .ensures)
+    step-at (shift .before .before) .left _ _ _ (shift .shift .ensures .part (back .before .before .if1 .taken) .1) (back .back .ensures)
 
 -- ---- a firing that is done
 
@@ -97,7 +111,9 @@ loop-less c = omega (arith, c .before .before .before .before .before .before .b
 loop-again : tie.Need-loop-again Inv-loop μ-loop
 loop-again c =
     let shift = c .before .before .before in
-    step-at (shift .before .before) .fired _ _ (shift .shift .ensures) (omega (arith, c .if1 .left))
+    let entry = shift .before .before in
+    let plain = call (entry .before .before .before .before) .pre .0 .uncapped in
+    step-at entry .fired _ _ (shift .shift .ensures .whole (c .if1 .left)) (omega arith) (within-caps _ plain _)
 
 same-length-2 : tie.Need-same-length-2 Inv-loop μ-loop
 same-length-2 c = c .before .loop .inv .long
@@ -121,6 +137,7 @@ march-spec =
     add-entry
     entry-requires-2
     shift-requires
+    add-back
     back-requires
     same-length
     returns

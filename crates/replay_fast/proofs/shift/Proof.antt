@@ -1,20 +1,20 @@
 use borrow.Author.Needs.{needs}
-use Prim.Native.Nat.{ℕ, _+_, _-_, _%_, _^_, _≤_, _<_}
-use mathlib.Core.Path.{sym, ap, _∙_, subst}
+use Prim.Native.Nat.{_+_, _-_, _≤_, _<_}
+use mathlib.Core.Path.{_∙_}
 use native.Mathlib.Omega.{arith}
-use lib.Bits.{bitOr}
-use lib.ListN.{length, getD, set}
+use lib.Bits.{bitOr, or-add-and}
+use lib.ListN.{length, set}
 use Rattle.file_header.specs.declared.Header.{Header}
-use Rattle.replay_fast.specs.Moves.{Movable}
-use Rattle.replay_fast.proofs.Moving.{place-is, place-known, Shifting, shifting-none, shifting-more, shifting-end}
+use Rattle.replay_fast.specs.Moves.{MovesOf, Movable}
+use Rattle.replay_fast.proofs.Moving.{change-is, place-inside, Shifting, shifting-none, shifting-more, shifting-clear, shifting-end}
 use Rattle.replay_fast.proofs.shift.Statement.{statement}
 use Rattle.replay_fast.proofs.shift.Tie as tie
 
 abbrev Inv-loop : tie.InvT-loop
-Inv-loop file places changes from to marking₀ all₀ j₀ marking all j = (j ≤ to) × ((h : Header) → Movable file h places changes from to marking₀ → Shifting file h from j marking₀ marking all)
+Inv-loop file places changes from to marking₀ j₀ marking j = (j ≤ to) × ((h : Header) → Movable file h from to marking₀ → MovesOf file h places changes → Shifting file (h .arcstart) from j marking₀ marking 0)
 
 abbrev μ-loop : tie.MeasureT-loop
-μ-loop file places changes from to marking₀ all₀ j₀ marking all j = to - j
+μ-loop file places changes from to marking₀ j₀ marking j = to - j
 
 -- ---- the states: the call, the head of a turn, the place and the change in hand
 
@@ -33,28 +33,26 @@ inside c =
     let t = c .before in
     let at = t .before .loop in
     let s = call (t .before) in
-    let can = s .pre in
-    let is = c .entry .ensures .0 ∙ place-is can (at .j) (t .loop-test .taken) in
-    let known = place-known can (at .j) (t .loop-test .taken) in
-    let long = at .inv .1 (s .args .h) can .moving .moved .long in
-    (omega (arith, is, known, long), omega (arith, is, known, can .held, can .sound .placed .places))
+    let can = s .pre .0 in
+    let is = c .entry .ensures .0 ∙ s .pre .1 .place (at .j) (omega (arith, can .within, t .loop-test .taken)) in
+    place-inside can (at .j) (t .loop-test .taken) is (at .inv .1 (s .args .h) can (s .pre .1) .moving .moved .long)
 
 loop-holds : tie.Need-loop-holds Inv-loop μ-loop
-loop-holds c = (c .before .before .before .before .pre .rising, λ h can. shifting-none (can .fits))
+loop-holds c = (c .before .before .before .before .pre .0 .rising, λ h can mv. shifting-none (can .fits))
 
 entry-requires : tie.Need-entry-requires Inv-loop μ-loop
 entry-requires c κs =
-    let can = call (c .before) .pre in
-    omega (arith, can .moves-of .room, can .within, c .loop-test .taken)
+    let pre = call (c .before) .pre in
+    omega (arith, pre .1 .room, pre .0 .within, c .loop-test .taken)
 
 mul-signed : tie.Need-mul-signed Inv-loop μ-loop
-mul-signed c = let t = c .before in let can = call (t .before) .pre in omega (arith, can .sound .placed .arcs, can .within, t .loop-test .taken)
+mul-signed c = let t = c .before in let can = call (t .before) .pre .0 in omega (arith, can .sound .placed .arcs, can .within, t .loop-test .taken)
 
 shared-slice-read-signed : tie.Need-shared-slice-read-signed Inv-loop μ-loop
 shared-slice-read-signed c =
     let t = c .before .before in
-    let can = call (t .before) .pre in
-    omega (arith, can .moves-of .long, can .within, t .loop-test .taken)
+    let pre = call (t .before) .pre in
+    omega (arith, pre .1 .long, pre .0 .within, t .loop-test .taken)
 
 signed-requires : tie.Need-signed-requires Inv-loop μ-loop
 signed-requires c κs = search needs
@@ -74,6 +72,45 @@ mul-marking c = omega (arith, inside (placed-of (signed-of c)) .1)
 slice-write-marking : tie.Need-slice-write-marking Inv-loop μ-loop
 slice-write-marking c = inside (placed-of (signed-of c)) .0
 
+-- ---- one arc more
+
+abbrev Done : Type 0
+Done = tie.After-wrapping-add-u64 Inv-loop μ-loop
+
+abbrev turn : Done → tie.At-loop Inv-loop μ-loop
+turn c = placed-of (signed-of c) .before .before
+
+moved-on : (c : Done) (h : Header) → let t = turn c in let s = call t in let v = c .wrapping-add-u64 .result in
+    Movable (s .args .file .now) h (s .args .from) (s .args .to) (s .args .marking .now) → MovesOf (s .args .file .now) h (s .args .places .now) (s .args .changes .now)
+    → Shifting (s .args .file .now) (h .arcstart) (s .args .from) (t .loop .j + 1) (s .args .marking .now) (set (t .loop .marking) (placed-of (signed-of c) .entry .result) v) (bitOr 0 v)
+moved-on c h can mv =
+    let placed = placed-of (signed-of c) in
+    let at = turn c .loop in
+    let l = placed .before .loop-test .taken in
+    let in-table : at .j < h .arcs = omega (arith, l, can .within) in
+    shifting-more can (at .j) l (at .inv .1 h can mv) (change-is mv in-table (signed-of c .signed .ensures)) (placed .entry .ensures .0 ∙ mv .place (at .j) in-table) (c .wrapping-add-u64 .result) (omega arith) (c .wrapping-add-u64 .ensures)
+
+-- ---- an arc that leaves a place short
+
+short : (c : tie.Then1 Inv-loop μ-loop) → let t = turn (c .before) in let s = call t in
+    Shifting (s .args .file .now) (s .args .h .arcstart) (s .args .from) (t .loop .j + 1) (s .args .marking .now) (set (t .loop .marking) (placed-of (signed-of (c .before)) .entry .result) (c .before .wrapping-add-u64 .result)) (bitOr 0 (c .before .wrapping-add-u64 .result))
+short c = let s = call (turn (c .before)) in moved-on (c .before) (s .args .h) (s .pre .0) (s .pre .1)
+
+same-length : tie.Need-same-length Inv-loop μ-loop
+same-length c = short c .moving .moved .long
+
+returns : tie.Need-returns Inv-loop μ-loop
+returns c =
+    let placed = placed-of (signed-of (c .before)) in
+    let at = turn (c .before) .loop in
+    let s = call (turn (c .before)) in
+    record {
+      whole = λ a. absurd (omega (arith, a, placed .before .loop-test .taken));
+      part = λ b. (at .inv .1 (s .args .h) (s .pre .0) (s .pre .1) .moving .rising, short c .moving .moved);
+    }
+
+-- ---- an arc that does not
+
 add-j : tie.Need-add-j Inv-loop μ-loop
 add-j c = search needs
 
@@ -82,30 +119,20 @@ loop-less c = search needs
 
 loop-again : tie.Need-loop-again Inv-loop μ-loop
 loop-again c =
-    let placed = placed-of (signed-of c) in
-    let t = placed .before in
-    let at = t .before .loop in
-    let j = at .j in
-    let l = t .loop-test .taken in
-    let a = call (t .before) .args in
-    let y = signed-of c .signed .ensures in
-    let r = signed-of c .signed .result in
-    let v = c .wrapping-add-u64 .result in (
-      omega (arith, l),
-      λ h can.
-          let e = placed .entry .ensures .0 ∙ place-is can j l in
-          subst (λ (q : ℕ). Shifting (a .file .now) h (a .from) (j + 1) (a .marking .now) (set (at .marking) q v) (bitOr (at .all) v)) (sym e)
-          (shifting-more can j l (at .inv .1 h can) y v (omega arith) (c .wrapping-add-u64 .ensures ∙ ap (λ (q : ℕ). (getD (at .marking) q 0 + r) % 2 ^ 64) e)),
-    )
+    let v = c .before .wrapping-add-u64 .result in
+    (omega (arith, placed-of (signed-of (c .before)) .before .loop-test .taken), λ h can mv. shifting-clear (omega (arith, or-add-and 0 v, c .if1 .left)) (moved-on (c .before) h can mv))
 
-same-length : tie.Need-same-length Inv-loop μ-loop
-same-length c = let s = call (c .before) in c .before .loop .inv .1 (s .args .h) (s .pre) .moving .moved .long
+same-length-2 : tie.Need-same-length-2 Inv-loop μ-loop
+same-length-2 c = let s = call (c .before) in c .before .loop .inv .1 (s .args .h) (s .pre .0) (s .pre .1) .moving .moved .long
 
-returns : tie.Need-returns Inv-loop μ-loop
-returns c =
+returns-2 : tie.Need-returns-2 Inv-loop μ-loop
+returns-2 c =
     let x = c .before .loop .inv in
     let s = call (c .before) in
-    shifting-end (x .0) (c .loop-test .left) (x .1 (s .args .h) (s .pre))
+    record {
+      whole = λ a. shifting-end (x .0) (c .loop-test .left) (x .1 (s .args .h) (s .pre .0) (s .pre .1));
+      part = λ b. absurd (omega (arith, b, c .loop-test .left));
+    }
 
 pub shift-spec : {M : Type 1} → statement M
 shift-spec =
@@ -123,8 +150,10 @@ shift-spec =
     wrapping-add-u64-requires
     mul-marking
     slice-write-marking
+    same-length
+    returns
     add-j
     loop-less
     loop-again
-    same-length
-    returns)
+    same-length-2
+    returns-2)

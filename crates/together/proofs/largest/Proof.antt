@@ -4,6 +4,7 @@ use mathlib.Core.Path.{_≡_, sym, ap, _∙_}
 use native.Mathlib.Omega.{arith}
 use lib.ListN.{length, getD}
 use Rattle.arcs_starts.proofs.Reached.{ordered}
+use Rattle.arcs_starts.proofs.Splits.{past-by}
 use Rattle.together.proofs.Inputs.{takes-from}
 use Rattle.together.proofs.Ends.{Found, one-way, no-inputs, most}
 use borrow.Author.Needs.{needs}
@@ -12,14 +13,14 @@ use Rattle.together.proofs.largest.Tie as tie
 
 -- ---- the states: the call, the arcs found, the marking copied
 
-abbrev call : tie.After-first-from2 → tie.Start
+abbrev call : tie.After-next-from → tie.Start
 call c = c .before .before .before .before .before
 
-abbrev arcs : tie.After-slice-known2 → tie.After-first-from2
+abbrev arcs : tie.After-slice-known2 → tie.After-next-from
 arcs c = c .before .before .before .before
 
-found : (c : tie.After-first-from2) → let s = call c .args in Found (s .file .now) (s .h) (s .transition) (c .before .first-from .result) (c .first-from2 .result)
-found c = record { sound = call c .pre .sound; first = c .before .first-from .ensures; last = c .first-from2 .ensures }
+found : (c : tie.After-next-from) → let s = call c .args in Found (s .file .now) (s .h) (s .transition) (c .before .first-from .result) (c .next-from .result)
+found c = record { sound = call c .pre .sound; first = c .before .first-from .ensures; last = c .next-from .ensures }
 
 -- the list has what the marking has
 copied : (c : tie.After-slice-known2) → c .before .before .copy .last .1 .0 ≡ call (arcs c) .args .marking .now
@@ -31,14 +32,14 @@ mul-first-from c = search needs
 first-from-requires : tie.Need-first-from-requires
 first-from-requires c κs = ordered _ _ (c .before .before .before .pre .sound)
 
-mul-first-from-2 : tie.Need-mul-first-from-2
-mul-first-from-2 c = search needs
+mul-next-from : tie.Need-mul-next-from
+mul-next-from c = search needs
 
-add-first-from : tie.Need-add-first-from
-add-first-from c = search needs
+add-next-from : tie.Need-add-next-from
+add-next-from c = search needs
 
-first-from-requires-2 : tie.Need-first-from-requires-2
-first-from-requires-2 c κs = ordered _ _ (c .before .before .before .before .pre .sound)
+next-from-requires : tie.Need-next-from-requires
+next-from-requires c κs = let a = c .first-from .ensures in (ordered _ _ (c .before .before .before .before .pre .sound), a .within, past-by a (omega arith))
 
 copy-requires : tie.Need-copy-requires
 copy-requires c κs = let s = call (c .before) .pre in s .room ∙ sym (s .entries)
@@ -52,7 +53,7 @@ returns c =
     let x = no-inputs (found a) _ (call a .pre .entries) (c .if1 .taken) in
     (x .0, copied (c .before) ∙ x .1)
 
-some : (c : tie.Else1) → let a = arcs (c .before) in a .before .first-from .result < a .first-from2 .result
+some : (c : tie.Else1) → let a = arcs (c .before) in a .before .first-from .result < a .next-from .result
 some c = omega (arith, c .if1 .left)
 
 fewest-requires : tie.Need-fewest-requires
@@ -87,9 +88,9 @@ largest-spec =
     (tie.spec
     mul-first-from
     first-from-requires
-    mul-first-from-2
-    add-first-from
-    first-from-requires-2
+    mul-next-from
+    add-next-from
+    next-from-requires
     copy-requires
     same-length
     returns

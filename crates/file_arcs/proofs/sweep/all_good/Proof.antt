@@ -1,9 +1,9 @@
 use native.Mathlib.Omega.{arith}
 use borrow.Author.Needs.{needs}
 use borrow.Author.Tests.{not-false, ltb-false, leb-true}
-use mathlib.Core.Path.{_≡_, sym, ap, _∙_}
+use mathlib.Core.Path.{_≡_, refl, sym, ap, _∙_}
 use mathlib.Core.Bool.{Bool, true, false}
-use Prim.Native.Nat.{ℕ, _+_, _*_, _-_, _≤_}
+use Prim.Native.Nat.{ℕ, _+_, _*_, _-_, _/_, _%_, _≤_, _<_}
 use lib.ListN.{length}
 use Rattle.file_arcs.specs.Sweep.{bothFit, FitIn}
 use Rattle.file_words.proofs.Laws.{or-false}
@@ -14,12 +14,13 @@ use Rattle.file_arcs.proofs.sweep.all_good.Tie as tie
 never : {A : Type 0} → _≡_ {A = Bool} false true → A
 never e = let z : _≡_ {A = ℕ} 0 1 = cc in absurd (omega (arith, z))
 
+-- so many arcs are left
 abbrev Inv-loop : tie.InvT-loop
-Inv-loop file places transitions start count room at₀ least₀ left₀ at least left =
-    (at + 8 * left ≤ length file) × Reached file places transitions start count at least left
+Inv-loop file places transitions start count room stop at₀ least₀ at least =
+    (left : ℕ) × (at + 8 * left ≡ start + 8 * count) × (left % 2 ≡ count % 2) × Reached file places transitions start count at least left
 
 abbrev μ-loop : tie.MeasureT-loop
-μ-loop file places transitions start count room at₀ least₀ left₀ at least left = left
+μ-loop file places transitions start count room stop at₀ least₀ at least = start + 16 * (count / 2) - at
 
 -- ---- the states: the call, the head of a turn, a pair that fits, the last arc that fits
 
@@ -53,20 +54,36 @@ fits-last c =
     both-fit (s .args .places) (s .args .transitions) (last .result) (last .result) (s .pre .1 .0) (s .pre .1 .1) (last .ok) (last .ok)
     (ap (λ (x : ℕ). bothFit x (last .result) (last .result)) (sym (t .before .room .ensures)) ∙ sym (c .before .fit2 .ensures) ∙ not-false _ (c .if4 .left)) .0
 
+-- a pair in hand, and the arc that is left over, lie in the file
+pair-inside : (c : tie.In-loop Inv-loop μ-loop) → (1 < c .before .loop .inv .0) × (c .before .loop .at + 16 ≤ length (call (c .before) .args .file .now))
+pair-inside c = let inv = c .before .loop .inv in (omega (arith, inv .1, inv .2, c .loop-test .taken), omega (arith, inv .1, inv .2, c .loop-test .taken, call (c .before) .pre .0))
+
+last-inside : (c : tie.Else3 Inv-loop μ-loop) → let t = c .before .before in (t .loop .inv .0 ≡ 1) × (t .loop .at + 8 ≤ length (call t .args .file .now))
+last-inside c =
+    let t = c .before .before in
+    let inv = t .loop .inv in
+    (omega (arith, inv .1, inv .2, c .before .loop-test .left, c .if3 .left), omega (arith, inv .1, inv .2, c .before .loop-test .left, c .if3 .left, call t .pre .0))
+
 room-requires : tie.Need-room-requires Inv-loop μ-loop
 room-requires c κs = search needs
 
+mul-stop : tie.Need-mul-stop Inv-loop μ-loop
+mul-stop c = search needs
+
+add-stop : tie.Need-add-stop Inv-loop μ-loop
+add-stop c = search needs
+
 loop-holds : tie.Need-loop-holds Inv-loop μ-loop
-loop-holds c = (c .before .before .pre .0, at-start _ _ _ _ _)
+loop-holds c = (c .before .before .args .count, refl, refl, at-start _ _ _ _ _)
 
 word-requires : tie.Need-word-requires Inv-loop μ-loop
-word-requires c κs = search needs
+word-requires c κs = omega (arith, pair-inside c .1)
 
 add-word : tie.Need-add-word Inv-loop μ-loop
 add-word c = search needs
 
 word-requires-2 : tie.Need-word-requires-2 Inv-loop μ-loop
-word-requires-2 c κs = search needs
+word-requires-2 c κs = omega (arith, pair-inside (c .before) .1)
 
 fit-requires : tie.Need-fit-requires Inv-loop μ-loop
 fit-requires c κs = search needs
@@ -91,9 +108,6 @@ returns-2 c = λ e. never e
 add-at : tie.Need-add-at Inv-loop μ-loop
 add-at c = search needs
 
-sub-left : tie.Need-sub-left Inv-loop μ-loop
-sub-left c = search needs
-
 loop-less : tie.Need-loop-less Inv-loop μ-loop
 loop-less c = search needs
 
@@ -105,20 +119,23 @@ loop-again c =
     let s = call (t .before) in
     let first = pair .before .before .before .word in
     let second = pair .before .before .word2 in
-    let order = or-false _ _ (c .if2 .left) in (
-      search needs,
-      two-on (s .args .file .now) (s .args .places) (s .args .transitions) (s .args .start) (s .args .count) (loop .at) (loop .least) (loop .left)
+    let order = or-false _ _ (c .if2 .left) in
+    let more = pair-inside t .0 in (
+      loop .inv .0 - 2,
+      omega (arith, loop .inv .1, more),
+      omega (arith, loop .inv .2, more),
+      two-on (s .args .file .now) (s .args .places) (s .args .transitions) (s .args .start) (s .args .count) (loop .at) (loop .least) (loop .inv .0)
           (first .result) (second .result) (c .before .before .sweep-key .result) (c .before .sweep-key2 .result)
-          (s .pre .1 .0) (s .pre .1 .1) (loop .inv .1) (t .loop-test .taken)
+          (s .pre .1 .0) (s .pre .1 .1) (loop .inv .3) more
           (first .ensures) (second .ensures) (fits-both pair)
           (c .before .before .sweep-key .ensures .0) (c .before .sweep-key2 .ensures .0) (ltb-false _ _ (order .0)) (ltb-false _ _ (order .1)),
     )
 
 returns-3 : tie.Need-returns-3 Inv-loop μ-loop
-returns-3 c = λ e. all-done _ _ _ _ _ _ _ _ (c .before .before .loop .inv .1) (omega (arith, c .if3 .taken))
+returns-3 c = λ e. let inv = c .before .before .loop .inv in all-done _ _ _ _ _ _ _ _ (inv .3) (omega (arith, inv .1, inv .2, c .before .loop-test .left, c .if3 .taken))
 
 word-requires-3 : tie.Need-word-requires-3 Inv-loop μ-loop
-word-requires-3 c κs = search needs
+word-requires-3 c κs = last-inside c .1
 
 fit-requires-2 : tie.Need-fit-requires-2 Inv-loop μ-loop
 fit-requires-2 c κs = search needs
@@ -138,10 +155,11 @@ returns-5 c = λ e.
     let loop = t .loop in
     let s = call t in
     let last = fits .before .before in
-    all-done (s .args .file .now) (s .args .places) (s .args .transitions) (s .args .start) (s .args .count) _ _ (loop .left - 1)
-    (one-on (s .args .file .now) (s .args .places) (s .args .transitions) (s .args .start) (s .args .count) (loop .at) (loop .least) (loop .left)
-    (last .word3 .result) (s .pre .1 .0) (s .pre .1 .1) (loop .inv .1) (omega (arith, last .before .if3 .left)) (last .word3 .ensures) (fits-last fits)
-    (rw (← c .sweep-key3 .ensures .0) (leb-true _ _ e))) (omega (arith, last .before .before .loop-test .left))
+    let one = last-inside (last .before) .0 in
+    all-done (s .args .file .now) (s .args .places) (s .args .transitions) (s .args .start) (s .args .count) _ _ (loop .inv .0 - 1)
+    (one-on (s .args .file .now) (s .args .places) (s .args .transitions) (s .args .start) (s .args .count) (loop .at) (loop .least) (loop .inv .0)
+    (last .word3 .result) (s .pre .1 .0) (s .pre .1 .1) (loop .inv .3) (omega (arith, one)) (last .word3 .ensures) (fits-last fits)
+    (rw (← c .sweep-key3 .ensures .0) (leb-true _ _ e))) (omega (arith, one))
 
 pub all-good-spec : {M : Type 1} → statement M
 all-good-spec =
@@ -150,6 +168,8 @@ all-good-spec =
     Inv-loop
     μ-loop
     room-requires
+    mul-stop
+    add-stop
     loop-holds
     word-requires
     add-word
@@ -160,7 +180,6 @@ all-good-spec =
     sweep-key-requires-2
     returns-2
     add-at
-    sub-left
     loop-less
     loop-again
     returns-3

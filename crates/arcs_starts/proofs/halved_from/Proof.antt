@@ -1,17 +1,18 @@
 use borrow.Author.Needs.{needs}
 use native.Mathlib.Omega.{arith}
 use mathlib.Core.Path.{_≡_, _∙_, ap}
-use Prim.Native.Nat.{_+_, _-_, _/_}
+use native.Mathlib.Decide.{decLt}
+use Prim.Native.Nat.{ℕ, _+_, _-_, _/_, _≤_, _<_}
 use Rattle.arcs_starts.specs.Table.{slotOf, slotAt, Ordered}
 use Rattle.arcs_starts.proofs.Halving.{Halving, halving-start, halving-up, halving-down}
-use Rattle.arcs_starts.proofs.first_from.Statement.{statement}
-use Rattle.arcs_starts.proofs.first_from.Tie as tie
+use Rattle.arcs_starts.proofs.halved_from.Statement.{statement}
+use Rattle.arcs_starts.proofs.halved_from.Tie as tie
 
 abbrev Inv-loop : tie.InvT-loop
-Inv-loop file start count k low₀ high₀ low high = Halving (Ordered file start count) (slotAt file start) 0 count k low high
+Inv-loop file start from count k low₀ high₀ low high = Halving (Ordered file start count) (slotAt file start) from count k low high
 
 abbrev μ-loop : tie.MeasureT-loop
-μ-loop file start count k low₀ high₀ low high = high - low
+μ-loop file start from count k low₀ high₀ low high = high - low
 
 slot-is : (c : tie.After-slot Inv-loop μ-loop)
     → c .slot .result ≡ slotAt (c .before .before .before .before .before .args .file .now) (c .before .before .before .before .before .args .start) ((c .before .before .before .loop .low + c .before .before .before .loop .high) / 2)
@@ -19,7 +20,7 @@ unfolding slotAt
 slot-is c = c .slot .ensures .0 ∙ ap slotOf (c .before .arc .ensures .0)
 
 loop-holds : tie.Need-loop-holds Inv-loop μ-loop
-loop-holds c = halving-start (c .before .pre) (λ i j f. c .before .pre .order i j) (omega arith)
+loop-holds c = let pre = c .before .pre in halving-start (pre .0) (λ i j f. pre .0 .order i j) (pre .1)
 
 add-middle : tie.Need-add-middle Inv-loop μ-loop
 add-middle c = search needs
@@ -54,14 +55,19 @@ loop-again-2 c = halving-down (c .before .before .before .before .loop .inv) _ (
 returns : tie.Need-returns Inv-loop μ-loop
 returns c =
     let x = c .before .loop .inv in
+    let s = c .before .before .before in
     record {
       within = omega (arith, x .rising, x .within);
-      below = λ i l. x .below i (omega arith) l;
+      below = λ i l. known (s .pre .2) (x .below) i l (decLt i (s .args .from));
       above = λ i l m. x .above i (omega (arith, l, c .loop-test .left)) m;
     }
+  where
+    known : {f : ℕ → ℕ} {from k low : ℕ} → ((i : ℕ) → i < from → f i < k) → ((i : ℕ) → from ≤ i → i < low → f i < k) → (i : ℕ) → i < low → Dec (i < from) → f i < k
+    known before after i l (yes m) = before i m
+    known before after i l (no m) = after i (omega arith) l
 
-pub first-from-spec : {M : Type 1} → statement M
-first-from-spec =
+pub halved-from-spec : {M : Type 1} → statement M
+halved-from-spec =
     tie.close
     (tie.spec
     Inv-loop

@@ -1,0 +1,140 @@
+-- The first k firings are done (`Underway`).
+use borrow.Author.Needs.{needs}
+use Prim.Native.Nat.{_-_, _<_}
+use native.Mathlib.Omega.{arith}
+use lib.ListN.{length}
+use Rattle.replay_steps.specs.Steps.{Underway}
+use Rattle.replay_steps.proofs.Underway.{Tabulated, tabulated, underway-begin}
+use Rattle.replay_fast.proofs.Marching.{Step, step, by-slots}
+use Rattle.replay_fast.proofs.march_capped.Statement.{statement}
+use Rattle.replay_fast.proofs.march_capped.Tie as tie
+
+abbrev Inv-loop : tie.InvT-loop
+Inv-loop file h places changes table list marking₀ count k₀ marking k = Underway file h list marking₀ marking k
+
+abbrev μ-loop : tie.MeasureT-loop
+μ-loop file h places changes table list marking₀ count k₀ marking k = length list - k
+
+-- ---- the states: the call, the head of a firing
+
+abbrev Firing : Type 0
+Firing = tie.At-loop Inv-loop μ-loop
+
+abbrev call : Firing → tie.Start Inv-loop μ-loop
+call c = c .before .before .before .before .before .before .before
+
+-- the transition listed at k, in the table
+listed : (c : tie.After-shared-slice-known6 Inv-loop μ-loop) → let s = call (c .before .before) in Tabulated (s .args .h) (s .args .table .now) (s .args .list .now) (c .before .before .loop .k)
+listed c = tabulated (c .before .before .loop .inv) (c .before .loop-test .taken) (call (c .before .before) .pre .0)
+
+-- its firing, by the arcs that the table tells
+step-at : (c : tie.After-entry2 Inv-loop μ-loop) → let x = c .before .before .before .before in let s = call x in
+    Step (s .args .file .now) (s .args .h) (s .args .list .now) (s .args .marking .now) (x .loop .marking) (x .loop .k) (c .before .entry .result) (c .entry2 .result)
+step-at c =
+    let x = c .before .before .before .before in
+    let pre = call x .pre in
+    let ready = pre .0 in
+    step (ready .places) (x .loop .inv) (c .before .before .before .loop-test .taken) (by-slots (listed (c .before .before) .known) ready (c .before .entry .ensures .0) (c .entry2 .ensures .0))
+
+loop-holds : tie.Need-loop-holds Inv-loop μ-loop
+loop-holds c = underway-begin (c .before .before .before .before .before .before .pre .1 .0)
+
+mul-t : tie.Need-mul-t Inv-loop μ-loop
+mul-t c = search needs
+
+shared-slice-read-t : tie.Need-shared-slice-read-t Inv-loop μ-loop
+shared-slice-read-t c = search needs
+
+cast-t : tie.Need-cast-t Inv-loop μ-loop
+cast-t c = omega (arith, c .shared-slice-known6 .given (c .before .before .loop .k))
+
+mul-entry : tie.Need-mul-entry Inv-loop μ-loop
+mul-entry c = omega (arith, listed c .known, listed c .few)
+
+entry-requires : tie.Need-entry-requires Inv-loop μ-loop
+entry-requires c κs = omega (arith, listed c .known, listed c .long)
+
+mul-entry-2 : tie.Need-mul-entry-2 Inv-loop μ-loop
+mul-entry-2 c = omega (arith, listed (c .before) .known, listed (c .before) .few)
+
+add-entry : tie.Need-add-entry Inv-loop μ-loop
+add-entry c = omega (arith, listed (c .before) .known, listed (c .before) .few)
+
+entry-requires-2 : tie.Need-entry-requires-2 Inv-loop μ-loop
+entry-requires-2 c κs = omega (arith, listed (c .before) .known, listed (c .before) .long)
+
+shift-capped-requires : tie.Need-shift-capped-requires Inv-loop μ-loop
+shift-capped-requires c κs =
+    let entry = c .before in
+    let x = entry .before .before .before .before in
+    (step-at entry .shifting, call x .pre .1 .1)
+
+-- ---- a firing that is undone
+
+back-requires : tie.Need-back-requires Inv-loop μ-loop
+back-requires c κs =
+    let shift = c .before .before .before .before in
+    let entry = shift .before .before in
+    let x = entry .before .before .before .before in
+    (step-at entry .undoing _ _ (shift .shift-capped .ensures .0), call x .pre .1 .1)
+
+same-length : tie.Need-same-length Inv-loop μ-loop
+same-length c =
+    let back = c .before .before in
+    let shift = back .before .before .before .before .before in
+    step-at (shift .before .before) .undone _ _ _ (shift .shift-capped .ensures .0) (back .back .ensures) .long
+
+returns : tie.Need-returns Inv-loop μ-loop
+returns c =
+    let back = c .before .before in
+    let shift = back .before .before .before .before .before in
+    step-at (shift .before .before) .undone _ _ _ (shift .shift-capped .ensures .0) (back .back .ensures)
+
+-- ---- a firing that is done
+
+add-k : tie.Need-add-k Inv-loop μ-loop
+add-k c =
+    let x = c .before .before .before .before .before .before .before .before in
+    omega (arith, x .loop-test .taken, x .before .loop .inv .listed .short)
+
+loop-less : tie.Need-loop-less Inv-loop μ-loop
+loop-less c = omega (arith, c .before .before .before .before .before .before .before .before .loop-test .taken)
+
+loop-again : tie.Need-loop-again Inv-loop μ-loop
+loop-again c =
+    let shift = c .before .before .before in
+    let now = step-at (shift .before .before) in
+    let told = shift .shift-capped .ensures in
+    let low : shift .shift-capped .result < 9223372036854775808 = omega (arith, c .if1 .left) in
+    now .fired _ _ (told .0) low (now .fits _ _ (told .0) low (told .1 low))
+
+same-length-2 : tie.Need-same-length-2 Inv-loop μ-loop
+same-length-2 c = c .before .loop .inv .long
+
+returns-2 : tie.Need-returns-2 Inv-loop μ-loop
+returns-2 c = c .before .loop .inv
+
+pub march-capped-spec : {M : Type 1} → statement M
+march-capped-spec =
+    tie.close
+    (tie.spec
+    Inv-loop
+    μ-loop
+    loop-holds
+    mul-t
+    shared-slice-read-t
+    cast-t
+    mul-entry
+    entry-requires
+    mul-entry-2
+    add-entry
+    entry-requires-2
+    shift-capped-requires
+    back-requires
+    same-length
+    returns
+    add-k
+    loop-less
+    loop-again
+    same-length-2
+    returns-2)
