@@ -1,0 +1,461 @@
+//! What the program says. An answer is a sentence with holes: filled in, they are its words; their names and values are its JSON.
+
+use crate::library::{Side, Slice, Stop};
+use crate::net::{Arc, Net};
+use std::io::Write;
+
+/// The exit status that an answer asks for.
+#[derive(Clone, Copy, Debug, PartialEq, Eq, PartialOrd, Ord)]
+pub enum Status {
+    Good = 0,
+    /// Stuck, full, a rule broken.
+    Bad = 1,
+    /// Refused, bad usage, an error.
+    Refused = 2,
+}
+
+#[derive(Clone, Debug, PartialEq)]
+pub enum Value {
+    Number(i128),
+    /// A number of things: `1 place`, `2 places`.
+    Count(u64, &'static str),
+    /// A text or a file's name, as it is.
+    Text(Vec<u8>),
+    /// In words, and in JSON.
+    Either(&'static str, &'static str),
+    /// Why, after the name of the file that it is about.
+    Reason(Option<Vec<u8>>, String),
+    /// Numbers, in words each after a space.
+    Numbers(Vec<u64>),
+    /// Arcs, in words after a colon.
+    Arcs(Vec<Arc>),
+    /// Texts, in JSON alone.
+    Texts(Vec<String>),
+}
+
+macro_rules! value {
+    ($($from:ty: $x:ident => $value:expr;)*) => {$(
+        impl From<$from> for Value {
+            fn from($x: $from) -> Value {
+                $value
+            }
+        }
+    )*};
+}
+value! {
+    i32: n => Value::Number(n.into());
+    u16: n => Value::Number(n.into());
+    u32: n => Value::Number(n.into());
+    usize: n => Value::Number(n as i128);
+    &[u8]: text => Value::Text(text.into());
+    &str: text => Value::Text(text.into());
+    String: text => Value::Text(text.into());
+    &[u16]: list => Value::Numbers(list.iter().map(|n| (*n).into()).collect());
+    &[u64]: list => Value::Numbers(list.into());
+    Vec<Arc>: arcs => Value::Arcs(arcs);
+}
+
+#[derive(Clone, Debug, PartialEq)]
+enum Part {
+    /// In words alone.
+    Say(String),
+    /// In words and, with this key, in JSON.
+    Field(&'static str, Value),
+    /// In JSON alone.
+    Data(&'static str, Value),
+}
+
+#[derive(Clone, Debug, PartialEq)]
+pub struct Answer {
+    pub status: Status,
+    outcome: &'static str,
+    parts: Vec<Part>,
+}
+
+/// An answer by its outcome, its status, and a sentence with a value for each hole.
+macro_rules! answer {
+    ($outcome:expr, $status:ident, $sentence:expr $(, $value:expr)*) => {
+        Answer::new($outcome, Status::$status).and_says($sentence, vec![$(Value::from($value)),*])
+    };
+}
+
+impl Answer {
+    pub fn new(outcome: &'static str, status: Status) -> Answer {
+        Answer { status, outcome, parts: Vec::new() }
+    }
+
+    /// With more of a sentence: `place {place}`.
+    fn and_says(mut self, sentence: &'static str, values: Vec<Value>) -> Answer {
+        let mut values = values.into_iter();
+        for (i, piece) in sentence.split(['{', '}']).enumerate() {
+            self.parts.push(match i % 2 {
+                0 => Part::Say(piece.into()),
+                _ => Part::Field(piece, values.next().expect("a value for each hole")),
+            });
+        }
+        self
+    }
+
+    /// With words that JSON does not have.
+    pub fn say(mut self, words: impl Into<String>) -> Answer {
+        self.parts.push(Part::Say(words.into()));
+        self
+    }
+
+    /// With what words do not have.
+    pub fn data(mut self, key: &'static str, value: impl Into<Value>) -> Answer {
+        self.parts.push(Part::Data(key, value.into()));
+        self
+    }
+
+    fn reasons(&mut self) -> impl Iterator<Item = (&mut Option<Vec<u8>>, &mut String)> {
+        self.parts.iter_mut().filter_map(|part| match part {
+            Part::Field(_, Value::Reason(of, why)) => Some((of, why)),
+            _ => None,
+        })
+    }
+
+    /// Without the file's name in its reason, where a line starts with it anyway.
+    pub fn unnamed(mut self) -> Answer {
+        self.reasons().for_each(|(of, _)| *of = None);
+        self
+    }
+
+    /// With more of a reason.
+    pub fn because(mut self, more: &str) -> Answer {
+        self.reasons().for_each(|(_, why)| why.push_str(more));
+        self
+    }
+
+    /// The words, without a last line feed.
+    pub fn words(&self) -> Vec<u8> {
+        let mut out = Vec::new();
+        for part in &self.parts {
+            match part {
+                Part::Say(words) => out.extend_from_slice(words.as_bytes()),
+                Part::Field(_, value) => value.words(&mut out),
+                Part::Data(..) => (),
+            }
+        }
+        out
+    }
+
+    /// The fields after the verb and, of one slice of many, its name: `"outcome":..`.
+    pub fn json(&self, out: &mut Vec<u8>) {
+        out.extend_from_slice(b"\"outcome\":");
+        quote(self.outcome.as_bytes(), out);
+        for part in &self.parts {
+            if let Part::Field(key, value) | Part::Data(key, value) = part {
+                out.push(b',');
+                quote(key.as_bytes(), out);
+                out.push(b':');
+                value.json(out);
+            }
+        }
+    }
+}
+
+impl Value {
+    fn words(&self, out: &mut Vec<u8>) {
+        match self {
+            Value::Number(n) => put(out, n),
+            Value::Count(n, thing) => put(out, counted(*n, thing)),
+            Value::Text(text) => out.extend_from_slice(text),
+            Value::Either(words, _) => put(out, words),
+            Value::Reason(of, why) => out.extend_from_slice(&reason(of, why)),
+            Value::Numbers(list) => list.iter().for_each(|n| put(out, format_args!(" {n}"))),
+            Value::Arcs(arcs) => {
+                for (i, arc) in arcs.iter().enumerate() {
+                    let join = if i == 0 { ": " } else { ", " };
+                    let (verb, way) = if arc.adds() { ("adds", "to") } else { ("takes", "from") };
+                    put(out, format_args!("{join}{verb} {} {way} place {}", arc.weight, arc.place));
+                }
+            }
+            Value::Texts(_) => (),
+        }
+    }
+
+    fn json(&self, out: &mut Vec<u8>) {
+        match self {
+            Value::Number(n) => put(out, n),
+            Value::Count(n, _) => put(out, n),
+            Value::Text(text) => quote(text, out),
+            Value::Either(_, key) => quote(key.as_bytes(), out),
+            Value::Reason(of, why) => quote(&reason(of, why), out),
+            Value::Numbers(list) => each(list, out, |n, out| put(out, n)),
+            Value::Arcs(arcs) => each(arcs, out, |arc, out| {
+                let verb = if arc.adds() { "adds" } else { "takes" };
+                put(out, format_args!("{{\"{verb}\":{},\"place\":{}}}", arc.weight, arc.place));
+            }),
+            Value::Texts(texts) => each(texts, out, |text, out| quote(text.as_bytes(), out)),
+        }
+    }
+}
+
+fn reason(of: &Option<Vec<u8>>, why: &str) -> Vec<u8> {
+    match of {
+        Some(name) => [name, b": ".as_slice(), why.as_bytes()].concat(),
+        None => why.into(),
+    }
+}
+
+fn put(out: &mut Vec<u8>, what: impl std::fmt::Display) {
+    let _ = write!(out, "{what}");
+}
+
+/// A list in JSON.
+fn each<T>(list: &[T], out: &mut Vec<u8>, mut one: impl FnMut(&T, &mut Vec<u8>)) {
+    out.push(b'[');
+    for (i, item) in list.iter().enumerate() {
+        if i > 0 {
+            out.push(b',');
+        }
+        one(item, out);
+    }
+    out.push(b']');
+}
+
+/// A text in JSON; what is no UTF-8 becomes U+FFFD.
+pub fn quote(text: &[u8], out: &mut Vec<u8>) {
+    out.push(b'"');
+    for c in String::from_utf8_lossy(text).chars() {
+        match c {
+            '"' | '\\' => put(out, format_args!("\\{c}")),
+            '\n' => put(out, "\\n"),
+            '\t' => put(out, "\\t"),
+            c if c.is_ascii_control() => put(out, format_args!("\\u{:04x}", c as u32)),
+            c => put(out, c),
+        }
+    }
+    out.push(b'"');
+}
+
+/// `1 place`, `2 places`.
+pub fn counted(n: u64, thing: &str) -> String {
+    let s = if n == 1 { "" } else { "s" };
+    format!("{n} {thing}{s}")
+}
+
+fn count(n: usize, thing: &'static str) -> Value {
+    Value::Count(n as u64, thing)
+}
+
+// ---- the answers
+
+pub fn error(reason: impl Into<String>) -> Answer {
+    answer!("error", Refused, "error: {reason}", Value::Reason(None, reason.into()))
+}
+
+/// An error of a file.
+pub fn error_of(name: &[u8], reason: impl Into<String>) -> Answer {
+    answer!("error", Refused, "error: {reason}", Value::Reason(Some(name.into()), reason.into()))
+}
+
+pub fn usage(usage: String) -> Answer {
+    answer!("usage", Refused, "usage: {usage}", usage)
+}
+
+/// A refusal by its number, what it is about where that is a file, and why.
+pub fn refused(number: u32, of: Option<&[u8]>, why: impl Into<String>) -> Answer {
+    let reason = Value::Reason(of.map(Into::into), why.into());
+    answer!("refused", Refused, "refused {refusal}: {reason}", number, reason)
+}
+
+/// The refusal of a run cut whose list sticks.
+pub fn sticks(number: u32, transition: u16, stop: Stop) -> Answer {
+    let why = String::from_utf8_lossy(&stuck(transition, stop).words()).into_owned();
+    refused(number, None, format!("list: {why}"))
+        .data("index", stop.index)
+        .data("transition", transition)
+        .data("place", stop.place)
+        .data("short", stop.amount)
+}
+
+pub fn effect(effect: i32, transition: u16, place: u16) -> Answer {
+    answer!("effect", Good, "effect {effect} of transition {transition} on place {place}", effect, transition, place)
+}
+
+pub fn arcs(arcs: Vec<Arc>, transition: u16, side: Side) -> Answer {
+    let count = format!("arcs {} of", arcs.len());
+    let answer = Answer::new("arcs", Status::Good).say(count);
+    let values = vec![transition.into(), side_named(side).into(), arcs.into()];
+    answer.and_says(" transition {transition} in the {file}{arcs}", values)
+}
+
+pub fn side_named(side: Side) -> &'static str {
+    match side {
+        Side::Plan => "plan",
+        Side::Slice => "slice",
+    }
+}
+
+pub fn fired(list: usize, marking: &[u64]) -> Answer {
+    answer!("fired", Good, "fired {fired}, ending{marking}", count(list, "transition"), marking)
+}
+
+pub fn stuck(transition: u16, stop: Stop) -> Answer {
+    let sentence = "stuck at index {index}: transition {transition}, place {place} is short of {short}";
+    answer!("stuck", Bad, sentence, stop.index, transition, stop.place, stop.amount)
+}
+
+pub fn full(transition: u16, stop: Stop) -> Answer {
+    let sentence = "full at index {index}: transition {transition}, place {place} is over by {over}";
+    answer!("full", Bad, sentence, stop.index, transition, stop.place, stop.amount)
+}
+
+impl Answer {
+    /// A firing's answer with its shadow on a line below.
+    pub fn with_shadow(self, shadow: &[u16]) -> Answer {
+        self.and_says("\nshadow{shadow}", vec![shadow.into()])
+    }
+
+    /// A cut's answer with the chosen positions on a line below.
+    pub fn with_chosen(self, chosen: &[u16]) -> Answer {
+        self.and_says("\nchosen{chosen}", vec![chosen.into()])
+    }
+}
+
+pub fn taken(times: u64, leaving: &[u64]) -> Answer {
+    answer!("taken", Good, "taken {times}, leaving{leaving}", Value::Count(times, "time"), leaving)
+}
+
+pub fn unlimited(leaving: &[u64]) -> Answer {
+    answer!("unlimited", Good, "unlimited, leaving{leaving}", leaving)
+}
+
+pub fn written(file: &[u8], slice: &Slice) -> Answer {
+    let [bytes, places, transitions] = [
+        count(slice.bytes.len(), "byte"),
+        Value::Count(slice.places.into(), "place"),
+        Value::Count(slice.transitions.into(), "transition"),
+    ];
+    answer!("written", Good, "written {file}: {bytes}, {places}, {transitions}", file, bytes, places, transitions)
+}
+
+pub fn accepted() -> Answer {
+    answer!("accepted", Good, "accepted")
+}
+
+/// Each rule: what breaks it, and how.
+const RULES: [(Value, &str); 10] = [
+    (Value::Either("the slice's place", "slice place"), "its origin is no place of the plan"),
+    (Value::Either("the slice's transition", "slice transition"), "its origin is no transition of the plan"),
+    (PLACE, "its marking or its cap is not the plan's"),
+    (TRANSITION, "its arcs are not exactly its plan arcs to kept places"),
+    (PLACE, "it is in the criterion and not kept"),
+    (TRANSITION, "it is left out and changes a place of the criterion"),
+    (TRANSITION, "it is kept and one of its input places is not"),
+    (TRANSITION, "it is left out and raises a kept place"),
+    (TRANSITION, "it is kept and a place with a cap that it adds to is not"),
+    (TRANSITION, "it is left out and changes a kept place that has a cap"),
+];
+const PLACE: Value = Value::Either("place", "place");
+const TRANSITION: Value = Value::Either("transition", "transition");
+
+pub fn broken(rule: u32, number: u32) -> Answer {
+    let (by, reason) = RULES[rule as usize - 1].clone();
+    answer!("broken", Bad, "rule {rule} broken by {by} {number}: {reason}", rule, by, number, reason)
+}
+
+/// The first line of `show`: counts, and the note where it is text.
+pub fn net(net: &Net, note: Option<&str>) -> Answer {
+    let (kind, t) = (net.kind(), net.trailer);
+    let mut answer = Answer::new(kind, Status::Good).say(kind).and_says(
+        " of {places}, {transitions}, {arcs} in {bytes}",
+        vec![
+            count(t.places, "place"),
+            count(t.transitions, "transition"),
+            count(t.arcs, "arc"),
+            count(net.file.len(), "byte"),
+        ],
+    );
+    if !net.note().is_empty() {
+        answer = answer.and_says(", a note of {note_bytes} first", vec![count(net.note().len(), "byte")]);
+    }
+    match note {
+        Some(text) => answer.and_says("\nnote: {note}", vec![text.into()]),
+        None => answer,
+    }
+}
+
+pub fn place(place: usize, origin: Option<u16>, tokens: u32, cap: Option<u32>) -> Answer {
+    let answer = answer!("place", Good, "place {place}", place).of_plan(origin);
+    let answer = answer.and_says(": {tokens}", vec![Value::Count(tokens.into(), "token")]);
+    match cap {
+        Some(cap) => answer.and_says(", holds {cap}", vec![cap.into()]),
+        None => answer,
+    }
+}
+
+pub fn transition(transition: usize, origin: Option<u16>, arcs: Vec<Arc>) -> Answer {
+    let answer = answer!("transition", Good, "transition {transition}", transition).of_plan(origin);
+    answer.and_says("{arcs}", vec![arcs.into()])
+}
+
+impl Answer {
+    /// With the plan's number, in a slice.
+    fn of_plan(self, origin: Option<u16>) -> Answer {
+        match origin {
+            Some(origin) => self.and_says(" (the plan's {origin})", vec![origin.into()]),
+            None => self,
+        }
+    }
+}
+
+pub fn picture(graphviz: String) -> Answer {
+    Answer::new("picture", Status::Good).say(graphviz.trim_end()).data("graphviz", graphviz)
+}
+
+/// A line of the demo that is no answer.
+pub fn text(text: &str) -> Answer {
+    answer!("text", Good, "{text}", text)
+}
+
+pub fn command(command: &str) -> Answer {
+    answer!("command", Good, "\n$ nesfoal {command}", command)
+}
+
+pub fn version(version: u32) -> Answer {
+    answer!("version", Good, "nesfoal {version}", version)
+}
+
+pub fn built(file: &str) -> Answer {
+    answer!("built", Good, "built {file}", file)
+}
+
+pub fn installed(files: usize, prefix: &[u8]) -> Answer {
+    answer!("installed", Good, "installed {files} below {prefix}", count(files, "file"), prefix)
+}
+
+pub fn removed(files: usize, prefix: &[u8]) -> Answer {
+    answer!("removed", Good, "removed {files} below {prefix}", count(files, "file"), prefix)
+}
+
+#[cfg(test)]
+mod tests {
+    use super::*;
+
+    fn json(answer: &Answer) -> String {
+        let mut out = Vec::new();
+        answer.json(&mut out);
+        String::from_utf8(out).unwrap()
+    }
+
+    #[test]
+    fn both_ways() {
+        let stop = Stop { index: 1, place: 2, amount: 3 };
+        let answer = stuck(4, stop).with_shadow(&[5, 6]);
+        assert_eq!(answer.words(), b"stuck at index 1: transition 4, place 2 is short of 3\nshadow 5 6");
+        assert_eq!(json(&answer), r#""outcome":"stuck","index":1,"transition":4,"place":2,"short":3,"shadow":[5,6]"#);
+    }
+
+    #[test]
+    fn names_with_anything() {
+        let answer = error_of(b"a\n\"\\\xff\x01\x7f", "no permission");
+        assert_eq!(answer.words(), b"error: a\n\"\\\xff\x01\x7f: no permission");
+        assert_eq!(
+            json(&answer),
+            "\"outcome\":\"error\",\"reason\":\"a\\n\\\"\\\\\u{fffd}\\u0001\\u007f: no permission\""
+        );
+    }
+}

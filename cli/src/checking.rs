@@ -1,0 +1,48 @@
+//! check: one slice, or many.
+
+use crate::answers::{self, Answer};
+use crate::call::{Call, Done};
+use crate::diagnose::Asked;
+use crate::files::File;
+use crate::library::{self, Verdict};
+use crate::numbers::LIST;
+use std::os::unix::ffi::OsStrExt;
+
+/// check PLAN SLICE [Q..], check PLAN [Q..] -- SLICE..
+pub fn check(call: &mut Call) -> Done {
+    match call.split {
+        Some(0) => Err(call.misused()),
+        Some(split) if split < call.words.len() => many(call, split),
+        None if call.words.len() >= 2 => {
+            let criterion: Vec<u16> = call.list_from(2, &LIST)?;
+            let (plan, slice) = (call.file(0)?, call.file(1)?);
+            let answer = verdict(&plan, &slice, &criterion)?;
+            call.tell(answer)
+        }
+        _ => Err(call.misused()),
+    }
+}
+
+fn verdict(plan: &File, slice: &File, criterion: &[u16]) -> Result<Answer, Answer> {
+    let asked = Asked { files: &[plan, slice], criterion, ..Asked::default() };
+    Ok(match asked.granted(library::verdict(&plan.bytes, &slice.bytes, criterion))? {
+        Verdict::Accepted => answers::accepted(),
+        Verdict::Broken { rule, number } => answers::broken(rule, number),
+    })
+}
+
+/// A line for each slice, whatever came of it. What is wrong with the plan or the criterion is said once: a cut is refused for their
+/// sake alone.
+fn many(call: &mut Call, split: usize) -> Done {
+    let criterion: Vec<u16> = call.list(1..split, &LIST)?;
+    let plan = call.file(0)?;
+    let asked = Asked { files: &[&plan], criterion: &criterion, ..Asked::default() };
+    asked.granted(library::safety(&plan.bytes, &criterion))?;
+    for i in split..call.words.len() {
+        let name = call.words[i].as_bytes().to_vec();
+        let answer = call.file(i).and_then(|slice| verdict(&plan, &slice, &criterion));
+        let answer = answer.unwrap_or_else(Answer::unnamed);
+        call.out.tell_of(&name, &answer);
+    }
+    Ok(())
+}

@@ -1,0 +1,258 @@
+//! Why the library refused, in words: which arc, origin, place or entry it is about. The number is the library's; whatever is found
+//! here changes nothing but the sentence.
+
+use crate::answers::{self, counted, Answer};
+use crate::files::File;
+use crate::library::{self, Refusal, MAX_ARCS, MAX_FILE_BYTES, MAX_LIST_ENTRIES, MAX_PLACES, MAX_TRANSITIONS};
+use crate::net::{places, transitions, Arc, Net, Trailer};
+
+/// What a call was asked about.
+#[derive(Clone, Copy, Default)]
+pub struct Asked<'a> {
+    /// The plan and then the slice, or one file.
+    pub files: &'a [&'a File],
+    pub criterion: &'a [u16],
+    pub list: &'a [u16],
+    /// How many numbers the marking has.
+    pub marking: usize,
+    /// Where a place or a transition was asked for by itself.
+    pub place: Option<u16>,
+    pub transition: Option<u16>,
+}
+
+impl Asked<'_> {
+    /// What the library answered, or the refusal in words.
+    pub fn granted<T>(&self, answer: Result<T, Refusal>) -> Result<T, Answer> {
+        answer.map_err(|refusal| self.refused(refusal))
+    }
+
+    pub fn refused(&self, refusal: Refusal) -> Answer {
+        let file = self.blamed(refusal);
+        let of_file = |why: String| answers::refused(refusal.number(), Some(&file.name), why);
+        let of_call = |why: String| answers::refused(refusal.number(), None, why);
+        let (p, t) = (places(&file.bytes), transitions(&file.bytes));
+        match refusal {
+            Refusal::Criterion => of_call("criterion: an odd number of bytes".into()),
+            Refusal::Place => match self.place {
+                Some(place) => of_call(format!("unknown place {place}; P is {p}")),
+                None => of_call(format!("criterion: {}", criterion(self.criterion, p))),
+            },
+            Refusal::List => of_call(format!("list: above {} entries", grouped(MAX_LIST_ENTRIES))),
+            Refusal::Transition => match self.transition {
+                Some(transition) => of_call(format!("unknown transition {transition}; T is {t}")),
+                None => of_call(format!("list: {}", list(self.list, t))),
+            },
+            Refusal::Buffer => of_call("buffer: shorter than what is written".into()),
+            Refusal::Stuck => of_call("list: stuck".into()),
+            Refusal::Marking if self.marking > MAX_PLACES => {
+                of_call(format!("marking: more than {} numbers; P is {p}", grouped(MAX_PLACES)))
+            }
+            Refusal::Marking => of_call(format!("marking: {}; P is {p}", counted(self.marking as u64, "number"))),
+            Refusal::Capped => of_file("a plan with caps; the cut for a run is of plans without".into()),
+            _ => of_file(of_bytes(refusal, &file.bytes)),
+        }
+    }
+
+    /// The file that a refusal is about: the slice where it is about a file and the library does not refuse the plan.
+    fn blamed(&self, refusal: Refusal) -> &File {
+        match self.files {
+            [plan, slice] if refusal.of_file() && library::refusal_of_plan(&plan.bytes).is_none() => slice,
+            [file, ..] => file,
+            [] => panic!("a call is asked about a file"),
+        }
+    }
+}
+
+/// A number that the file has not, where no call refuses it.
+pub fn no_such(file: &str, what: &'static str, n: u16, count: u64) -> Answer {
+    let count = counted(count, what);
+    answers::error(format!("the {file} has no {what} {n}: it has {count}, numbered from 0"))
+}
+
+/// Why a file is refused.
+fn of_bytes(refusal: Refusal, file: &[u8]) -> String {
+    let found = match refusal {
+        Refusal::Length if file.len() > MAX_FILE_BYTES => Some(format!("more than {} bytes", grouped(MAX_FILE_BYTES))),
+        Refusal::Length => Some(format!("{}; at least {}", bytes(file.len()), Trailer::LENGTH)),
+        Refusal::Letters | Refusal::Kind | Refusal::Counts | Refusal::Body => {
+            Trailer::of(file).map(|t| of_trailer(refusal, t, file.len()))
+        }
+        Refusal::Arc | Refusal::Order => Net::by_trailer(file).and_then(first_arc),
+        Refusal::Origins => Net::by_trailer(file).and_then(first_origin),
+        Refusal::Cap => Net::by_trailer(file).and_then(first_over_cap),
+        _ => None,
+    };
+    found.unwrap_or_else(|| format!("it breaks rule {} of the files", refusal.number()))
+}
+
+fn of_trailer(refusal: Refusal, t: Trailer, length: usize) -> String {
+    match refusal {
+        Refusal::Letters if t.letters != *b"BELL" => "not a plan or slice file (the letters BELL are missing)".into(),
+        Refusal::Letters => format!("edition {}; 1 or 2 is due", t.edition),
+        Refusal::Kind => match t.kind {
+            0 => "this is a plan; a slice is due".into(),
+            1 => "this is a slice; a plan is due".into(),
+            kind => format!("kind {kind}; 0, a plan, or 1, a slice, is due"),
+        },
+        Refusal::Counts => {
+            let limits = [
+                (t.places, MAX_PLACES, "places"),
+                (t.transitions, MAX_TRANSITIONS, "transitions"),
+                (t.arcs, MAX_ARCS, "arcs"),
+            ];
+            match limits.iter().find(|(found, most, _)| found > most) {
+                Some((found, most, what)) => format!("{} {what}; at most {}", grouped(*found), grouped(*most)),
+                None => "no place and no transition".into(),
+            }
+        }
+        _ if t.body != t.body_due() => {
+            format!("a body of {} by the trailer, of {} by the counts", bytes(t.body), grouped(t.body_due()))
+        }
+        _ => {
+            let room = length.saturating_sub(Trailer::LENGTH);
+            format!("a body of {} by the trailer; there is room for {}", bytes(t.body), grouped(room))
+        }
+    }
+}
+
+/// The first arc that is out of range, or below the one before.
+fn first_arc(net: Net) -> Option<String> {
+    let arcs = net.arcs();
+    let (places, transitions) = (net.trailer.places, net.trailer.transitions);
+    let wrong = |i: usize| {
+        let arc = &arcs[i];
+        Some(match arc {
+            _ if arc.zero != 0 => "the zero byte is not 0".into(),
+            _ if arc.direction > 1 => "the direction is neither 0 nor 1".into(),
+            _ if usize::from(arc.place) >= places => format!("no place {}; P is {places}", arc.place),
+            _ if usize::from(arc.transition) >= transitions => {
+                format!("no transition {}; T is {transitions}", arc.transition)
+            }
+            _ if arc.weight == 0 => "the weight is 0".into(),
+            _ if i > 0 && key(arc) < key(&arcs[i - 1]) => "below the arc before".into(),
+            _ => return None,
+        })
+    };
+    let (i, why) = (0..arcs.len()).find_map(|i| wrong(i).map(|why| (i, why)))?;
+    let Arc { transition, direction, zero, place, weight } = arcs[i];
+    Some(format!(
+        "arc {i} (transition {transition}, direction {direction}, zero byte {zero}, place {place}, weight {weight}): {why}"
+    ))
+}
+
+fn key(arc: &Arc) -> (u16, u8, u16) {
+    (arc.transition, arc.direction, arc.place)
+}
+
+/// The first origin that is not above the one before, of the places, then of the transitions.
+fn first_origin(net: Net) -> Option<String> {
+    let origins = net.origins();
+    let (places, transitions) = origins.split_at(net.trailer.places.min(origins.len()));
+    let in_table = |table: &[u16], what: &str| {
+        let i = (1..table.len()).find(|&i| table[i] <= table[i - 1])?;
+        Some(format!("{what} origin {i} is {}: not above the one before", table[i]))
+    };
+    in_table(places, "place").or_else(|| in_table(transitions, "transition"))
+}
+
+/// The first place that has more tokens than it holds.
+fn first_over_cap(net: Net) -> Option<String> {
+    (0..net.trailer.places).find_map(|p| {
+        let (tokens, cap) = (net.tokens(p)?, net.cap(p)?);
+        let tokens_had = format!("{} token{}", grouped(tokens as usize), if tokens == 1 { "" } else { "s" });
+        (tokens > cap).then(|| format!("place {p} has {tokens_had}; it holds {}", grouped(cap as usize)))
+    })
+}
+
+/// The first entry of a criterion that is no place, or not above the entry before.
+fn criterion(q: &[u16], places: usize) -> String {
+    for (i, &n) in q.iter().enumerate() {
+        if usize::from(n) >= places {
+            return format!("entry {i} is {n}: no such place; P is {places}");
+        }
+        if i > 0 && n <= q[i - 1] {
+            return format!("entry {i} is {n}: not above the entry before");
+        }
+    }
+    "it is refused".into()
+}
+
+/// The first entry of a list that is no transition.
+fn list(list: &[u16], transitions: usize) -> String {
+    match list.iter().enumerate().find(|(_, &n)| usize::from(n) >= transitions) {
+        Some((i, n)) => format!("entry {i} is {n}: no such transition; T is {transitions}"),
+        None => "it is refused".into(),
+    }
+}
+
+/// `1 byte`, `65,536 bytes`.
+fn bytes(n: usize) -> String {
+    format!("{} byte{}", grouped(n), if n == 1 { "" } else { "s" })
+}
+
+/// A number with commas.
+fn grouped(n: usize) -> String {
+    let digits = n.to_string();
+    let mut out = String::new();
+    for (i, digit) in digits.chars().enumerate() {
+        if i > 0 && (digits.len() - i).is_multiple_of(3) {
+            out.push(',');
+        }
+        out.push(digit);
+    }
+    out
+}
+
+#[cfg(test)]
+mod tests {
+    use super::*;
+
+    #[test]
+    fn commas() {
+        for (n, text) in [(0, "0"), (999, "999"), (1000, "1,000"), (65536, "65,536"), (4294967295, "4,294,967,295")] {
+            assert_eq!(grouped(n), text);
+        }
+    }
+
+    /// Files with bytes changed at random: each that is refused has a sentence of its own, which names the rule that was broken.
+    #[test]
+    fn every_refusal_has_its_reason() {
+        let plan = std::fs::read(concat!(env!("CARGO_MANIFEST_DIR"), "/../plans/full-kerb.plan")).unwrap();
+        let slice = library::safety(&plan, &[2]).ok().unwrap().bytes;
+        let mut seed = 1u64;
+        let mut random = move |below: usize| {
+            seed = seed.wrapping_mul(6364136223846793005).wrapping_add(1442695040888963407);
+            (seed >> 33) as usize % below
+        };
+        let mut met = std::collections::BTreeMap::new();
+        for round in 0..40_000 {
+            let mut file = if round % 2 == 0 { plan.clone() } else { slice.clone() };
+            for _ in 0..=random(2) {
+                let i = random(file.len());
+                file[i] = if random(2) == 0 { random(256) as u8 } else { file[i].wrapping_add(1) };
+            }
+            if random(20) == 0 {
+                file.truncate(random(20));
+            }
+            if let Some(refusal) = library::refusal_of_file(&file) {
+                let why = of_bytes(refusal, &file);
+                let due = match refusal {
+                    Refusal::Length => "at least 16",
+                    Refusal::Letters => "e", // BELL or edition
+                    Refusal::Kind => "is due",
+                    Refusal::Counts => "",
+                    Refusal::Body => "a body of",
+                    Refusal::Arc => "arc ",
+                    Refusal::Order => "below the arc before",
+                    Refusal::Origins => "not above the one before",
+                    Refusal::Cap => "it holds",
+                    other => panic!("{other:?} of a file"),
+                };
+                assert!(why.contains(due) && !why.contains("it breaks rule"), "{refusal:?}: {why}");
+                assert!(refusal != Refusal::Arc || !why.contains("below"), "{why}");
+                *met.entry(refusal.number()).or_insert(0) += 1;
+            }
+        }
+        assert_eq!(met.keys().copied().collect::<Vec<_>>(), [1, 2, 3, 4, 5, 6, 7, 8, 16]);
+    }
+}

@@ -1,0 +1,84 @@
+//! effect, arcs, replay, together, shadow: questions about transitions and lists of them.
+
+use crate::answers::{self, Answer};
+use crate::call::{Call, Done};
+use crate::diagnose::{no_such, Asked};
+use crate::library::{self, Firing, Side};
+use crate::net::{arcs_of, places, transitions};
+use crate::numbers::{LIST, MARKING};
+
+/// effect FILE PLACE TRANSITION
+pub fn effect(call: &mut Call) -> Done {
+    let (place, transition) = (call.number(1)?, call.number(2)?);
+    let file = call.file(0)?;
+    let asked = Asked { files: &[&file], place: Some(place), transition: Some(transition), ..Asked::default() };
+    let effect = asked.granted(library::effect(&file.bytes, place, transition))?;
+    call.tell(answers::effect(effect, transition, place))
+}
+
+/// arcs PLAN SLICE plan|slice TRANSITION
+pub fn arcs(call: &mut Call) -> Done {
+    let side = match call.words[2].to_str() {
+        Some("plan") => Side::Plan,
+        Some("slice") => Side::Slice,
+        _ => return Err(call.misused()),
+    };
+    let transition = call.number(3)?;
+    let (plan, slice) = (call.file(0)?, call.file(1)?);
+    let run = library::arcs(&plan.bytes, &slice.bytes, side, transition);
+    if run.is_empty() {
+        // a file that is refused, a number that is unknown, or a transition without arcs
+        let asked = Asked { files: &[&plan, &slice], ..Asked::default() };
+        asked.granted(library::verdict(&plan.bytes, &slice.bytes, &[]))?;
+        let count = transitions(if side == Side::Plan { &plan.bytes } else { &slice.bytes });
+        if usize::from(transition) >= count {
+            return Err(no_such(answers::side_named(side), "transition", transition, count as u64));
+        }
+    }
+    call.tell(answers::arcs(arcs_of(run), transition, side))
+}
+
+/// What came of a list.
+fn fired(firing: Firing, list: &[u16], marking: &[u64]) -> Answer {
+    let at = |index: u32| list[index as usize];
+    match firing {
+        Firing::Fired => answers::fired(list.len(), marking),
+        Firing::Stuck(stop) => answers::stuck(at(stop.index), stop),
+        Firing::Full(stop) => answers::full(at(stop.index), stop),
+    }
+}
+
+/// replay FILE LIST
+pub fn replay(call: &mut Call) -> Done {
+    let list: Vec<u16> = call.list_from(1, &LIST)?;
+    let file = call.file(0)?;
+    let asked = Asked { files: &[&file], list: &list, ..Asked::default() };
+    let (firing, marking) = asked.granted(library::replay(&file.bytes, &list, places(&file.bytes)))?;
+    call.tell(fired(firing, &list, &marking))
+}
+
+/// shadow PLAN SLICE LIST
+pub fn shadow(call: &mut Call) -> Done {
+    let list: Vec<u16> = call.list_from(2, &LIST)?;
+    let (plan, slice) = (call.file(0)?, call.file(1)?);
+    let asked = Asked { files: &[&plan, &slice], list: &list, ..Asked::default() };
+    let shadowed = asked.granted(library::shadow(&plan.bytes, &slice.bytes, &list, places(&plan.bytes)))?;
+    call.tell(fired(shadowed.firing, &list, &shadowed.marking).with_shadow(&shadowed.shadow))
+}
+
+/// together PLAN TRANSITION [MARKING..]: without a marking from the plan's own, which is the one after no firing.
+pub fn together(call: &mut Call) -> Done {
+    let transition = call.number(1)?;
+    let given = if call.words.len() > 2 { Some(call.list_from(2, &MARKING)?) } else { None };
+    let plan = call.file(0)?;
+    let marking: Vec<u64> = match given {
+        Some(marking) => marking,
+        None => library::replay(&plan.bytes, &[], places(&plan.bytes)).map_or(Vec::new(), |(_, marking)| marking),
+    };
+    let asked = Asked { files: &[&plan], transition: Some(transition), marking: marking.len(), ..Asked::default() };
+    let (times, leaving) = asked.granted(library::together(&plan.bytes, transition, &marking))?;
+    call.tell(match times {
+        Some(times) => answers::taken(times, &leaving),
+        None => answers::unlimited(&leaving),
+    })
+}

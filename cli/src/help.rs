@@ -1,0 +1,93 @@
+//! Help: the page, a verb's own, and the manual, from the table of verbs.
+
+use crate::answers::{Answer, Status, Value};
+use crate::call::{Call, Done};
+use crate::library::VERSION;
+use crate::verbs::{self, Verb, NOTES, VERBS};
+
+pub fn help(call: &mut Call) -> Done {
+    match call.words.first() {
+        Some(word) => {
+            let verb = verbs::find(word)?;
+            call.tell(of(verb).say(entry(verb).trim_end()))
+        }
+        None if call.out.json => VERBS.iter().try_for_each(|verb| call.tell(of(verb))),
+        None => call.tell(Answer::new("help", Status::Good).say(page().trim_end())),
+    }
+}
+
+/// A verb for JSON.
+fn of(verb: &Verb) -> Answer {
+    Answer::new("help", Status::Good)
+        .data("of", verb.name)
+        .data("usage", Value::Texts(verb.ways().collect()))
+        .data("short", Value::Texts(verb.forms.iter().map(|(_, short)| short.to_string()).collect()))
+        .data("text", verb.text)
+}
+
+/// Each way to use each verb, then the notes.
+fn page() -> String {
+    let mut page = String::from("nesfoal VERB ..: cut, check and replay place/transition nets\n\n");
+    for verb in VERBS {
+        for (way, (_, short)) in verb.ways().zip(verb.forms) {
+            page += &format!("  {way:<38} {short}\n");
+        }
+    }
+    page + "\n" + NOTES
+}
+
+/// How a verb is used, and its text.
+fn entry(verb: &Verb) -> String {
+    let ways: Vec<String> =
+        verb.ways().zip(verb.forms).map(|(way, (_, short))| format!("nesfoal {way}\n    {short}\n")).collect();
+    ways.concat() + "\n" + verb.text
+}
+
+/// The manual page.
+pub fn manual() -> String {
+    let mut page = format!(".TH NESFOAL 1 \"\" \"nesfoal {VERSION}\" Nesfoal\n");
+    page += ".SH NAME\nnesfoal \\- cut, check and replay place/transition nets\n";
+    page += ".SH SYNOPSIS\n.B nesfoal\n[\\-\\-json] [\\-\\-force] VERB ..\n.SH DESCRIPTION\n";
+    page += &roff(NOTES);
+    page += ".SH VERBS\n";
+    for verb in VERBS {
+        page += &format!(".SS {}\n{}", verb.name, roff(&entry(verb)));
+    }
+    page + ".SH FILES\nA run that is killed may leave a file .nesfoal\\-* beside OUT.\n"
+}
+
+/// Indented lines as they are, the others filled.
+fn roff(text: &str) -> String {
+    let mut out = String::new();
+    let mut kept = false;
+    for line in text.lines() {
+        let (is_kept, line) = match line.strip_prefix("    ") {
+            Some(line) => (true, line),
+            None => (false, line),
+        };
+        if is_kept != kept {
+            out += if is_kept { ".RS\n.nf\n" } else { ".fi\n.RE\n" };
+            kept = is_kept;
+        }
+        if line.is_empty() {
+            out += ".PP\n";
+            continue;
+        }
+        if line.starts_with(['.', '\'']) {
+            out += "\\&";
+        }
+        out += &line.replace('\\', "\\e").replace('-', "\\-");
+        out.push('\n');
+    }
+    out + if kept { ".fi\n.RE\n" } else { "" }
+}
+
+#[cfg(test)]
+mod tests {
+    use super::*;
+
+    #[test]
+    fn text_for_the_formatter() {
+        assert_eq!(roff("a-b\n\n    .x \\\ny\n"), "a\\-b\n.PP\n.RS\n.nf\n\\&.x \\e\n.fi\n.RE\ny\n");
+    }
+}

@@ -1,0 +1,376 @@
+//! The proved calls (include/nesfoal.h is their manual), each with an answer that cannot be misread. Every verdict of this program
+//! is one of these answers. The only file with `unsafe`: beside the library's calls it has two of the system that std lacks.
+
+#![allow(unsafe_code)]
+
+#[path = "../../include/nesfoal.rs"]
+mod nesfoal;
+use nesfoal::*;
+pub use nesfoal::{
+    NESFOAL_MAX_ARCS as MAX_ARCS, NESFOAL_MAX_FILE_BYTES as MAX_FILE_BYTES,
+    NESFOAL_MAX_LIST_ENTRIES as MAX_LIST_ENTRIES, NESFOAL_MAX_PLACES as MAX_PLACES,
+    NESFOAL_MAX_TRANSITIONS as MAX_TRANSITIONS, NESFOAL_VERSION as VERSION,
+};
+
+/// Why a call is refused, by the header's numbers.
+#[derive(Clone, Copy, Debug, PartialEq, Eq)]
+pub enum Refusal {
+    Length = 1,
+    Letters,
+    Kind,
+    Counts,
+    Body,
+    Arc,
+    Order,
+    Origins,
+    Criterion,
+    Place,
+    List,
+    Transition,
+    Buffer,
+    Stuck,
+    Marking,
+    Cap,
+    Capped,
+}
+
+impl Refusal {
+    const ALL: [Refusal; NESFOAL_LAST_REFUSAL as usize] = [
+        Refusal::Length,
+        Refusal::Letters,
+        Refusal::Kind,
+        Refusal::Counts,
+        Refusal::Body,
+        Refusal::Arc,
+        Refusal::Order,
+        Refusal::Origins,
+        Refusal::Criterion,
+        Refusal::Place,
+        Refusal::List,
+        Refusal::Transition,
+        Refusal::Buffer,
+        Refusal::Stuck,
+        Refusal::Marking,
+        Refusal::Cap,
+        Refusal::Capped,
+    ];
+
+    pub fn number(self) -> u32 {
+        self as u32
+    }
+
+    /// Is it about a file by itself?
+    pub fn of_file(self) -> bool {
+        self.number() <= Refusal::Origins.number() || self == Refusal::Cap
+    }
+
+    /// What a call returned that has no other answers left.
+    fn of(number: u32) -> Refusal {
+        let known = Refusal::ALL.iter().find(|refusal| refusal.number() == number);
+        *known.unwrap_or_else(|| panic!("the library answered {number}, which its header does not have"))
+    }
+
+    /// Done, or a refusal.
+    fn or_done(number: u32) -> Result<(), Refusal> {
+        match number {
+            NESFOAL_DONE => Ok(()),
+            _ => Err(Refusal::of(number)),
+        }
+    }
+}
+
+/// Where a list stops, and what is missing or too much there.
+#[derive(Clone, Copy, Debug, PartialEq, Eq)]
+pub struct Stop {
+    pub index: u32,
+    pub place: u32,
+    pub amount: u32,
+}
+
+#[derive(Debug, PartialEq, Eq)]
+pub enum Firing {
+    Fired,
+    Stuck(Stop),
+    Full(Stop),
+}
+
+impl Firing {
+    fn of(number: u32, stop: Stop) -> Result<Firing, Refusal> {
+        match number {
+            NESFOAL_DONE => Ok(Firing::Fired),
+            NESFOAL_STUCK => Ok(Firing::Stuck(stop)),
+            NESFOAL_FULL => Ok(Firing::Full(stop)),
+            _ => Err(Refusal::of(number)),
+        }
+    }
+}
+
+/// By how much one firing changes the tokens of a place.
+pub fn effect(file: &[u8], place: u16, transition: u16) -> Result<i32, Refusal> {
+    let mut effect = 0;
+    let number = unsafe { nesfoal_effect(file.as_ptr(), file.len(), place, transition, &mut effect) };
+    Refusal::or_done(number).map(|()| effect)
+}
+
+/// Is a file of either kind refused? An effect is asked for, and what it says of place and transition is let go.
+pub fn refusal_of_file(file: &[u8]) -> Option<Refusal> {
+    effect(file, 0, 0).err().filter(|refusal| refusal.of_file())
+}
+
+/// Is a plan refused? For the empty criterion the cut is refused for the plan's sake alone.
+pub fn refusal_of_plan(plan: &[u8]) -> Option<Refusal> {
+    safety(plan, &[]).err()
+}
+
+/// Whose arcs.
+#[derive(Clone, Copy, PartialEq, Eq)]
+pub enum Side {
+    Plan,
+    Slice,
+}
+
+/// The part of the file named that is the transition's arcs: empty where there are none or something is refused.
+pub fn arcs<'a>(plan: &'a [u8], slice: &'a [u8], side: Side, transition: u16) -> &'a [u8] {
+    let mut start = 0;
+    let length = unsafe {
+        nesfoal_arcs(
+            plan.as_ptr(),
+            plan.len(),
+            slice.as_ptr(),
+            slice.len(),
+            side == Side::Slice,
+            transition,
+            &mut start,
+        )
+    };
+    let file = if side == Side::Slice { slice } else { plan };
+    &file[start as usize..][..length as usize]
+}
+
+/// A list fired, and the marking after it, or before the firing that does not happen: an entry for each of `places`.
+pub fn replay(file: &[u8], list: &[u16], places: usize) -> Result<(Firing, Vec<u64>), Refusal> {
+    let mut marking = vec![0; NESFOAL_MARKING_ROOM];
+    let (mut index, mut place, mut amount) = (0, 0, 0);
+    let number = unsafe {
+        nesfoal_replay(
+            file.as_ptr(),
+            file.len(),
+            list.as_ptr(),
+            list.len(),
+            marking.as_mut_ptr(),
+            marking.len(),
+            &mut index,
+            &mut place,
+            &mut amount,
+        )
+    };
+    marking.truncate(places);
+    Ok((Firing::of(number, Stop { index, place, amount })?, marking))
+}
+
+pub struct Shadowed {
+    pub firing: Firing,
+    pub marking: Vec<u64>,
+    pub shadow: Vec<u16>,
+}
+
+/// The same, with the slice's numbers of what fired.
+pub fn shadow(plan: &[u8], slice: &[u8], list: &[u16], places: usize) -> Result<Shadowed, Refusal> {
+    let (mut marking, mut shadow) = (vec![0; NESFOAL_MARKING_ROOM], vec![0; NESFOAL_SHADOW_ROOM]);
+    let (mut index, mut place, mut amount, mut count) = (0, 0, 0, 0);
+    let number = unsafe {
+        nesfoal_shadow(
+            plan.as_ptr(),
+            plan.len(),
+            slice.as_ptr(),
+            slice.len(),
+            list.as_ptr(),
+            list.len(),
+            marking.as_mut_ptr(),
+            marking.len(),
+            shadow.as_mut_ptr(),
+            shadow.len(),
+            &mut index,
+            &mut place,
+            &mut amount,
+            &mut count,
+        )
+    };
+    let firing = Firing::of(number, Stop { index, place, amount })?;
+    marking.truncate(places);
+    shadow.truncate(count as usize);
+    Ok(Shadowed { firing, marking, shadow })
+}
+
+/// How often the inputs can be taken, None where the transition takes nothing, and what is left.
+pub fn together(plan: &[u8], transition: u16, marking: &[u64]) -> Result<(Option<u64>, Vec<u64>), Refusal> {
+    let mut rest = vec![0; NESFOAL_MARKING_ROOM];
+    let mut times = 0;
+    let number = unsafe {
+        nesfoal_together(
+            plan.as_ptr(),
+            plan.len(),
+            transition,
+            marking.as_ptr(),
+            marking.len(),
+            rest.as_mut_ptr(),
+            rest.len(),
+            &mut times,
+        )
+    };
+    let times = match number {
+        NESFOAL_DONE => Some(times),
+        NESFOAL_UNLIMITED => None,
+        _ => return Err(Refusal::of(number)),
+    };
+    rest.truncate(marking.len());
+    Ok((times, rest))
+}
+
+/// A slice file as a cut wrote it.
+pub struct Slice {
+    pub bytes: Vec<u8>,
+    pub places: u32,
+    pub transitions: u32,
+}
+
+type CutCall =
+    unsafe extern "C" fn(*const u8, usize, *const u16, usize, *mut u8, usize, *mut u32, *mut u32, *mut u32) -> u32;
+
+fn cut(call: CutCall, plan: &[u8], criterion: &[u16]) -> Result<Slice, Refusal> {
+    let mut bytes = vec![0; NESFOAL_SLICE_ROOM];
+    let (mut length, mut places, mut transitions) = (0, 0, 0);
+    let number = unsafe {
+        call(
+            plan.as_ptr(),
+            plan.len(),
+            criterion.as_ptr(),
+            criterion.len(),
+            bytes.as_mut_ptr(),
+            bytes.len(),
+            &mut length,
+            &mut places,
+            &mut transitions,
+        )
+    };
+    Refusal::or_done(number)?;
+    bytes.truncate(length as usize);
+    Ok(Slice { bytes, places, transitions })
+}
+
+pub fn safety(plan: &[u8], criterion: &[u16]) -> Result<Slice, Refusal> {
+    cut(nesfoal_safety, plan, criterion)
+}
+
+pub fn branching(plan: &[u8], criterion: &[u16]) -> Result<Slice, Refusal> {
+    cut(nesfoal_branching, plan, criterion)
+}
+
+/// A list that sticks has its stop beside the refusal.
+pub struct NoRunCut {
+    pub refusal: Refusal,
+    pub stop: Stop,
+}
+
+/// The cut for a recorded run, and the positions of the firings that it chose.
+pub fn run_cut(plan: &[u8], criterion: &[u16], list: &[u16]) -> Result<(Slice, Vec<u16>), NoRunCut> {
+    let (mut bytes, mut positions) = (vec![0; NESFOAL_SLICE_ROOM], vec![0; NESFOAL_POSITIONS_ROOM]);
+    let (mut length, mut places, mut transitions, mut count) = (0, 0, 0, 0);
+    let (mut index, mut place, mut amount) = (0, 0, 0);
+    let number = unsafe {
+        nesfoal_run_cut(
+            plan.as_ptr(),
+            plan.len(),
+            criterion.as_ptr(),
+            criterion.len(),
+            list.as_ptr(),
+            list.len(),
+            bytes.as_mut_ptr(),
+            bytes.len(),
+            positions.as_mut_ptr(),
+            positions.len(),
+            &mut length,
+            &mut places,
+            &mut transitions,
+            &mut count,
+            &mut index,
+            &mut place,
+            &mut amount,
+        )
+    };
+    Refusal::or_done(number).map_err(|refusal| NoRunCut { refusal, stop: Stop { index, place, amount } })?;
+    bytes.truncate(length as usize);
+    positions.truncate(count as usize);
+    Ok((Slice { bytes, places, transitions }, positions))
+}
+
+#[derive(Debug, PartialEq, Eq)]
+pub enum Verdict {
+    Accepted,
+    /// The first rule that is broken, 1 to 10, and the lowest number that breaks it.
+    Broken {
+        rule: u32,
+        number: u32,
+    },
+}
+
+/// Is the slice right for the plan and the criterion?
+pub fn verdict(plan: &[u8], slice: &[u8], criterion: &[u16]) -> Result<Verdict, Refusal> {
+    let mut breaking = 0;
+    let number = unsafe {
+        nesfoal_verdict(
+            plan.as_ptr(),
+            plan.len(),
+            slice.as_ptr(),
+            slice.len(),
+            criterion.as_ptr(),
+            criterion.len(),
+            &mut breaking,
+        )
+    };
+    match number {
+        NESFOAL_ACCEPTED => Ok(Verdict::Accepted),
+        NESFOAL_RULE.. => Ok(Verdict::Broken { rule: number - NESFOAL_RULE, number: breaking }),
+        _ => Err(Refusal::of(number)),
+    }
+}
+
+// The system's calls, by Linux's numbers.
+const SIGHUP: i32 = 1;
+const SIGINT: i32 = 2;
+const SIGTERM: i32 = 15;
+const SIGXFSZ: i32 = 25;
+const SIG_IGN: usize = 1;
+const SIG_BLOCK: i32 = 0;
+const SIG_SETMASK: i32 = 2;
+
+/// A set of signals, as large as the C library has it.
+#[repr(C)]
+struct Signals([u64; 16]);
+
+extern "C" {
+    fn signal(signal: i32, handler: usize) -> usize;
+    fn sigemptyset(set: *mut Signals) -> i32;
+    fn sigaddset(set: *mut Signals, signal: i32) -> i32;
+    fn sigprocmask(how: i32, set: *const Signals, old: *mut Signals) -> i32;
+}
+
+/// A file above the limit of the shell's `ulimit -f` is an error like any other, and not the end.
+pub fn heed_file_limit() {
+    unsafe { signal(SIGXFSZ, SIG_IGN) };
+}
+
+/// Does the work while HUP, INT and TERM wait: what they end, they end after it.
+pub fn undisturbed<T>(work: impl FnOnce() -> T) -> T {
+    let (mut held, mut old) = (Signals([0; 16]), Signals([0; 16]));
+    unsafe {
+        sigemptyset(&mut held);
+        for signal in [SIGHUP, SIGINT, SIGTERM] {
+            sigaddset(&mut held, signal);
+        }
+        sigprocmask(SIG_BLOCK, &held, &mut old);
+    }
+    let done = work();
+    unsafe { sigprocmask(SIG_SETMASK, &old, std::ptr::null_mut()) };
+    done
+}

@@ -1,0 +1,213 @@
+//! Lists of numbers: words of the command, or one file of text or of bytes, low byte first. An answer of this program is a list too:
+//! its last numbers.
+
+use crate::answers::{self, Answer};
+use crate::files::{self, Input};
+use crate::library::{MAX_LIST_ENTRIES, MAX_PLACES};
+use crate::words::brief;
+use std::ffi::{OsStr, OsString};
+use std::os::unix::ffi::OsStrExt;
+
+/// Bytes of a list in text.
+const LONGEST_TEXT: usize = 1_048_576;
+
+/// An entry of a list.
+pub trait Entry: Copy {
+    const BYTES: usize;
+    const LARGEST: u64;
+    fn new(n: u64) -> Self;
+}
+
+macro_rules! entry {
+    ($($t:ty),*) => {$(
+        impl Entry for $t {
+            const BYTES: usize = std::mem::size_of::<$t>();
+            const LARGEST: u64 = <$t>::MAX as u64;
+            fn new(n: u64) -> Self {
+                n as $t
+            }
+        }
+    )*};
+}
+entry!(u16, u32, u64);
+
+/// What a list is of, and which answers hold one.
+pub struct Kind {
+    /// `a list has two bytes an entry`.
+    name: &'static str,
+    /// As many as a call takes; one more is kept, so that the call sees that there are too many.
+    most: usize,
+    /// An answer that starts with one of these words ..
+    starts: &'static [&'static [u8]],
+    /// .. has the numbers after one of those.
+    ends: &'static [&'static [u8]],
+}
+
+/// A criterion, or a list of transitions: the shadow of an answer.
+pub const LIST: Kind = Kind {
+    name: "list",
+    most: MAX_LIST_ENTRIES,
+    starts: &[b"fired", b"stuck", b"full", b"shadow"],
+    ends: &[b"shadow"],
+};
+
+/// Tokens for each place: the marking of an answer.
+pub const MARKING: Kind = Kind {
+    name: "marking",
+    most: MAX_PLACES,
+    starts: &[b"fired", b"taken", b"unlimited,"],
+    ends: &[b"ending", b"leaving"],
+};
+
+/// The number that a text is: digits, at most `largest`.
+fn parsed(text: &[u8], largest: u64) -> Option<u64> {
+    let digit = |n: u64, b: &u8| {
+        let d = b.is_ascii_digit().then(|| u64::from(b - b'0'))?;
+        n.checked_mul(10)?.checked_add(d)
+    };
+    let n = text.iter().try_fold(0, digit)?;
+    (!text.is_empty() && n <= largest).then_some(n)
+}
+
+fn no_number(word: &[u8], shown: usize, largest: u64) -> String {
+    format!("'{}' is not a number from 0 to {largest}", brief(word, shown))
+}
+
+/// One number, a word of the command.
+pub fn number<T: Entry>(word: &OsStr) -> Result<T, Answer> {
+    let word = word.as_bytes();
+    parsed(word, T::LARGEST).map(T::new).ok_or_else(|| answers::error(no_number(word, 60, T::LARGEST)))
+}
+
+/// The name in a word @FILE.
+pub fn named(word: &OsStr) -> Option<&OsStr> {
+    word.as_bytes().strip_prefix(b"@").filter(|name| !name.is_empty()).map(OsStr::from_bytes)
+}
+
+/// The list that these words are: numbers, or @FILE or - alone.
+pub fn list<T: Entry>(words: &[OsString], kind: &Kind, input: &mut Input) -> Result<Vec<T>, Answer> {
+    let file = match words {
+        [word] if word == "-" => Some(word.as_os_str()),
+        [word] => named(word),
+        _ => None,
+    };
+    if let Some(name) = file {
+        let name = name.as_bytes();
+        let given: &[u8] = if name == b"-" { b"-" } else { words[0].as_bytes() };
+        let bytes = files::read(name, given, LONGEST_TEXT, input)?;
+        return of_bytes(&bytes, kind).map_err(|fault| match fault {
+            Fault::Text(why) => answers::error_of(name, why),
+            Fault::Bytes(why) => answers::error_of(given, why),
+        });
+    }
+    if words.first().is_some_and(|word| named(word).is_some()) {
+        return Err(answers::error("a list is numbers, or one @FILE"));
+    }
+    words.iter().take(kind.most + 1).map(|word| number(word)).collect()
+}
+
+/// What is wrong with a list's file.
+#[derive(Debug, PartialEq)]
+enum Fault {
+    Text(String),
+    Bytes(String),
+}
+
+/// The entries of a list's file. One with nothing but text in it is no list of bytes: as numbers of two bytes all would be above
+/// 2,312, and no net has so many places or transitions; of eight, above 651,061,555,542,690,056.
+fn of_bytes<T: Entry>(bytes: &[u8], kind: &Kind) -> Result<Vec<T>, Fault> {
+    if bytes.iter().all(|b| matches!(b, 9..=13 | 32..=126)) {
+        return of_text(bytes, kind);
+    }
+    let whole = &bytes[..bytes.len().min(T::BYTES * (kind.most + 1))];
+    if !whole.len().is_multiple_of(T::BYTES) {
+        let name = kind.name;
+        return Err(Fault::Bytes(match T::BYTES {
+            2 => format!("a {name} has two bytes an entry, and this file has an odd number of bytes"),
+            n => {
+                let each = if n == 4 { "four" } else { "eight" };
+                let length = answers::counted(whole.len() as u64, "byte");
+                format!("a {name} has {each} bytes an entry, and this file has {length}")
+            }
+        }));
+    }
+    let entry = |b: &[u8]| T::new(b.iter().rev().fold(0, |n, b| n << 8 | u64::from(*b)));
+    Ok(whole.chunks_exact(T::BYTES).map(entry).collect())
+}
+
+fn of_text<T: Entry>(text: &[u8], kind: &Kind) -> Result<Vec<T>, Fault> {
+    let bad = |word| Fault::Text(no_number(word, 40, T::LARGEST));
+    let mut words = text.split(|b| matches!(b, 9..=13 | 32)).filter(|word| !word.is_empty()).peekable();
+    if let Some(first) = words.next_if(|word| kind.starts.contains(word)) {
+        let is_end = |word: &[u8]| kind.ends.contains(&word);
+        if !is_end(first) && !words.any(is_end) {
+            return Err(bad(first));
+        }
+    }
+    let mut list = Vec::new();
+    for word in words {
+        let n = parsed(word, T::LARGEST).ok_or_else(|| bad(word))?;
+        if list.len() <= kind.most {
+            list.push(T::new(n));
+        }
+    }
+    if text.len() > LONGEST_TEXT {
+        return Err(Fault::Text(format!("a list in text has at most {LONGEST_TEXT} bytes")));
+    }
+    Ok(list)
+}
+
+#[cfg(test)]
+mod tests {
+    use super::*;
+
+    #[test]
+    fn numbers() {
+        let most = u64::MAX;
+        for (text, n) in [("0", 0), ("007", 7), ("18446744073709551615", most)] {
+            assert_eq!(parsed(text.as_bytes(), most), Some(n));
+        }
+        for text in ["", "-1", "+1", " 1", "1 ", "1x", ":", "/", "18446744073709551616", "99999999999999999999999"] {
+            assert_eq!(parsed(text.as_bytes(), most), None, "{text}");
+        }
+        assert_eq!(parsed(b"65535", 65535), Some(65535));
+        assert_eq!(parsed(b"65536", 65535), None);
+    }
+
+    #[test]
+    fn text() {
+        for (text, list) in [
+            ("", vec![]),
+            (" \n", vec![]),
+            ("3 0\n\t1   2\r\n", vec![3, 0, 1, 2]),
+            ("fired 3 transitions, ending 0 1\nshadow 0 1\n", vec![0, 1]),
+            ("stuck at index 0: x\nshadow", vec![]),
+            ("shadow 7", vec![7]),
+        ] {
+            assert_eq!(of_bytes::<u16>(text.as_bytes(), &LIST), Ok(list), "{text}");
+        }
+        for (text, word) in [("1 shadow", "shadow"), ("fired 1, ending 2", "fired"), ("1 65536", "65536"), ("x", "x")] {
+            let fault = Fault::Text(format!("'{word}' is not a number from 0 to 65535"));
+            assert_eq!(of_bytes::<u16>(text.as_bytes(), &LIST), Err(fault), "{text}");
+        }
+        assert_eq!(of_bytes::<u64>(b"taken 1 time, leaving 5 6", &MARKING), Ok(vec![5, 6]));
+        assert_eq!(of_bytes::<u64>(b"unlimited, leaving", &MARKING), Ok(vec![]));
+    }
+
+    #[test]
+    fn bytes() {
+        assert_eq!(of_bytes::<u16>(&[1, 2, 0, 1], &LIST), Ok(vec![513, 256]));
+        assert_eq!(of_bytes::<u32>(&[1, 0, 0, 128], &LIST), Ok(vec![0x8000_0001]));
+        assert_eq!(of_bytes::<u64>(&[255; 8], &MARKING), Ok(vec![u64::MAX]));
+        assert!(matches!(of_bytes::<u16>(&[1, 2, 0], &LIST), Err(Fault::Bytes(_))));
+        assert_eq!(of_bytes::<u16>(&[0; 200_000], &LIST).unwrap().len(), MAX_LIST_ENTRIES + 1);
+        assert_eq!(of_bytes::<u64>(&[0; 200_000], &MARKING).unwrap().len(), MAX_PLACES + 1);
+    }
+
+    #[test]
+    fn too_long() {
+        let text = b"0 ".repeat(LONGEST_TEXT / 2);
+        assert_eq!(of_bytes::<u16>(&text, &LIST).unwrap().len(), MAX_LIST_ENTRIES + 1);
+        assert!(matches!(of_bytes::<u16>(&[&text[..], b"0"].concat(), &LIST), Err(Fault::Text(_))));
+    }
+}

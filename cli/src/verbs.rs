@@ -1,0 +1,447 @@
+//! The table of verbs. Dispatch, usage, help, manual and the nearest verb come from it: a new verb is an entry here, a function and an
+//! answer.
+
+use crate::answers::{self, Answer};
+use crate::call::{Call, Done};
+use crate::words::{brief, nearest};
+use crate::{checking, cuts, demo, firing, help, install, picture, show};
+use std::ffi::OsStr;
+use std::ops::RangeInclusive;
+use std::os::unix::ffi::OsStrExt;
+
+pub struct Verb {
+    pub name: &'static str,
+    /// The ways to use it: the words after the verb, and what it does, in short.
+    pub forms: &'static [(&'static str, &'static str)],
+    /// How many words it takes.
+    pub takes: RangeInclusive<usize>,
+    pub run: fn(&mut Call) -> Done,
+    /// What it does, examples, answers.
+    pub text: &'static str,
+}
+
+const MANY: usize = usize::MAX;
+
+pub fn find(word: &OsStr) -> Result<&'static Verb, Answer> {
+    VERBS.iter().find(|verb| word == verb.name).ok_or_else(|| {
+        let near = nearest(word, VERBS.iter().map(|verb| verb.name));
+        let word = brief(word.as_bytes(), 40);
+        answers::error(format!("no verb '{word}'; the nearest is '{near}', and nesfoal help lists all"))
+    })
+}
+
+impl Verb {
+    /// Each way to use it: `show FILE`.
+    pub fn ways(&self) -> impl Iterator<Item = String> + '_ {
+        self.forms.iter().map(|(words, _)| format!("{} {words}", self.name).trim_end().to_string())
+    }
+
+    /// `nesfoal dot FILE, or nesfoal dot PLAN SLICE [Q..]`.
+    pub fn usage(&self) -> Answer {
+        let ways: Vec<String> = self.ways().map(|way| format!("nesfoal {way}")).collect();
+        answers::usage(ways.join(", or "))
+    }
+}
+
+/// What the page of help says below the verbs.
+pub const NOTES: &str = "\
+FILE is a plan or a slice. Places and transitions are numbered from 0.
+Q, the criterion, is rising place numbers; LIST is transition numbers. Either may be empty; or @FILE,
+or - for standard input: numbers in text with white space between them, or two bytes an entry, low
+byte first. MARKING likewise, with eight bytes an entry.
+One FILE may be - for standard input, and OUT for standard output.
+OUT that exists is replaced where it is a slice or empty; else --force, anywhere before --, replaces it.
+--json, anywhere before --: each answer is an object on a line of standard output, refusals and errors
+too. --version: the version of the library.
+Verdicts and lists go to standard output, refusals and errors to standard error.
+Exit status: 0; 1 stuck, full or a rule broken; 2 refused, bad usage or an error.
+";
+
+#[rustfmt::skip] // an entry as it reads
+pub static VERBS: &[Verb] = &[
+    Verb {
+        name: "show",
+        forms: &[
+            ("FILE", "what a plan or a slice holds, in words"),
+        ],
+        takes: 1..=1,
+        run: show::show,
+        text: "\
+The first line counts places, transitions, arcs and bytes; then a line for each place and each
+transition. A place that has a cap says how many tokens it holds. In a slice each has the plan's
+number beside its own.
+
+Example:
+    nesfoal show plans/small-kerb.plan
+
+Answers:
+    plan of .., slice of ..    the file can be read
+    refused N: ..              it breaks rule N of the files (1 to 8, 16)
+",
+    },
+    Verb {
+        name: "dot",
+        forms: &[
+            ("FILE", "the net as Graphviz text"),
+            ("PLAN SLICE [Q..]", "the slice inside the plan, the rest grey, Q marked"),
+        ],
+        takes: 1..=MANY,
+        run: picture::dot,
+        text: "\
+Circles are places with their tokens and caps, boxes are transitions. Where the slice is not a part of
+the plan, as the checker's rules 1 to 4 have it, the picture may mislead: standard error says
+so.
+
+Example:
+    nesfoal dot plans/small-kerb.plan safety.slice 2 | dot -Tsvg > picture.svg
+
+Answers:
+    digraph net {..            the picture
+    refused N: ..              a file breaks rule N of the files (1 to 8, 16); nothing is drawn
+",
+    },
+    Verb {
+        name: "effect",
+        forms: &[
+            ("FILE PLACE TRANSITION", "by how much one firing changes the place's tokens"),
+        ],
+        takes: 3..=3,
+        run: firing::effect,
+        text: "\
+What the transition adds to the place less what it takes from it.
+
+Example:
+    nesfoal effect plans/small-kerb.plan 3 2
+
+Answers:
+    effect N of transition T on place P
+    refused N: ..              the file (1 to 8, 16), the place (10) or the transition (12) is refused
+",
+    },
+    Verb {
+        name: "arcs",
+        forms: &[
+            ("PLAN SLICE plan|slice TRANSITION", "what the transition takes and adds in the file named"),
+        ],
+        takes: 4..=4,
+        run: firing::arcs,
+        text: "\
+The transition's number is its number in the file named.
+
+Example:
+    nesfoal arcs plans/small-kerb.plan safety.slice slice 1
+
+Answers:
+    arcs N of transition T in the plan|slice: takes .., adds ..
+    refused N: ..              a file breaks rule N of the files (1 to 8, 16)
+",
+    },
+    Verb {
+        name: "replay",
+        forms: &[
+            ("FILE LIST", "fires the list: the marking after it, or where it is stuck or full"),
+        ],
+        takes: 1..=MANY,
+        run: firing::replay,
+        text: "\
+FILE is a plan or a slice, LIST the numbers of its transitions. They fire one after the other
+from the first marking.
+
+Examples:
+    nesfoal replay plans/small-kerb.plan 0 1 0 1 2
+    nesfoal shadow plans/small-kerb.plan safety.slice 3 0 1 | nesfoal replay safety.slice -
+
+Answers:
+    fired N transitions, ending ..    all fired; the tokens on each place
+    stuck at index I: transition T, place P is short of N
+                               the transition at that index, from 0, lacks tokens (status 1)
+    full at index I: transition T, place P is over by N
+                               it has its inputs, but would leave that place above its cap (status 1)
+    refused N: ..              the file (1 to 8, 16) or the list (11, 12) is refused
+",
+    },
+    Verb {
+        name: "together",
+        forms: &[
+            ("PLAN TRANSITION [MARKING..]", "how often its inputs can be taken together from a marking"),
+        ],
+        takes: 2..=MANY,
+        run: firing::together,
+        text: "\
+MARKING is a number of tokens, up to 18446744073709551615, for each place of the plan; without one
+it is the plan's own. What the transition adds is not counted. The answer is the largest number of
+times, and what is left on each place.
+
+Examples:
+    nesfoal together plans/small-kerb.plan 0
+    nesfoal together plans/small-kerb.plan 2 0 0 0 5 0
+
+Answers:
+    taken N times, leaving ..  the tokens left on each place; one time more is not possible
+    unlimited, leaving ..      the transition takes nothing; the marking is left as it is
+    refused N: ..              the plan (1 to 8, 16), the transition (12) or the marking (15) is refused
+",
+    },
+    Verb {
+        name: "safety",
+        forms: &[
+            ("PLAN OUT [Q..]", "writes the safety cut for the criterion Q"),
+        ],
+        takes: 2..=MANY,
+        run: cuts::safety,
+        text: "\
+The smallest slice that the checker accepts for Q; with no place, the slice with no places and no
+transitions. OUT appears whole or not at all. A file that
+exists is replaced only where it is a slice or empty, and may be written; --force replaces any
+plain file but the plan and the list. A new file has the mode that the umask leaves, a replaced
+one keeps its mode. OUT is no number alone (a file of that name is ./2, say). OUT may be -: the
+slice goes to standard output, and the answer to standard error.
+
+Examples:
+    nesfoal safety plans/small-kerb.plan safety.slice 2
+    nesfoal safety plans/small-kerb.plan - 2 | nesfoal show -
+
+Answers:
+    written OUT: N bytes, N places, N transitions
+    refused N: ..              the plan (1 to 8, 16) or the criterion (10) is refused; nothing is written
+",
+    },
+    Verb {
+        name: "branching",
+        forms: &[
+            ("PLAN OUT [Q..]", "writes the branching cut"),
+        ],
+        takes: 2..=MANY,
+        run: cuts::branching,
+        text: "\
+The same for the slice that also keeps every transition that changes a kept place, for questions
+about what can still happen later. OUT as with safety.
+
+Example:
+    nesfoal branching plans/small-kerb.plan branching.slice 2
+
+Answers:
+    written OUT: N bytes, N places, N transitions
+    refused N: ..              the plan (1 to 8, 16) or the criterion (10) is refused; nothing is written
+",
+    },
+    Verb {
+        name: "run",
+        forms: &[
+            ("PLAN OUT LIST for [Q..]", "writes the cut for one recorded run"),
+        ],
+        takes: 3..=MANY,
+        run: cuts::run,
+        text: "\
+LIST is transitions of the plan that fire one after the other. Back from the last firing, each that
+raised a place of Q, or a place that a chosen one took from, is chosen. The slice has Q, the places
+that they took from and their transitions; the second line has their positions in the list, from 0.
+Fired in order in the slice, the chosen ones leave each place of Q at least the plan's tokens. The
+slice is for that run, and need not be accepted. OUT as with safety.
+
+Example:
+    nesfoal run plans/small-kerb.plan run.slice 3 0 1 for 3
+
+Answers:
+    written OUT: N bytes, N places, N transitions
+    chosen ..                  below it: the positions, rising
+    refused N: ..              the plan (1 to 8, 16; 17 where it has caps), the criterion (10) or the list
+                               (11, 12; 14 where it is stuck) is refused; nothing is written
+",
+    },
+    Verb {
+        name: "safety-each",
+        forms: &[
+            ("PLAN FOLDER", "the safety cut for each place P alone, as FOLDER/P.slice"),
+        ],
+        takes: 2..=2,
+        run: cuts::safety_each,
+        text: "\
+The folder is made where it is not there. Each file is written as with safety; where one of them
+may not be replaced, none is written. On a terminal, standard error says how far it is.
+
+Example:
+    nesfoal safety-each plans/small-kerb.plan cuts
+
+Answers:
+    written FOLDER/P.slice: N bytes, N places, N transitions
+                               a line for each place
+    refused N: ..              the plan is refused (1 to 8, 16); nothing is written
+",
+    },
+    Verb {
+        name: "branching-each",
+        forms: &[
+            ("PLAN FOLDER", "the same with branching cuts"),
+        ],
+        takes: 2..=2,
+        run: cuts::branching_each,
+        text: "\
+As safety-each.
+
+Example:
+    nesfoal branching-each plans/small-kerb.plan cuts
+
+Answers:
+    written FOLDER/P.slice: N bytes, N places, N transitions
+                               a line for each place
+    refused N: ..              the plan is refused (1 to 8, 16); nothing is written
+",
+    },
+    Verb {
+        name: "check",
+        forms: &[
+            ("PLAN SLICE [Q..]", "is the slice right for Q: accepted, or the rule that it breaks"),
+            ("PLAN [Q..] -- SLICE..", "the same for many slices, a line each"),
+        ],
+        takes: 1..=MANY,
+        run: checking::check,
+        text: "\
+A slice that is accepted, whoever made it, loses no run of the plan and makes none up. With --
+each slice has a line on standard output that starts with its name, whatever came of it; the
+status is 2 where one is refused or cannot be read, else 1 where one breaks a rule.
+
+Examples:
+    nesfoal check plans/small-kerb.plan safety.slice 2
+    nesfoal check plans/small-kerb.plan 2 -- *.slice
+
+Answers:
+    accepted
+    rule N broken by ..        the first rule that is broken, and the lowest number that breaks it
+                               (status 1)
+    refused N: ..              a file (1 to 8, 16) or the criterion (10) is refused
+",
+    },
+    Verb {
+        name: "shadow",
+        forms: &[
+            ("PLAN SLICE LIST", "fires the list in the plan, and tells its shadow in the slice"),
+        ],
+        takes: 2..=MANY,
+        run: firing::shadow,
+        text: "\
+LIST is transitions of the plan. The first line is that of replay. The second has the firings that
+the slice has, by the slice's own numbers, the others struck out; where the list is stuck or full, of
+those before that index. In a slice that is accepted the shadow always fires. The answer may be piped into
+replay, whose LIST is then -.
+
+Example:
+    nesfoal shadow plans/small-kerb.plan safety.slice 3 0 1 2
+
+Answers:
+    fired N transitions, ending ..    all fired; the tokens on each place of the plan
+    stuck at index I: transition T, place P is short of N
+                               the transition at that index, from 0, lacks tokens (status 1)
+    full at index I: transition T, place P is over by N
+                               it has its inputs, but would leave that place above its cap (status 1)
+    shadow ..                  below each: the slice's numbers, in order
+    refused N: ..              a file (1 to 8, 16) or the list (11, 12) is refused
+",
+    },
+    Verb {
+        name: "demo",
+        forms: &[
+            ("", "the verbs on a small kerb"),
+        ],
+        takes: 0..=0,
+        run: demo::demo,
+        text: "\
+No file is read or written.
+
+Example:
+    nesfoal demo
+
+Answers:
+    each command, and its answer below it
+",
+    },
+    Verb {
+        name: "build",
+        forms: &[
+            ("", "builds the program where a source changed, and does no more"),
+        ],
+        takes: 0..=0,
+        run: install::build,
+        text: "\
+The library is proved and compiled, and the program linked with it. In the repository any other verb
+does this first where code is newer than the program; build also looks at definitions and proofs, and
+at files that came with an older time. An installed nesfoal does not build. It needs the toolchain (rt)
+and cargo.
+
+Example:
+    ./nesfoal build
+
+Answers:
+    built target/cli/release/nesfoal
+    error: ..                  with the toolchain's own words above it
+",
+    },
+    Verb {
+        name: "install",
+        forms: &[
+            ("PREFIX", "puts program, library, header and manual below PREFIX"),
+        ],
+        takes: 1..=1,
+        run: install::install,
+        text: "\
+Below PREFIX: bin/nesfoal, lib/libnesfoal.a, lib/pkgconfig/nesfoal.pc, include/nesfoal.h, share/man,
+share/doc and share/nesfoal. What is installed runs without the repository and without the toolchain,
+and may be moved. An older one there is replaced.
+
+Example:
+    ./nesfoal install ~/.local
+
+Answers:
+    installed N files below PREFIX
+",
+    },
+    Verb {
+        name: "uninstall",
+        forms: &[
+            ("PREFIX", "takes away what install put there"),
+        ],
+        takes: 1..=1,
+        run: install::uninstall,
+        text: "\
+The folders that install made go too, where nothing else is in them.
+
+Example:
+    ./nesfoal uninstall ~/.local
+
+Answers:
+    removed N files below PREFIX
+",
+    },
+    Verb {
+        name: "help",
+        forms: &[
+            ("[VERB]", "this page, or a verb's own"),
+        ],
+        takes: 0..=1,
+        run: help::help,
+        text: "\
+The same as --help and -h, which may stand after a verb.
+
+Example:
+    nesfoal help check
+
+Answers:
+    how the verb is used, what it does, an example, what its answers mean
+",
+    },
+];
+
+#[cfg(test)]
+mod tests {
+    use super::*;
+
+    #[test]
+    fn each_verb_has_its_words() {
+        for verb in VERBS {
+            assert!(!verb.forms.is_empty() && verb.text.contains("\nExample"), "{}", verb.name);
+            assert!(verb.text.contains("\nAnswers:\n"), "{}", verb.name);
+            assert!(verb.text.lines().all(|line| line.len() <= 110), "{}", verb.name);
+            assert!(std::ptr::eq(find(OsStr::new(verb.name)).ok().unwrap(), verb));
+        }
+    }
+}
