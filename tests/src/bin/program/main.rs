@@ -1,8 +1,8 @@
-//! Holds the program to the second implementation: every case of the answers that Rattle's own calls give (accepted, each rule
+//! Holds the program to the second implementation: every case of the answers that the library's calls give (accepted, each rule
 //! broken, fired, stuck, written, each refusal) is told by a verb of its own words and numbers, and these are compared, with
 //! the files that it writes. First the fixed cases, which have to reach every case of the answer, then random ones.
 //!
-//! `program SLICER [--break]`. NESFOAL_SEED sets the seed, NESFOAL_CASES the random cases of each verb. `--break` spoils what is
+//! `program PROGRAM [--break]`. NESFOAL_SEED sets the seed, NESFOAL_CASES the random cases of each verb. `--break` spoils what is
 //! due a little, in each way by itself, so that each verb has to fail in each.
 
 mod room;
@@ -24,7 +24,7 @@ const THREADS: usize = 2;
 const PRINTED: u64 = 5;
 
 struct Settings {
-    slicer: PathBuf,
+    program: PathBuf,
     seed: u64,
     cases: u64,
     broken: bool,
@@ -33,23 +33,23 @@ struct Settings {
 impl Settings {
     fn read() -> Option<Settings> {
         let words: Vec<String> = std::env::args().skip(1).collect();
-        let (slicer, broken) = match words.as_slice() {
-            [slicer] => (slicer, false),
-            [slicer, word] if word == "--break" => (slicer, true),
+        let (program, broken) = match words.as_slice() {
+            [program] => (program, false),
+            [program, word] if word == "--break" => (program, true),
             _ => return None,
         };
         let number = |name: &str, otherwise: u64| match std::env::var(name) {
             Ok(text) => text.parse().unwrap_or_else(|_| panic!("{name} is not a number: {text}")),
             Err(_) => otherwise,
         };
-        let slicer = std::fs::canonicalize(slicer).unwrap_or_else(|e| panic!("{slicer}: {e}"));
-        Some(Settings { slicer, seed: number("NESFOAL_SEED", SEED), cases: number("NESFOAL_CASES", CASES), broken })
+        let program = std::fs::canonicalize(program).unwrap_or_else(|e| panic!("{program}: {e}"));
+        Some(Settings { program, seed: number("NESFOAL_SEED", SEED), cases: number("NESFOAL_CASES", CASES), broken })
     }
 }
 
 fn main() -> ExitCode {
     let Some(settings) = Settings::read() else {
-        eprintln!("usage: program SLICER [--break]");
+        eprintln!("usage: program PROGRAM [--break]");
         return ExitCode::from(2);
     };
     let folder = std::env::temp_dir().join(format!("nesfoal-program-{}", std::process::id()));
@@ -94,7 +94,7 @@ fn compare(verb: &Verb, settings: &Settings, folder: &Path) -> bool {
     let mut reached: BTreeSet<String> = BTreeSet::new();
     let fixed = (verb.fixed)();
     let count = fixed.len() as u64 + settings.cases;
-    let room = Room::new(&settings.slicer, folder.join(format!("{name}-fixed")));
+    let room = Room::new(&settings.program, folder.join(format!("{name}-fixed")));
     for (label, asked) in fixed {
         reached.insert(asked.due.outcome.clone());
         hold(&room, &format!("fixed case: {label}"), asked, true);
@@ -107,7 +107,7 @@ fn compare(verb: &Verb, settings: &Settings, folder: &Path) -> bool {
     std::thread::scope(|scope| {
         for thread in 0..THREADS {
             let hold = &hold;
-            let room = Room::new(&settings.slicer, folder.join(format!("{name}-{thread}")));
+            let room = Room::new(&settings.program, folder.join(format!("{name}-{thread}")));
             scope.spawn(move || {
                 for number in (thread as u64..settings.cases).step_by(THREADS) {
                     let mut rng = Rng::for_case(settings.seed, name, number);

@@ -7,7 +7,7 @@ use std::path::{Path, PathBuf};
 use std::process::{Command, Output, Stdio};
 
 pub struct Room<'a> {
-    slicer: &'a Path,
+    program: &'a Path,
     folder: PathBuf,
 }
 
@@ -18,9 +18,9 @@ type Files = BTreeMap<String, Vec<u8>>;
 const OLD: &[u8] = b"what stood there before\x01\x01BELL";
 
 impl Room<'_> {
-    pub fn new(slicer: &Path, folder: PathBuf) -> Room<'_> {
+    pub fn new(program: &Path, folder: PathBuf) -> Room<'_> {
         fs::create_dir(&folder).expect("a room");
-        Room { slicer, folder }
+        Room { program, folder }
     }
 
     /// Runs the program in the room with the case's files, and with an old file OUT where wanted.
@@ -32,7 +32,7 @@ impl Room<'_> {
         for (name, bytes) in &before {
             fs::write(self.folder.join(name), bytes).expect("a file is written");
         }
-        let run = Command::new(self.slicer)
+        let run = Command::new(self.program)
             .args(&asked.words)
             .current_dir(&self.folder)
             .stdin(Stdio::null())
@@ -66,11 +66,15 @@ pub struct Ran {
 impl Ran {
     /// What is not as due, if anything.
     pub fn fault(&self, due: &Due) -> Option<String> {
-        let said = String::from_utf8_lossy(&self.run.stdout);
-        let fault = |text: &str| Some(format!("  says: {said}  due:  {}\n  {text}\n", due.says));
-        if !self.run.status.success() || !self.run.stderr.is_empty() {
-            let error = String::from_utf8_lossy(&self.run.stderr);
-            return fault(&format!("{}, standard error: {error}", self.run.status));
+        let (out, error) = (String::from_utf8_lossy(&self.run.stdout), String::from_utf8_lossy(&self.run.stderr));
+        let (status, said, silent) = match due.says.split(' ').next() {
+            Some("refused" | "error:") => (2, &error, &out),
+            Some("stuck" | "full" | "rule") => (1, &out, &error),
+            _ => (0, &out, &error),
+        };
+        let fault = |text: &str| Some(format!("  says: {out}{error}  due:  {}\n  {text}\n", due.says));
+        if self.run.status.code() != Some(status) || !silent.is_empty() {
+            return fault(&format!("{}, and {status} is due, with one stream", self.run.status));
         }
         if !due.is_said(&said) {
             return fault("it says something else");

@@ -86,7 +86,7 @@ impl Asked {
 
     pub fn show(&self) -> String {
         let files: Vec<String> = self.files.iter().map(|(name, bytes)| format!("  {name}: {}\n", hex(bytes))).collect();
-        format!("  slicer {}\n{}", self.words.join(" "), files.concat())
+        format!("  nesfoal {}\n{}", self.words.join(" "), files.concat())
     }
 }
 
