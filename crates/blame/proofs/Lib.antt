@@ -1,3 +1,0 @@
-pub mod Heads
-pub mod Steps
-pub mod Where

@@ -1,6 +1,0 @@
-pub mod Head
-pub mod Arcs
-pub mod Origins
-pub mod Capacity
-pub mod Numbers
-pub mod Conditions

@@ -1,2 +1,0 @@
-pub mod Origins
-pub mod Shading

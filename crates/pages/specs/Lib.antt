@@ -1,2 +1,0 @@
-pub mod Shades
-pub mod Notes
