@@ -45,13 +45,18 @@ impl<'a> Call<'a> {
     }
 
     /// The list that the words of a range are.
-    pub fn list<T: Entry>(&mut self, range: std::ops::Range<usize>, kind: &Kind) -> Result<Vec<T>, Answer> {
+    pub fn list<T: Entry>(&mut self, range: std::ops::Range<usize>, kind: &Kind<T>) -> Result<Vec<T>, Answer> {
         numbers::list(&self.words[range], kind, &mut self.input)
     }
 
     /// The list that the words from i on are.
-    pub fn list_from<T: Entry>(&mut self, i: usize, kind: &Kind) -> Result<Vec<T>, Answer> {
+    pub fn list_from<T: Entry>(&mut self, i: usize, kind: &Kind<T>) -> Result<Vec<T>, Answer> {
         self.list(i..self.words.len(), kind)
+    }
+
+    /// Where the word stands that parts one list from the next: after the first `from` words.
+    pub fn parted(&self, from: usize, by: &str) -> Option<usize> {
+        (from..self.words.len()).find(|&i| self.words[i] == by)
     }
 
     pub fn tell(&mut self, answer: Answer) -> Done {

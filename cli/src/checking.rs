@@ -14,7 +14,7 @@ pub fn check(call: &mut Call) -> Done {
         Some(0) => Err(call.misused()),
         Some(split) if split < call.words.len() => many(call, split),
         None if call.words.len() >= 2 => {
-            let criterion: Vec<u16> = call.list_from(2, &LIST)?;
+            let criterion = call.list_from(2, &LIST)?;
             let (plan, slice) = (call.file(0)?, call.file(1)?);
             let answer = verdict(&plan, &slice, &criterion)?;
             call.tell(answer)
@@ -34,7 +34,7 @@ fn verdict(plan: &File, slice: &File, criterion: &[u16]) -> Result<Answer, Answe
 /// A line for each slice, whatever came of it. What is wrong with the plan or the criterion is said once: a cut is refused for their
 /// sake alone.
 fn many(call: &mut Call, split: usize) -> Done {
-    let criterion: Vec<u16> = call.list(1..split, &LIST)?;
+    let criterion = call.list(1..split, &LIST)?;
     let plan = call.file(0)?;
     let asked = Asked { files: &[&plan], criterion: &criterion, ..Asked::default() };
     asked.granted(library::safety(&plan.bytes, &criterion))?;

@@ -26,7 +26,7 @@ pub fn branching(call: &mut Call) -> Done {
 
 fn cut(call: &mut Call, cut: Cut) -> Done {
     let out = out(call)?;
-    let criterion: Vec<u16> = call.list_from(2, &LIST)?;
+    let criterion = call.list_from(2, &LIST)?;
     let plan = call.file(0)?;
     let asked = Asked { files: &[&plan], criterion: &criterion, ..Asked::default() };
     let slice = asked.granted(cut(&plan.bytes, &criterion))?;
@@ -59,11 +59,10 @@ fn written(out: &Out, slice: &Slice) -> Result<Answer, Answer> {
 
 /// run PLAN OUT LIST for [Q..]
 pub fn run(call: &mut Call) -> Done {
-    let end = call.words.len();
-    let middle = (2..end).find(|&i| call.words[i] == "for").ok_or_else(|| call.misused())?;
+    let middle = call.parted(2, "for").ok_or_else(|| call.misused())?;
     let out = out(call)?;
-    let list: Vec<u16> = call.list(2..middle, &LIST)?;
-    let criterion: Vec<u16> = call.list(middle + 1..end, &LIST)?;
+    let list = call.list(2..middle, &LIST)?;
+    let criterion = call.list_from(middle + 1, &LIST)?;
     let plan = call.file(0)?;
     let asked = Asked { files: &[&plan], criterion: &criterion, list: &list, ..Asked::default() };
     let (slice, chosen) = library::run_cut(&plan.bytes, &criterion, &list).map_err(|no| match no.refusal {

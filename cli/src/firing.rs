@@ -50,7 +50,7 @@ fn fired(firing: Firing, list: &[u16], marking: &[u64]) -> Answer {
 
 /// replay FILE LIST
 pub fn replay(call: &mut Call) -> Done {
-    let list: Vec<u16> = call.list_from(1, &LIST)?;
+    let list = call.list_from(1, &LIST)?;
     let file = call.file(0)?;
     let asked = Asked { files: &[&file], list: &list, ..Asked::default() };
     let (firing, marking) = asked.granted(library::replay(&file.bytes, &list, places(&file.bytes)))?;
@@ -59,7 +59,7 @@ pub fn replay(call: &mut Call) -> Done {
 
 /// shadow PLAN SLICE LIST
 pub fn shadow(call: &mut Call) -> Done {
-    let list: Vec<u16> = call.list_from(2, &LIST)?;
+    let list = call.list_from(2, &LIST)?;
     let (plan, slice) = (call.file(0)?, call.file(1)?);
     let asked = Asked { files: &[&plan, &slice], list: &list, ..Asked::default() };
     let shadowed = asked.granted(library::shadow(&plan.bytes, &slice.bytes, &list, places(&plan.bytes)))?;

@@ -12,49 +12,39 @@ pub use nesfoal::{
     NESFOAL_MAX_TRANSITIONS as MAX_TRANSITIONS, NESFOAL_VERSION as VERSION,
 };
 
-/// Why a call is refused, by the header's numbers.
-#[derive(Clone, Copy, Debug, PartialEq, Eq)]
-pub enum Refusal {
-    Length = 1,
-    Letters,
-    Kind,
-    Counts,
-    Body,
-    Arc,
-    Order,
-    Origins,
-    Criterion,
-    Place,
-    List,
-    Transition,
-    Buffer,
-    Stuck,
-    Marking,
-    Cap,
-    Capped,
+macro_rules! refusals {
+    ($($name:ident = $number:ident,)*) => {
+        /// Why a call is refused, by the header's numbers.
+        #[repr(u32)]
+        #[derive(Clone, Copy, Debug, PartialEq, Eq)]
+        pub enum Refusal {
+            $($name = $number,)*
+        }
+
+        const REFUSALS: &[Refusal] = &[$(Refusal::$name,)*];
+    };
+}
+refusals! {
+    Length = NESFOAL_REFUSED_LENGTH,
+    Letters = NESFOAL_REFUSED_LETTERS,
+    Kind = NESFOAL_REFUSED_KIND,
+    Counts = NESFOAL_REFUSED_COUNTS,
+    Body = NESFOAL_REFUSED_BODY,
+    Arc = NESFOAL_REFUSED_ARC,
+    Order = NESFOAL_REFUSED_ORDER,
+    Origins = NESFOAL_REFUSED_ORIGINS,
+    Criterion = NESFOAL_REFUSED_CRITERION,
+    Place = NESFOAL_REFUSED_PLACE,
+    List = NESFOAL_REFUSED_LIST,
+    Transition = NESFOAL_REFUSED_TRANSITION,
+    Buffer = NESFOAL_REFUSED_BUFFER,
+    Stuck = NESFOAL_REFUSED_STUCK,
+    Marking = NESFOAL_REFUSED_MARKING,
+    Cap = NESFOAL_REFUSED_CAP,
+    Capped = NESFOAL_REFUSED_CAPPED,
 }
 
 impl Refusal {
-    const ALL: [Refusal; NESFOAL_LAST_REFUSAL as usize] = [
-        Refusal::Length,
-        Refusal::Letters,
-        Refusal::Kind,
-        Refusal::Counts,
-        Refusal::Body,
-        Refusal::Arc,
-        Refusal::Order,
-        Refusal::Origins,
-        Refusal::Criterion,
-        Refusal::Place,
-        Refusal::List,
-        Refusal::Transition,
-        Refusal::Buffer,
-        Refusal::Stuck,
-        Refusal::Marking,
-        Refusal::Cap,
-        Refusal::Capped,
-    ];
-
     pub fn number(self) -> u32 {
         self as u32
     }
@@ -66,7 +56,7 @@ impl Refusal {
 
     /// What a call returned that has no other answers left.
     fn of(number: u32) -> Refusal {
-        let known = Refusal::ALL.iter().find(|refusal| refusal.number() == number);
+        let known = REFUSALS.iter().find(|refusal| refusal.number() == number);
         *known.unwrap_or_else(|| panic!("the library answered {number}, which its header does not have"))
     }
 

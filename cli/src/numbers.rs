@@ -6,6 +6,7 @@ use crate::files::{self, Input};
 use crate::library::{MAX_LIST_ENTRIES, MAX_PLACES};
 use crate::words::brief;
 use std::ffi::{OsStr, OsString};
+use std::marker::PhantomData;
 use std::os::unix::ffi::OsStrExt;
 
 /// Bytes of a list in text.
@@ -32,7 +33,7 @@ macro_rules! entry {
 entry!(u16, u32, u64);
 
 /// What a list is of, and which answers hold one.
-pub struct Kind {
+pub struct Kind<T> {
     /// `a list has two bytes an entry`.
     name: &'static str,
     /// As many as a call takes; one more is kept, so that the call sees that there are too many.
@@ -41,22 +42,25 @@ pub struct Kind {
     starts: &'static [&'static [u8]],
     /// .. has the numbers after one of those.
     ends: &'static [&'static [u8]],
+    entry: PhantomData<T>,
 }
 
 /// A criterion, or a list of transitions: the shadow of an answer.
-pub const LIST: Kind = Kind {
+pub const LIST: Kind<u16> = Kind {
     name: "list",
     most: MAX_LIST_ENTRIES,
     starts: &[b"fired", b"stuck", b"full", b"shadow"],
     ends: &[b"shadow"],
+    entry: PhantomData,
 };
 
 /// Tokens for each place: the marking of an answer.
-pub const MARKING: Kind = Kind {
+pub const MARKING: Kind<u64> = Kind {
     name: "marking",
     most: MAX_PLACES,
     starts: &[b"fired", b"taken", b"unlimited,"],
     ends: &[b"ending", b"leaving"],
+    entry: PhantomData,
 };
 
 /// The number that a text is: digits, at most `largest`.
@@ -85,7 +89,7 @@ pub fn named(word: &OsStr) -> Option<&OsStr> {
 }
 
 /// The list that these words are: numbers, or @FILE or - alone.
-pub fn list<T: Entry>(words: &[OsString], kind: &Kind, input: &mut Input) -> Result<Vec<T>, Answer> {
+pub fn list<T: Entry>(words: &[OsString], kind: &Kind<T>, input: &mut Input) -> Result<Vec<T>, Answer> {
     let file = match words {
         [word] if word == "-" => Some(word.as_os_str()),
         [word] => named(word),
@@ -115,7 +119,7 @@ enum Fault {
 
 /// The entries of a list's file. One with nothing but text in it is no list of bytes: as numbers of two bytes all would be above
 /// 2,312, and no net has so many places or transitions; of eight, above 651,061,555,542,690,056.
-fn of_bytes<T: Entry>(bytes: &[u8], kind: &Kind) -> Result<Vec<T>, Fault> {
+fn of_bytes<T: Entry>(bytes: &[u8], kind: &Kind<T>) -> Result<Vec<T>, Fault> {
     if bytes.iter().all(|b| matches!(b, 9..=13 | 32..=126)) {
         return of_text(bytes, kind);
     }
@@ -135,7 +139,7 @@ fn of_bytes<T: Entry>(bytes: &[u8], kind: &Kind) -> Result<Vec<T>, Fault> {
     Ok(whole.chunks_exact(T::BYTES).map(entry).collect())
 }
 
-fn of_text<T: Entry>(text: &[u8], kind: &Kind) -> Result<Vec<T>, Fault> {
+fn of_text<T: Entry>(text: &[u8], kind: &Kind<T>) -> Result<Vec<T>, Fault> {
     let bad = |word| Fault::Text(no_number(word, 40, T::LARGEST));
     let mut words = text.split(|b| matches!(b, 9..=13 | 32)).filter(|word| !word.is_empty()).peekable();
     if let Some(first) = words.next_if(|word| kind.starts.contains(word)) {
@@ -184,30 +188,29 @@ mod tests {
             ("stuck at index 0: x\nshadow", vec![]),
             ("shadow 7", vec![7]),
         ] {
-            assert_eq!(of_bytes::<u16>(text.as_bytes(), &LIST), Ok(list), "{text}");
+            assert_eq!(of_bytes(text.as_bytes(), &LIST), Ok(list), "{text}");
         }
         for (text, word) in [("1 shadow", "shadow"), ("fired 1, ending 2", "fired"), ("1 65536", "65536"), ("x", "x")] {
             let fault = Fault::Text(format!("'{word}' is not a number from 0 to 65535"));
-            assert_eq!(of_bytes::<u16>(text.as_bytes(), &LIST), Err(fault), "{text}");
+            assert_eq!(of_bytes(text.as_bytes(), &LIST), Err(fault), "{text}");
         }
-        assert_eq!(of_bytes::<u64>(b"taken 1 time, leaving 5 6", &MARKING), Ok(vec![5, 6]));
-        assert_eq!(of_bytes::<u64>(b"unlimited, leaving", &MARKING), Ok(vec![]));
+        assert_eq!(of_bytes(b"taken 1 time, leaving 5 6", &MARKING), Ok(vec![5, 6]));
+        assert_eq!(of_bytes(b"unlimited, leaving", &MARKING), Ok(vec![]));
     }
 
     #[test]
     fn bytes() {
-        assert_eq!(of_bytes::<u16>(&[1, 2, 0, 1], &LIST), Ok(vec![513, 256]));
-        assert_eq!(of_bytes::<u32>(&[1, 0, 0, 128], &LIST), Ok(vec![0x8000_0001]));
-        assert_eq!(of_bytes::<u64>(&[255; 8], &MARKING), Ok(vec![u64::MAX]));
-        assert!(matches!(of_bytes::<u16>(&[1, 2, 0], &LIST), Err(Fault::Bytes(_))));
-        assert_eq!(of_bytes::<u16>(&[0; 200_000], &LIST).unwrap().len(), MAX_LIST_ENTRIES + 1);
-        assert_eq!(of_bytes::<u64>(&[0; 200_000], &MARKING).unwrap().len(), MAX_PLACES + 1);
+        assert_eq!(of_bytes(&[1, 2, 0, 1], &LIST), Ok(vec![513, 256]));
+        assert_eq!(of_bytes(&[255; 8], &MARKING), Ok(vec![u64::MAX]));
+        assert!(matches!(of_bytes(&[1, 2, 0], &LIST), Err(Fault::Bytes(_))));
+        assert_eq!(of_bytes(&[0; 200_000], &LIST).unwrap().len(), MAX_LIST_ENTRIES + 1);
+        assert_eq!(of_bytes(&[0; 200_000], &MARKING).unwrap().len(), MAX_PLACES + 1);
     }
 
     #[test]
     fn too_long() {
         let text = b"0 ".repeat(LONGEST_TEXT / 2);
-        assert_eq!(of_bytes::<u16>(&text, &LIST).unwrap().len(), MAX_LIST_ENTRIES + 1);
-        assert!(matches!(of_bytes::<u16>(&[&text[..], b"0"].concat(), &LIST), Err(Fault::Text(_))));
+        assert_eq!(of_bytes(&text, &LIST).unwrap().len(), MAX_LIST_ENTRIES + 1);
+        assert!(matches!(of_bytes(&[&text[..], b"0"].concat(), &LIST), Err(Fault::Text(_))));
     }
 }

@@ -47,7 +47,7 @@ fn one(call: &mut Call) -> Done {
 /// The slice inside the plan, with a note where it is not a part of it by rules 1 to 4: they do not depend on the criterion, and none
 /// is asked.
 fn inside(call: &mut Call) -> Done {
-    let q: Vec<u16> = call.list_from(2, &LIST)?;
+    let q = call.list_from(2, &LIST)?;
     let (plan, slice) = (call.file(0)?, call.file(1)?);
     let asked = Asked { files: &[&plan, &slice], ..Asked::default() };
     let verdict = asked.granted(library::verdict(&plan.bytes, &slice.bytes, &[]))?;
