@@ -46,7 +46,7 @@ pub fn install(call: &mut Call) -> Done {
     let files: [(&str, u32, Content); 6] = [
         ("bin/nesfoal", 0o755, Content::Copy(PROGRAM)),
         ("include/nesfoal.h", 0o644, Content::Copy("include/nesfoal.h")),
-        ("lib/libnesfoal.a", 0o644, Content::Copy("target/staticlib/libnesfoal.a")),
+        ("lib/libnesfoal.a", 0o644, Content::Copy("target/cli/libnesfoal.a")),
         ("lib/pkgconfig/nesfoal.pc", 0o644, Content::Text(package())),
         ("share/man/man1/nesfoal.1", 0o644, Content::Text(help::manual())),
         ("share/doc/nesfoal/LICENSE", 0o644, Content::Copy("LICENSE")),

@@ -363,10 +363,11 @@ Answers:
         takes: 0..=0,
         run: install::build,
         text: "\
-The library is proved and compiled, and the program linked with it. In the repository any other verb
-does this first where code is newer than the program; build also looks at definitions and proofs, and
-at files that came with an older time. An installed nesfoal does not build. It needs the toolchain (rt)
-and cargo.
+The program is compiled and linked with the library: with dist/libnesfoal.a where that was proved from
+the sources in the tree, else with what the toolchain (rt) proves and builds first. ./nesfoal build
+--prove has it proved in any case. In the repository any other verb builds first where code is newer
+than the program; build also looks at definitions and proofs, and at files that came with an older
+time. A build needs cargo and cc. An installed nesfoal does not build.
 
 Example:
     ./nesfoal build
