@@ -236,6 +236,26 @@ pub fn counted(n: u64, thing: &str) -> String {
     format!("{n} {thing}{s}")
 }
 
+/// The same with commas, as reasons have it: `1 byte`, `65,536 bytes`.
+pub fn grouped_count(n: impl ToString, thing: &str) -> String {
+    let n = grouped(n);
+    let s = if n == "1" { "" } else { "s" };
+    format!("{n} {thing}{s}")
+}
+
+/// A number with commas.
+pub fn grouped(n: impl ToString) -> String {
+    let digits = n.to_string();
+    let mut out = String::new();
+    for (i, digit) in digits.chars().enumerate() {
+        if i > 0 && (digits.len() - i).is_multiple_of(3) {
+            out.push(',');
+        }
+        out.push(digit);
+    }
+    out
+}
+
 fn count(n: usize, thing: &'static str) -> Value {
     Value::Count(n as u64, thing)
 }
@@ -447,6 +467,14 @@ mod tests {
         let answer = stuck(4, stop).with_shadow(&[5, 6]);
         assert_eq!(answer.words(), b"stuck at index 1: transition 4, place 2 is short of 3\nshadow 5 6");
         assert_eq!(json(&answer), r#""outcome":"stuck","index":1,"transition":4,"place":2,"short":3,"shadow":[5,6]"#);
+    }
+
+    #[test]
+    fn commas() {
+        for (n, text) in [(0, "0"), (999, "999"), (1000, "1,000"), (65536, "65,536"), (4294967295u64, "4,294,967,295")]
+        {
+            assert_eq!(grouped(n), text);
+        }
     }
 
     #[test]

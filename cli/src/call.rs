@@ -1,12 +1,13 @@
 //! One command under way: its words, and what it says.
 
-use crate::answers::{quote, Answer, Status};
-use crate::files::{self, File, Input};
+use crate::answers::{self, quote, Answer, Status};
+use crate::files::{self, File, Input, Named, Out};
 use crate::numbers::{self, Entry, Kind};
 use crate::verbs::Verb;
-use crate::words::Command;
+use crate::words::{brief, Command};
 use std::ffi::{OsStr, OsString};
 use std::io::{self, ErrorKind, Write};
+use std::ops::Range;
 use std::os::unix::ffi::OsStrExt;
 
 /// A verb tells its answers as it goes; the last one, where it is bad, it hands back.
@@ -45,7 +46,7 @@ impl<'a> Call<'a> {
     }
 
     /// The list that the words of a range are.
-    pub fn list<T: Entry>(&mut self, range: std::ops::Range<usize>, kind: &Kind<T>) -> Result<Vec<T>, Answer> {
+    pub fn list<T: Entry>(&mut self, range: Range<usize>, kind: &Kind<T>) -> Result<Vec<T>, Answer> {
         numbers::list(&self.words[range], kind, &mut self.input)
     }
 
@@ -54,9 +55,31 @@ impl<'a> Call<'a> {
         self.list(i..self.words.len(), kind)
     }
 
-    /// Where the word stands that parts one list from the next: after the first `from` words.
-    pub fn parted(&self, from: usize, by: &str) -> Option<usize> {
-        (from..self.words.len()).find(|&i| self.words[i] == by)
+    /// Where a word stands that parts one list from the next: the first such word from i on.
+    pub fn find(&self, i: usize, word: &str) -> Option<usize> {
+        (i..self.words.len()).find(|&i| self.words[i] == word)
+    }
+
+    /// OUT, word 1, is no number and no list: else it was left out.
+    pub fn has_out(&mut self) -> Done {
+        let bytes = self.words[1].as_bytes();
+        let is_number = !bytes.is_empty() && bytes.iter().all(u8::is_ascii_digit);
+        if is_number || (bytes.starts_with(b"@") && !bytes.contains(&b'/')) {
+            let name = brief(bytes);
+            let why = format!("OUT is {name}: is it left out? A file of that name is ./{name}");
+            self.tell(answers::error(why))?;
+            return Err(self.misused());
+        }
+        self.out.all_to_error = bytes == b"-";
+        Ok(())
+    }
+
+    /// Writes OUT, where it may be written: it is neither word 0, `input`, nor a list of the command. The name that answers have.
+    pub fn write(&self, what: &'static str, bytes: &[u8], input: &'static str) -> Result<&[u8], Answer> {
+        let lists = self.words[2..].iter().filter_map(|word| numbers::file_of(word)).map(|list| ("list", list));
+        let inputs: Vec<Named> = std::iter::once((input, self.words[0].as_os_str())).chain(lists).collect();
+        Out::new(&self.words[1], what, &inputs, self.force)?.write(bytes)?;
+        Ok(self.words[1].as_bytes())
     }
 
     pub fn tell(&mut self, answer: Answer) -> Done {
@@ -127,7 +150,7 @@ impl Output {
 
     /// Writes what was told. Ends the program where nobody reads it, and where it cannot be written.
     pub fn flush(&mut self) {
-        let written = files::write_out(&std::mem::take(&mut self.out));
+        let written = files::write_to_output(&std::mem::take(&mut self.out));
         let _ = io::stderr().write_all(&std::mem::take(&mut self.error));
         if let Err(e) = written {
             if e.kind() == ErrorKind::BrokenPipe {

@@ -6,6 +6,7 @@ use crate::diagnose::Asked;
 use crate::files::File;
 use crate::library::{self, Verdict};
 use crate::numbers::LIST;
+use crate::progress::Progress;
 use std::os::unix::ffi::OsStrExt;
 
 /// check PLAN SLICE [Q..], check PLAN [Q..] -- SLICE..
@@ -38,11 +39,15 @@ fn many(call: &mut Call, split: usize) -> Done {
     let plan = call.file(0)?;
     let asked = Asked { files: &[&plan], criterion: &criterion, ..Asked::default() };
     asked.granted(library::safety(&plan.bytes, &criterion))?;
+    let mut progress = Progress::new(call.words.len() - split, "slice");
     for i in split..call.words.len() {
+        progress.show(i - split);
         let name = call.words[i].as_bytes().to_vec();
         let answer = call.file(i).and_then(|slice| verdict(&plan, &slice, &criterion));
         let answer = answer.unwrap_or_else(Answer::unnamed);
+        progress.hide();
         call.out.tell_of(&name, &answer);
+        call.out.flush();
     }
     Ok(())
 }

@@ -1,7 +1,7 @@
 //! Why the library refused, in words: which arc, origin, place or entry it is about. The number is the library's; whatever is found
 //! here changes nothing but the sentence.
 
-use crate::answers::{self, counted, Answer};
+use crate::answers::{self, counted, grouped, grouped_count, Answer};
 use crate::files::File;
 use crate::library::{self, Refusal, MAX_ARCS, MAX_FILE_BYTES, MAX_LIST_ENTRIES, MAX_PLACES, MAX_TRANSITIONS};
 use crate::net::{places, transitions, Arc, Net, Trailer};
@@ -44,10 +44,7 @@ impl Asked<'_> {
             },
             Refusal::Buffer => of_call("buffer: shorter than what is written".into()),
             Refusal::Stuck => of_call("list: stuck".into()),
-            Refusal::Marking if self.marking > MAX_PLACES => {
-                of_call(format!("marking: more than {} numbers; P is {p}", grouped(MAX_PLACES)))
-            }
-            Refusal::Marking => of_call(format!("marking: {}; P is {p}", counted(self.marking as u64, "number"))),
+            Refusal::Marking => of_call(format!("marking: {}", not_for_each(self.marking, p))),
             Refusal::Capped => of_file("a plan with caps; the cut for a run is of plans without".into()),
             _ => of_file(of_bytes(refusal, &file.bytes)),
         }
@@ -105,8 +102,8 @@ fn of_trailer(refusal: Refusal, t: Trailer, length: usize) -> String {
                 None => "no place and no transition".into(),
             }
         }
-        _ if t.body != t.body_due() => {
-            format!("a body of {} by the trailer, of {} by the counts", bytes(t.body), grouped(t.body_due()))
+        _ if t.body != t.body_by_counts() => {
+            format!("a body of {} by the trailer, of {} by the counts", bytes(t.body), grouped(t.body_by_counts()))
         }
         _ => {
             let room = length.saturating_sub(Trailer::LENGTH);
@@ -159,8 +156,8 @@ fn first_origin(net: Net) -> Option<String> {
 fn first_over_cap(net: Net) -> Option<String> {
     (0..net.trailer.places).find_map(|p| {
         let (tokens, cap) = (net.tokens(p)?, net.cap(p)?);
-        let tokens_had = format!("{} token{}", grouped(tokens as usize), if tokens == 1 { "" } else { "s" });
-        (tokens > cap).then(|| format!("place {p} has {tokens_had}; it holds {}", grouped(cap as usize)))
+        let had = || format!("place {p} has {}; it holds {}", grouped_count(tokens, "token"), grouped(cap));
+        (tokens > cap).then(had)
     })
 }
 
@@ -177,6 +174,15 @@ fn criterion(q: &[u16], places: usize) -> String {
     "it is refused".into()
 }
 
+/// A list that has not one number for each place. Where it has more than there can be places, one more was read.
+fn not_for_each(count: usize, places: usize) -> String {
+    let numbers = match count {
+        ..=MAX_PLACES => counted(count as u64, "number"),
+        _ => format!("more than {} numbers", grouped(MAX_PLACES)),
+    };
+    format!("{numbers}; P is {places}")
+}
+
 /// The first entry of a list that is no transition.
 fn list(list: &[u16], transitions: usize) -> String {
     match list.iter().enumerate().find(|(_, &n)| usize::from(n) >= transitions) {
@@ -187,32 +193,12 @@ fn list(list: &[u16], transitions: usize) -> String {
 
 /// `1 byte`, `65,536 bytes`.
 fn bytes(n: usize) -> String {
-    format!("{} byte{}", grouped(n), if n == 1 { "" } else { "s" })
-}
-
-/// A number with commas.
-fn grouped(n: usize) -> String {
-    let digits = n.to_string();
-    let mut out = String::new();
-    for (i, digit) in digits.chars().enumerate() {
-        if i > 0 && (digits.len() - i).is_multiple_of(3) {
-            out.push(',');
-        }
-        out.push(digit);
-    }
-    out
+    grouped_count(n, "byte")
 }
 
 #[cfg(test)]
 mod tests {
     use super::*;
-
-    #[test]
-    fn commas() {
-        for (n, text) in [(0, "0"), (999, "999"), (1000, "1,000"), (65536, "65,536"), (4294967295, "4,294,967,295")] {
-            assert_eq!(grouped(n), text);
-        }
-    }
 
     /// Files with bytes changed at random: each that is refused has a sentence of its own, which names the rule that was broken.
     #[test]

@@ -1,7 +1,8 @@
 //! Files: read whole, at most a byte more than the limit; written whole or not at all.
 
 use crate::answers::{self, Answer};
-use crate::library::{undisturbed, MAX_FILE_BYTES};
+use crate::library::{undisturbed, was_closed, MAX_FILE_BYTES};
+use crate::words::brief;
 use std::ffi::OsStr;
 use std::fs::{self, Metadata, OpenOptions, Permissions};
 use std::io::{self, IsTerminal, Read, Seek, SeekFrom, Write};
@@ -27,37 +28,44 @@ pub fn path(name: &[u8]) -> &Path {
     Path::new(OsStr::from_bytes(name))
 }
 
-/// A file, or standard input where its name is `-`; one byte more than the library takes, so that it sees that there are too many.
+/// A plan or a slice; one byte more than the library takes, so that it sees that there are too many.
 pub fn net(name: &OsStr, input: &mut Input) -> Result<File, Answer> {
     let name = name.as_bytes();
-    Ok(File { name: name.into(), bytes: read(name, name, MAX_FILE_BYTES, input)? })
+    Ok(File { name: name.into(), bytes: read(name, MAX_FILE_BYTES, input)? })
 }
 
-/// Up to `limit` + 1 bytes. Errors call the file as it was given.
-pub fn read(name: &[u8], given: &[u8], limit: usize, input: &mut Input) -> Result<Vec<u8>, Answer> {
+/// Up to `limit` + 1 bytes of a file, or of standard input where its name is `-`.
+pub fn read(name: &[u8], limit: usize, input: &mut Input) -> Result<Vec<u8>, Answer> {
     let mut bytes = Vec::new();
     let most = limit as u64 + 1;
     if name == b"-" {
         if std::mem::replace(&mut input.taken, true) {
             return Err(answers::error("-: standard input can be read once"));
         }
+        if was_closed(0) {
+            return Err(failed(name, &io::Error::from_raw_os_error(NOT_OPEN)));
+        }
         io::stdin().lock().take(most).read_to_end(&mut bytes)
     } else {
         fs::File::open(path(name)).and_then(|file| file.take(most).read_to_end(&mut bytes))
     }
-    .map_err(|e| failed(given, &e))?;
+    .map_err(|e| failed(name, &e))?;
     Ok(bytes)
 }
 
 /// Why the system did not do it.
 pub fn failed(name: &[u8], error: &io::Error) -> Answer {
     if name.len() >= PATH_MAX {
-        return answers::error_of(&[&name[..60], b".."].concat(), "the name is too long");
+        return answers::error_of(brief(name).as_bytes(), "the name is too long");
     }
     answers::error_of(name, reason(error))
 }
 
 const PATH_MAX: usize = 4096;
+
+// errors of the system, by Linux's numbers
+const NOT_OPEN: i32 = 9;
+const TOO_LONG: i32 = 36;
 
 fn reason(error: &io::Error) -> String {
     let Some(number) = error.raw_os_error() else {
@@ -69,7 +77,7 @@ fn reason(error: &io::Error) -> String {
         4 => "interrupted",
         5 => "the device failed to read or write (5)",
         6 | 19 => "no such device",
-        9 => "it is not open",
+        NOT_OPEN => "it is not open",
         11 => "it is not ready",
         12 => "no memory",
         13 => "no permission",
@@ -86,42 +94,46 @@ fn reason(error: &io::Error) -> String {
         30 => "the disk is read-only",
         31 => "too many links",
         32 => "nobody reads it",
-        36 => "the name is too long",
+        TOO_LONG => "the name is too long",
         40 => "links that lead in a circle",
         _ => return format!("system error {number}"),
     }
     .into()
 }
 
+/// What an input is, and the word that names it.
+pub type Named<'a> = (&'static str, &'a OsStr);
+
 const NO_SLICE: &str = "it is no slice, and only --force replaces it";
 
 /// Writes to standard output at once: what failed is not tried again.
-pub fn write_out(bytes: &[u8]) -> io::Result<()> {
+pub fn write_to_output(bytes: &[u8]) -> io::Result<()> {
+    if was_closed(1) && !bytes.is_empty() {
+        return Err(io::Error::from_raw_os_error(NOT_OPEN));
+    }
     fs::File::from(io::stdout().as_fd().try_clone_to_owned()?).write_all(bytes)
 }
 
-/// Where a slice goes.
+/// Where a slice or a plan goes.
 pub enum Out {
-    Standard,
+    /// Standard output; and which of both it is.
+    Standard(&'static str),
     /// A file that may be written, and its mode where it is there already.
-    File {
-        name: Vec<u8>,
-        mode: Option<u32>,
-    },
+    File { name: Vec<u8>, mode: Option<u32> },
 }
 
 impl Out {
-    /// OUT of a command, which is neither the plan nor a list of it.
-    pub fn new(name: &OsStr, inputs: &[&OsStr], force: bool) -> Result<Out, Answer> {
+    /// OUT of a command, which is none of its inputs.
+    pub fn new(name: &OsStr, what: &'static str, inputs: &[Named], force: bool) -> Result<Out, Answer> {
         let name = name.as_bytes();
         if name == b"-" {
             if io::stdout().is_terminal() && !force {
-                return Err(answers::error("-: standard output is a terminal, and a slice is no text"));
+                return Err(answers::error(format!("-: standard output is a terminal, and a {what} is no text")));
             }
-            return Ok(Out::Standard);
+            return Ok(Out::Standard(what));
         }
         if name.len() >= PATH_MAX {
-            return Err(failed(name, &io::Error::from_raw_os_error(36)));
+            return Err(failed(name, &io::Error::from_raw_os_error(TOO_LONG)));
         }
         let mode = replaceable(name, inputs, force).map_err(|why| answers::error_of(name, why))?;
         Ok(Out::File { name: name.into(), mode })
@@ -130,48 +142,50 @@ impl Out {
     /// The name that answers have.
     pub fn name(&self) -> &[u8] {
         match self {
-            Out::Standard => b"-",
+            Out::Standard(_) => b"-",
             Out::File { name, .. } => name,
         }
     }
 
     pub fn write(&self, bytes: &[u8]) -> Result<(), Answer> {
         match self {
-            Out::Standard => write_out(bytes).map_err(|_| answers::error("-: the slice could not be written")),
-            Out::File { name, mode } => {
-                undisturbed(|| write_whole(path(name), bytes, *mode)).map_err(|e| failed(name, &e))
+            Out::Standard(what) => {
+                write_to_output(bytes).map_err(|_| answers::error(format!("-: the {what} could not be written")))
             }
+            Out::File { name, mode } => write_whole(path(name), bytes, *mode).map_err(|e| failed(name, &e)),
         }
     }
 }
 
 /// May the file be written, or replaced? The mode of the one that is there, or why not.
-fn replaceable(name: &[u8], inputs: &[&OsStr], force: bool) -> Result<Option<u32>, String> {
+fn replaceable(name: &[u8], inputs: &[Named], force: bool) -> Result<Option<u32>, String> {
     let out = path(name);
     let last = name.rsplit(|b| *b == b'/').next().unwrap_or(name);
     let is_link = fs::symlink_metadata(out).is_ok_and(|there| there.is_symlink());
     let there = fs::metadata(out);
-    let why = match &there {
+    let input = there.as_ref().ok().and_then(|there| inputs.iter().find(|(_, input)| same(there, input)));
+    let why = match (&there, input) {
         _ if name.is_empty() => "no such file or folder",
-        Ok(there) if there.is_dir() => "it is a folder",
+        (Ok(there), _) if there.is_dir() => "it is a folder",
         _ if is_link => "it is no plain file",
         _ if last.is_empty() => "it ends in a slash, as a folder does",
         _ if last.len() > 255 => "the name is too long",
-        Err(_) => return Ok(None),
-        Ok(there) if !there.is_file() => "it is no plain file",
-        Ok(there) if inputs.first().is_some_and(|plan| same(there, plan)) => "it is the plan",
-        Ok(there) if inputs.iter().skip(1).any(|list| same(there, list)) => "it is the list",
-        Ok(there) if there.mode() & 0o222 == 0 || OpenOptions::new().write(true).open(out).is_err() => {
+        (Err(_), _) => return Ok(None),
+        (Ok(there), _) if !there.is_file() => "it is no plain file",
+        (_, Some((what, _))) => return Err(format!("it is the {what}")),
+        (Ok(there), _) if there.mode() & 0o222 == 0 || OpenOptions::new().write(true).open(out).is_err() => {
             "it may not be written"
         }
-        Ok(_) if !force && !is_slice(out).map_err(|e| reason(&e))? => NO_SLICE,
-        Ok(there) => return Ok(Some(there.mode() & 0o7777)),
+        _ if !force && !is_slice(out).map_err(|e| reason(&e))? => NO_SLICE,
+        (Ok(there), _) => return Ok(Some(there.mode() & 0o7777)),
     };
     Err(why.into())
 }
 
-fn same(there: &Metadata, other: &OsStr) -> bool {
-    fs::metadata(other).is_ok_and(|other| (there.dev(), there.ino()) == (other.dev(), other.ino()))
+/// Is it the file that an input names? Standard input may be a file too.
+fn same(there: &Metadata, input: &OsStr) -> bool {
+    let input = if input == "-" { OsStr::new("/dev/stdin") } else { input };
+    fs::metadata(input).is_ok_and(|other| (there.dev(), there.ino()) == (other.dev(), other.ino()))
 }
 
 /// Is a file empty, or does it end as a slice does: the kind 1, an edition and the letters?
@@ -187,22 +201,24 @@ fn is_slice(out: &Path) -> io::Result<bool> {
     Ok(last[0] == 1 && last[2..] == *b"BELL")
 }
 
-/// Writes a file beside the place, which gets the place's name once it is whole and kept by the disk. A new file has the mode that the
-/// umask leaves; in place of another it has that one's, where the file system has modes.
+/// Writes a file beside the place, which gets the place's name once it is whole and kept by the disk; no signal comes between. A new
+/// file has the mode that the umask leaves; in place of another it has that one's, where the file system has modes.
 pub fn write_whole(to: &Path, bytes: &[u8], mode: Option<u32>) -> io::Result<()> {
-    let (beside, mut file) = new_beside(to, if mode.is_some() { 0o600 } else { 0o666 })?;
-    let written = (|| {
-        if let Some(mode) = mode {
-            let _ = file.set_permissions(Permissions::from_mode(mode));
+    undisturbed(|| {
+        let (beside, mut file) = new_beside(to, if mode.is_some() { 0o600 } else { 0o666 })?;
+        let written = (|| {
+            if let Some(mode) = mode {
+                let _ = file.set_permissions(Permissions::from_mode(mode));
+            }
+            file.write_all(bytes)?;
+            file.sync_all()?;
+            fs::rename(&beside, to)
+        })();
+        if written.is_err() {
+            let _ = fs::remove_file(&beside);
         }
-        file.write_all(bytes)?;
-        file.sync_all()?;
-        fs::rename(&beside, to)
-    })();
-    if written.is_err() {
-        let _ = fs::remove_file(&beside);
-    }
-    written
+        written
+    })
 }
 
 /// A new file `.nesfoal-PROCESS-K` in the same folder.
@@ -238,8 +254,8 @@ mod tests {
             file
         }
 
-        fn may(&self, name: &str, inputs: &[&Path], force: bool) -> Result<Option<u32>, String> {
-            let inputs: Vec<&OsStr> = inputs.iter().map(|p| p.as_os_str()).collect();
+        fn may(&self, name: &str, inputs: &[(&'static str, &Path)], force: bool) -> Result<Option<u32>, String> {
+            let inputs: Vec<Named> = inputs.iter().map(|(what, p)| (*what, p.as_os_str())).collect();
             replaceable(self.0.join(name).as_os_str().as_bytes(), &inputs, force)
         }
     }
@@ -278,10 +294,11 @@ mod tests {
             ("new/", no("it ends in a slash, as a folder does"), no("it ends in a slash, as a folder does")),
             (&long, no("the name is too long"), no("the name is too long")),
         ] {
-            assert_eq!(room.may(name, &[&plan], false), plain, "{name}");
-            assert_eq!(room.may(name, &[&plan], true), forced, "{name}, by force");
+            assert_eq!(room.may(name, &[("plan", &plan)], false), plain, "{name}");
+            assert_eq!(room.may(name, &[("plan", &plan)], true), forced, "{name}, by force");
         }
-        assert_eq!(room.may("slice", &[&plan, Path::new("-"), &slice], true), no("it is the list"));
+        let inputs: [(_, &Path); 3] = [("plan", &plan), ("list", Path::new("-")), ("list", &slice)];
+        assert_eq!(room.may("slice", &inputs, true), no("it is the list"));
         assert_eq!(replaceable(b"/dev/null", &[], true), no("it is no plain file"));
     }
 

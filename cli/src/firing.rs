@@ -66,15 +66,17 @@ pub fn shadow(call: &mut Call) -> Done {
     call.tell(fired(shadowed.firing, &list, &shadowed.marking).with_shadow(&shadowed.shadow))
 }
 
-/// together PLAN TRANSITION [MARKING..]: without a marking from the plan's own, which is the one after no firing.
+/// The plan's own marking, which is the one after no firing; empty where the plan is refused.
+fn own_marking(plan: &[u8]) -> Vec<u64> {
+    library::replay(plan, &[], places(plan)).map_or(Vec::new(), |(_, marking)| marking)
+}
+
+/// together PLAN TRANSITION [MARKING..]: without a marking from the plan's own.
 pub fn together(call: &mut Call) -> Done {
     let transition = call.number(1)?;
     let given = if call.words.len() > 2 { Some(call.list_from(2, &MARKING)?) } else { None };
     let plan = call.file(0)?;
-    let marking: Vec<u64> = match given {
-        Some(marking) => marking,
-        None => library::replay(&plan.bytes, &[], places(&plan.bytes)).map_or(Vec::new(), |(_, marking)| marking),
-    };
+    let marking = given.unwrap_or_else(|| own_marking(&plan.bytes));
     let asked = Asked { files: &[&plan], transition: Some(transition), marking: marking.len(), ..Asked::default() };
     let (times, leaving) = asked.granted(library::together(&plan.bytes, transition, &marking))?;
     call.tell(match times {

@@ -28,9 +28,10 @@ fn of(verb: &Verb) -> Answer {
 /// Each way to use each verb, then the notes.
 fn page() -> String {
     let mut page = String::from("nesfoal VERB ..: cut, check and replay place/transition nets\n\n");
+    let width = VERBS.iter().flat_map(Verb::ways).map(|way| way.len()).max().unwrap_or(0);
     for verb in VERBS {
         for (way, (_, short)) in verb.ways().zip(verb.forms) {
-            page += &format!("  {way:<38} {short}\n");
+            page += &format!("  {way:<width$}  {short}\n");
         }
     }
     page + "\n" + NOTES
@@ -53,7 +54,8 @@ pub fn manual() -> String {
     for verb in VERBS {
         page += &format!(".SS {}\n{}", verb.name, roff(&entry(verb)));
     }
-    page + ".SH FILES\nA run that is killed may leave a file .nesfoal\\-* beside OUT.\n"
+    page
+        + ".SH FILES\nA run that the signal KILL ends may leave a file .nesfoal\\-* beside OUT; no other signal does.\n"
 }
 
 /// Indented lines as they are, the others filled.

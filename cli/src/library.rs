@@ -1,11 +1,16 @@
 //! The proved calls (include/nesfoal.h is their manual), each with an answer that cannot be misread. Every verdict of this program
-//! is one of these answers. The only file with `unsafe`: beside the library's calls it has two of the system that std lacks.
+//! is one of these answers. The only file with `unsafe`: beside the library's calls it has those of the system that std lacks.
+//!
+//! Safety. What the header asks of a caller holds for each call by the way it is made: lists, files and buffers are slices, handed over
+//! by their pointer and their length; each buffer is a new vector and each result a local, so that what is written overlaps nothing.
 
 #![allow(unsafe_code)]
 
 #[path = "../../include/nesfoal.rs"]
 mod nesfoal;
 use nesfoal::*;
+use std::sync::atomic::{AtomicU8, Ordering};
+
 pub use nesfoal::{
     NESFOAL_MAX_ARCS as MAX_ARCS, NESFOAL_MAX_FILE_BYTES as MAX_FILE_BYTES,
     NESFOAL_MAX_LIST_ENTRIES as MAX_LIST_ENTRIES, NESFOAL_MAX_PLACES as MAX_PLACES,
@@ -326,23 +331,42 @@ pub fn verdict(plan: &[u8], slice: &[u8], criterion: &[u16]) -> Result<Verdict, 
 }
 
 // The system's calls, by Linux's numbers.
-const SIGHUP: i32 = 1;
-const SIGINT: i32 = 2;
-const SIGTERM: i32 = 15;
 const SIGXFSZ: i32 = 25;
 const SIG_IGN: usize = 1;
-const SIG_BLOCK: i32 = 0;
 const SIG_SETMASK: i32 = 2;
+const F_GETFD: i32 = 1;
 
 /// A set of signals, as large as the C library has it.
 #[repr(C)]
 struct Signals([u64; 16]);
 
 extern "C" {
+    fn fcntl(file: i32, command: i32, ...) -> i32;
     fn signal(signal: i32, handler: usize) -> usize;
-    fn sigemptyset(set: *mut Signals) -> i32;
-    fn sigaddset(set: *mut Signals, signal: i32) -> i32;
+    fn sigfillset(set: *mut Signals) -> i32;
     fn sigprocmask(how: i32, set: *const Signals, old: *mut Signals) -> i32;
+}
+
+/// The standard streams that were closed when the program started, a bit each.
+static CLOSED: AtomicU8 = AtomicU8::new(0);
+
+/// Runs before Rust's own start, which puts /dev/null in the place of a stream that is closed: an answer would be lost there in silence.
+extern "C" fn look_at_streams() {
+    for stream in 0..3 {
+        if unsafe { fcntl(stream, F_GETFD) } == -1 {
+            CLOSED.fetch_or(1 << stream, Ordering::Relaxed);
+        }
+    }
+}
+
+// The C library runs what stands in this section before main.
+#[used]
+#[link_section = ".init_array"]
+static AT_THE_START: extern "C" fn() = look_at_streams;
+
+/// Was standard input (0), output (1) or error (2) closed when the program started?
+pub fn was_closed(stream: u8) -> bool {
+    CLOSED.load(Ordering::Relaxed) & (1 << stream) != 0
 }
 
 /// A file above the limit of the shell's `ulimit -f` is an error like any other, and not the end.
@@ -350,15 +374,12 @@ pub fn heed_file_limit() {
     unsafe { signal(SIGXFSZ, SIG_IGN) };
 }
 
-/// Does the work while HUP, INT and TERM wait: what they end, they end after it.
+/// Does the work while all signals wait that can: what they end, they end after it. KILL does not wait.
 pub fn undisturbed<T>(work: impl FnOnce() -> T) -> T {
-    let (mut held, mut old) = (Signals([0; 16]), Signals([0; 16]));
+    let (mut all, mut old) = (Signals([0; 16]), Signals([0; 16]));
     unsafe {
-        sigemptyset(&mut held);
-        for signal in [SIGHUP, SIGINT, SIGTERM] {
-            sigaddset(&mut held, signal);
-        }
-        sigprocmask(SIG_BLOCK, &held, &mut old);
+        sigfillset(&mut all);
+        sigprocmask(SIG_SETMASK, &all, &mut old);
     }
     let done = work();
     unsafe { sigprocmask(SIG_SETMASK, &old, std::ptr::null_mut()) };

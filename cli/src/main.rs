@@ -15,6 +15,7 @@ mod library;
 mod net;
 mod numbers;
 mod picture;
+mod progress;
 mod show;
 mod verbs;
 mod words;
@@ -37,7 +38,7 @@ fn main() -> ExitCode {
 
 fn run(command: Command, out: &mut Output) -> Done {
     if let Some(option) = &command.unknown {
-        let option = brief(option.as_bytes(), 40);
+        let option = brief(option.as_bytes());
         return Err(answers::error(format!("no option '{option}'; a file of that name is ./{option}")));
     }
     if command.verb == "version" {

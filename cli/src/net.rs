@@ -58,7 +58,7 @@ impl Trailer {
     }
 
     /// How long the body is by the counts.
-    pub fn body_due(&self) -> usize {
+    pub fn body_by_counts(&self) -> usize {
         let origins = if self.is_slice() { 2 * (self.places + self.transitions) } else { 0 };
         self.place_bytes() * self.places + 8 * self.arcs + origins
     }
@@ -93,7 +93,7 @@ impl<'a> Net<'a> {
     pub fn by_trailer(file: &'a [u8]) -> Option<Net<'a>> {
         let trailer = Trailer::of(file)?;
         let start = file.len().checked_sub(Trailer::LENGTH + trailer.body)?;
-        (trailer.body == trailer.body_due()).then_some(Net { file, trailer, start })
+        (trailer.body == trailer.body_by_counts()).then_some(Net { file, trailer, start })
     }
 
     pub fn kind(&self) -> &'static str {

@@ -34,7 +34,7 @@ entry!(u16, u32, u64);
 
 /// What a list is of, and which answers hold one.
 pub struct Kind<T> {
-    /// `a list has two bytes an entry`.
+    /// `a list` has two bytes an entry.
     name: &'static str,
     /// As many as a call takes; one more is kept, so that the call sees that there are too many.
     most: usize,
@@ -47,7 +47,7 @@ pub struct Kind<T> {
 
 /// A criterion, or a list of transitions: the shadow of an answer.
 pub const LIST: Kind<u16> = Kind {
-    name: "list",
+    name: "a list",
     most: MAX_LIST_ENTRIES,
     starts: &[b"fired", b"stuck", b"full", b"shadow"],
     ends: &[b"shadow"],
@@ -56,7 +56,7 @@ pub const LIST: Kind<u16> = Kind {
 
 /// Tokens for each place: the marking of an answer.
 pub const MARKING: Kind<u64> = Kind {
-    name: "marking",
+    name: "a marking",
     most: MAX_PLACES,
     starts: &[b"fired", b"taken", b"unlimited,"],
     ends: &[b"ending", b"leaving"],
@@ -73,36 +73,43 @@ fn parsed(text: &[u8], largest: u64) -> Option<u64> {
     (!text.is_empty() && n <= largest).then_some(n)
 }
 
-fn no_number(word: &[u8], shown: usize, largest: u64) -> String {
-    format!("'{}' is not a number from 0 to {largest}", brief(word, shown))
+fn no_number(word: &[u8], largest: u64) -> String {
+    format!("'{}' is not a number from 0 to {largest}", brief(word))
 }
 
 /// One number, a word of the command.
 pub fn number<T: Entry>(word: &OsStr) -> Result<T, Answer> {
-    let word = word.as_bytes();
-    parsed(word, T::LARGEST).map(T::new).ok_or_else(|| answers::error(no_number(word, 60, T::LARGEST)))
+    entry(word.as_bytes()).map_err(answers::error)
+}
+
+/// The number that a word of a list is, or why it is none.
+fn entry<T: Entry>(word: &[u8]) -> Result<T, String> {
+    parsed(word, T::LARGEST).map(T::new).ok_or_else(|| no_number(word, T::LARGEST))
 }
 
 /// The name in a word @FILE.
-pub fn named(word: &OsStr) -> Option<&OsStr> {
+fn named(word: &OsStr) -> Option<&OsStr> {
     word.as_bytes().strip_prefix(b"@").filter(|name| !name.is_empty()).map(OsStr::from_bytes)
+}
+
+/// The name of the file that a list is read from: @FILE, or -.
+pub fn file_of(word: &OsStr) -> Option<&OsStr> {
+    if word == "-" {
+        return Some(word);
+    }
+    named(word)
 }
 
 /// The list that these words are: numbers, or @FILE or - alone.
 pub fn list<T: Entry>(words: &[OsString], kind: &Kind<T>, input: &mut Input) -> Result<Vec<T>, Answer> {
     let file = match words {
-        [word] if word == "-" => Some(word.as_os_str()),
-        [word] => named(word),
+        [word] => file_of(word),
         _ => None,
     };
     if let Some(name) = file {
         let name = name.as_bytes();
-        let given: &[u8] = if name == b"-" { b"-" } else { words[0].as_bytes() };
-        let bytes = files::read(name, given, LONGEST_TEXT, input)?;
-        return of_bytes(&bytes, kind).map_err(|fault| match fault {
-            Fault::Text(why) => answers::error_of(name, why),
-            Fault::Bytes(why) => answers::error_of(given, why),
-        });
+        let bytes = files::read(name, LONGEST_TEXT, input)?;
+        return of_bytes(&bytes, kind).map_err(|why| answers::error_of(name, why));
     }
     if words.first().is_some_and(|word| named(word).is_some()) {
         return Err(answers::error("a list is numbers, or one @FILE"));
@@ -110,53 +117,45 @@ pub fn list<T: Entry>(words: &[OsString], kind: &Kind<T>, input: &mut Input) -> 
     words.iter().take(kind.most + 1).map(|word| number(word)).collect()
 }
 
-/// What is wrong with a list's file.
-#[derive(Debug, PartialEq)]
-enum Fault {
-    Text(String),
-    Bytes(String),
-}
-
 /// The entries of a list's file. One with nothing but text in it is no list of bytes: as numbers of two bytes all would be above
 /// 2,312, and no net has so many places or transitions; of eight, above 651,061,555,542,690,056.
-fn of_bytes<T: Entry>(bytes: &[u8], kind: &Kind<T>) -> Result<Vec<T>, Fault> {
+fn of_bytes<T: Entry>(bytes: &[u8], kind: &Kind<T>) -> Result<Vec<T>, String> {
     if bytes.iter().all(|b| matches!(b, 9..=13 | 32..=126)) {
         return of_text(bytes, kind);
     }
     let whole = &bytes[..bytes.len().min(T::BYTES * (kind.most + 1))];
     if !whole.len().is_multiple_of(T::BYTES) {
         let name = kind.name;
-        return Err(Fault::Bytes(match T::BYTES {
-            2 => format!("a {name} has two bytes an entry, and this file has an odd number of bytes"),
+        return Err(match T::BYTES {
+            2 => format!("{name} has two bytes an entry, and this file has an odd number of bytes"),
             n => {
                 let each = if n == 4 { "four" } else { "eight" };
                 let length = answers::counted(whole.len() as u64, "byte");
-                format!("a {name} has {each} bytes an entry, and this file has {length}")
+                format!("{name} has {each} bytes an entry, and this file has {length}")
             }
-        }));
+        });
     }
     let entry = |b: &[u8]| T::new(b.iter().rev().fold(0, |n, b| n << 8 | u64::from(*b)));
     Ok(whole.chunks_exact(T::BYTES).map(entry).collect())
 }
 
-fn of_text<T: Entry>(text: &[u8], kind: &Kind<T>) -> Result<Vec<T>, Fault> {
-    let bad = |word| Fault::Text(no_number(word, 40, T::LARGEST));
+fn of_text<T: Entry>(text: &[u8], kind: &Kind<T>) -> Result<Vec<T>, String> {
     let mut words = text.split(|b| matches!(b, 9..=13 | 32)).filter(|word| !word.is_empty()).peekable();
     if let Some(first) = words.next_if(|word| kind.starts.contains(word)) {
         let is_end = |word: &[u8]| kind.ends.contains(&word);
         if !is_end(first) && !words.any(is_end) {
-            return Err(bad(first));
+            return Err(no_number(first, T::LARGEST));
         }
     }
     let mut list = Vec::new();
     for word in words {
-        let n = parsed(word, T::LARGEST).ok_or_else(|| bad(word))?;
+        let entry = entry(word)?;
         if list.len() <= kind.most {
-            list.push(T::new(n));
+            list.push(entry);
         }
     }
     if text.len() > LONGEST_TEXT {
-        return Err(Fault::Text(format!("a list in text has at most {LONGEST_TEXT} bytes")));
+        return Err(format!("a list in text has at most {LONGEST_TEXT} bytes"));
     }
     Ok(list)
 }
@@ -191,8 +190,8 @@ mod tests {
             assert_eq!(of_bytes(text.as_bytes(), &LIST), Ok(list), "{text}");
         }
         for (text, word) in [("1 shadow", "shadow"), ("fired 1, ending 2", "fired"), ("1 65536", "65536"), ("x", "x")] {
-            let fault = Fault::Text(format!("'{word}' is not a number from 0 to 65535"));
-            assert_eq!(of_bytes(text.as_bytes(), &LIST), Err(fault), "{text}");
+            let why = format!("'{word}' is not a number from 0 to 65535");
+            assert_eq!(of_bytes(text.as_bytes(), &LIST), Err(why), "{text}");
         }
         assert_eq!(of_bytes(b"taken 1 time, leaving 5 6", &MARKING), Ok(vec![5, 6]));
         assert_eq!(of_bytes(b"unlimited, leaving", &MARKING), Ok(vec![]));
@@ -202,7 +201,7 @@ mod tests {
     fn bytes() {
         assert_eq!(of_bytes(&[1, 2, 0, 1], &LIST), Ok(vec![513, 256]));
         assert_eq!(of_bytes(&[255; 8], &MARKING), Ok(vec![u64::MAX]));
-        assert!(matches!(of_bytes(&[1, 2, 0], &LIST), Err(Fault::Bytes(_))));
+        assert!(of_bytes(&[1, 2, 0], &LIST).is_err_and(|why| why.contains("an odd number of bytes")));
         assert_eq!(of_bytes(&[0; 200_000], &LIST).unwrap().len(), MAX_LIST_ENTRIES + 1);
         assert_eq!(of_bytes(&[0; 200_000], &MARKING).unwrap().len(), MAX_PLACES + 1);
     }
@@ -211,6 +210,6 @@ mod tests {
     fn too_long() {
         let text = b"0 ".repeat(LONGEST_TEXT / 2);
         assert_eq!(of_bytes(&text, &LIST).unwrap().len(), MAX_LIST_ENTRIES + 1);
-        assert!(matches!(of_bytes(&[&text[..], b"0"].concat(), &LIST), Err(Fault::Text(_))));
+        assert!(of_bytes(&[&text[..], b"0"].concat(), &LIST).is_err_and(|why| why.contains("at most")));
     }
 }

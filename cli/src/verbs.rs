@@ -25,7 +25,7 @@ const MANY: usize = usize::MAX;
 pub fn find(word: &OsStr) -> Result<&'static Verb, Answer> {
     VERBS.iter().find(|verb| word == verb.name).ok_or_else(|| {
         let near = nearest(word, VERBS.iter().map(|verb| verb.name));
-        let word = brief(word.as_bytes(), 40);
+        let word = brief(word.as_bytes());
         answers::error(format!("no verb '{word}'; the nearest is '{near}', and nesfoal help lists all"))
     })
 }
@@ -89,8 +89,7 @@ Answers:
         run: picture::dot,
         text: "\
 Circles are places with their tokens and caps, boxes are transitions. Where the slice is not a part of
-the plan, as the checker's rules 1 to 4 have it, the picture may mislead: standard error says
-so.
+the plan, as the checker's rules 1 to 4 have it, the picture may mislead: standard error says so.
 
 Example:
     nesfoal dot plans/small-kerb.plan safety.slice 2 | dot -Tsvg > picture.svg
@@ -191,11 +190,11 @@ Answers:
         run: cuts::safety,
         text: "\
 The smallest slice that the checker accepts for Q; with no place, the slice with no places and no
-transitions. OUT appears whole or not at all. A file that
-exists is replaced only where it is a slice or empty, and may be written; --force replaces any
-plain file but the plan and the list. A new file has the mode that the umask leaves, a replaced
-one keeps its mode. OUT is no number alone (a file of that name is ./2, say). OUT may be -: the
-slice goes to standard output, and the answer to standard error.
+transitions.
+OUT appears whole or not at all. A file that exists is replaced only where it is a slice or empty, and
+may be written; --force replaces any plain file but the plan and the list. A new file has the mode that
+the umask leaves, a replaced one keeps its mode. OUT is no number alone (a file of that name is ./2,
+say). OUT may be -: the slice goes to standard output, and the answer to standard error.
 
 Examples:
     nesfoal safety plans/small-kerb.plan safety.slice 2
@@ -258,7 +257,7 @@ Answers:
         run: cuts::safety_each,
         text: "\
 The folder is made where it is not there. Each file is written as with safety; where one of them
-may not be replaced, none is written. On a terminal, standard error says how far it is.
+may not be replaced, none is written. Where standard error is a terminal, a bar shows how far it is.
 
 Example:
     nesfoal safety-each plans/small-kerb.plan cuts
@@ -299,7 +298,8 @@ Answers:
         text: "\
 A slice that is accepted, whoever made it, loses no run of the plan and makes none up. With --
 each slice has a line on standard output that starts with its name, whatever came of it; the
-status is 2 where one is refused or cannot be read, else 1 where one breaks a rule.
+status is 2 where one is refused or cannot be read, else 1 where one breaks a rule. Where standard
+error is a terminal, a bar shows how far it is.
 
 Examples:
     nesfoal check plans/small-kerb.plan safety.slice 2
@@ -322,8 +322,8 @@ Answers:
         text: "\
 LIST is transitions of the plan. The first line is that of replay. The second has the firings that
 the slice has, by the slice's own numbers, the others struck out; where the list is stuck or full, of
-those before that index. In a slice that is accepted the shadow always fires. The answer may be piped into
-replay, whose LIST is then -.
+those before that index. In a slice that is accepted the shadow always fires. The answer may be piped
+into replay, whose LIST is then -.
 
 Example:
     nesfoal shadow plans/small-kerb.plan safety.slice 3 0 1 2

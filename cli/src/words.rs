@@ -53,11 +53,14 @@ pub fn command(args: impl IntoIterator<Item = OsString>) -> Command {
     command
 }
 
-/// A word as it can be shown: not long, and without control characters.
-pub fn brief(word: &[u8], most: usize) -> String {
+/// So many characters of a word are shown.
+const SHOWN: usize = 40;
+
+/// A word as an answer can show it: not long, and without control characters.
+pub fn brief(word: &[u8]) -> String {
     let text = String::from_utf8_lossy(word);
-    let mut shown: String = text.chars().take(most).map(|c| if c.is_control() { '?' } else { c }).collect();
-    if text.chars().nth(most).is_some() {
+    let mut shown: String = text.chars().take(SHOWN).map(|c| if c.is_control() { '?' } else { c }).collect();
+    if text.chars().nth(SHOWN).is_some() {
         shown.push_str("..");
     }
     shown
@@ -65,7 +68,7 @@ pub fn brief(word: &[u8], most: usize) -> String {
 
 /// The name with the fewest letters put in, taken out or changed; the first of several.
 pub fn nearest<'a>(word: &OsStr, names: impl Iterator<Item = &'a str>) -> &'a str {
-    let word = brief(word.as_bytes(), 40);
+    let word = brief(word.as_bytes());
     names.min_by_key(|name| distance(&word, name)).unwrap_or("help")
 }
 
@@ -106,9 +109,10 @@ mod tests {
 
     #[test]
     fn words_that_can_be_shown() {
-        assert_eq!(brief(b"sh\now\x1b[1m", 40), "sh?ow?[1m");
-        assert_eq!(brief(&[b'1'; 100], 3), "111..");
-        assert_eq!(brief("Qu\u{e9}".as_bytes(), 3), "Qu\u{e9}");
+        assert_eq!(brief(b"sh\now\x1b[1m"), "sh?ow?[1m");
+        assert_eq!(brief(&[b'1'; 40]), "1".repeat(40));
+        assert_eq!(brief(&[b'1'; 41]), "1".repeat(40) + "..");
+        assert_eq!(brief(b"Qu\xc3\xa9 \xff"), "Qu\u{e9} \u{fffd}");
     }
 
     #[test]
