@@ -44,6 +44,7 @@ full-rows = record {
   older-slice = refl;
   newer-slice = refl;
   shadow = refl;
+  full-shadow = refl;
   edition-3 = refl;
   over = refl;
   at-cap = refl;

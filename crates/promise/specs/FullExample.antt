@@ -4,6 +4,7 @@ use mathlib.Core.Bool.{true, false}
 use mathlib.Core.List.{List, [], _∷_}
 use mathlib.Core.Path.{_≡_}
 use lib.ListN.{set}
+use Rattle.net.specs.Net.{full}
 use Rattle.net.specs.Slice.{keeping}
 use Rattle.file_words.specs.Word.{byteAt}
 use Rattle.file.specs.Layout.{netOf}
@@ -11,7 +12,7 @@ use Rattle.file.specs.Refusal.{fileRefusal}
 use Rattle.file_writing.specs.Writing.{sliceBytes}
 use Rattle.file_header.specs.declared.Due.the-variants as due
 use Rattle.promise.specs.Calls.{safetyFile, branchingFile, checked, checkedBytes}
-use Rattle.promise.specs.Firing.{effectAnswer, replayAnswer, replayMarking}
+use Rattle.promise.specs.Firing.{effectAnswer, replayTold, replayAnswer, replayMarking}
 use Rattle.promise.specs.Shadow.{shadowAnswer}
 use Rattle.promise.specs.RunCut.{runAnswer, runFile}
 use Rattle.promise.specs.Promise.{emptySlice}
@@ -62,8 +63,9 @@ pub record FullRows : Type 0 where
   -- "Edition 1 counts as uncapped": editions are not compared
   pub older-slice : checked zeroPlan (safetyFile smallPlan (2 ∷ [])) (2 ∷ []) .code ≡ 0
   pub newer-slice : checked smallPlan (safetyFile zeroPlan (2 ∷ [])) (2 ∷ []) .code ≡ 0
-  -- the shadow of what fired before the full place
+  -- the shadow of what fired before the short place, and before the full one
   pub shadow : shadowAnswer fullPlan (safetyFile fullPlan (2 ∷ [])) (3 ∷ 0 ∷ 1 ∷ 1 ∷ []) 5 2 .count ≡ 2
+  pub full-shadow : shadowAnswer fullPlan (safetyFile fullPlan (2 ∷ [])) (0 ∷ 1 ∷ 0 ∷ 1 ∷ []) 5 3 ≡ record { run = replayTold (full 3 3 1); count = 3 }
   -- "2 now lets edition 2 pass", and no other
   pub edition-3 : fileRefusal due.Plan (set fullPlan 123 3) ≡ 2
   -- 16, of a plan and of a slice, "checked after refusal 5" and before any arc; in the C call too

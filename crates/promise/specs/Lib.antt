@@ -9,3 +9,4 @@ pub mod Promise
 pub mod Example
 pub mod RunExample
 pub mod FullExample
+pub mod OrderExample
