@@ -82,6 +82,7 @@ module _ (s : List ℕ) (h : Header) (sound : Sound s h) (all : Bool) (both : Li
     pub stepped-none : IsLowest 1024 (waits P (member gone)) Nothing → Search.Stepped s h all both 0 P R gone P R gone
     stepped-none nothing = record {
       ready = record { sets = x .sets; long = x .long; inside = x .inside; part = x .part; marked = record { words = λ i b. absurd (unmarked 0 refl i b); marked = λ k u. absurd (fails _ (still k (decLt k 1024)) u) } };
+      lowest = (Nothing, nothing, refl);
       search = λ G g at. at;
       less = inr (refl, refl);
     }
@@ -134,6 +135,7 @@ module _ (s : List ℕ) (h : Header) (sound : Sound s h) (all : Bool) (both : Li
               marked = λ k u. marked .marked k (and-both (member P k) (not (member gone k)) (and-left (member P k) (not (member gone′ k)) u) (fewer k (and-right (member P k) (not (member gone′ k)) u)));
             });
           };
+          lowest = (At p, lowest, put);
           search = λ G g at.
               search-between G (member P′) (waits P′ (member gone′)) (member R′) p 0
               (y .search G g (member gone′) part′ p-kept

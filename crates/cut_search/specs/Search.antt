@@ -12,7 +12,10 @@ use Rattle.net.specs.Cut.{Growth}
 use Rattle.net.proofs.Worklist.{Searching}
 use Rattle.file.specs.Layout.{netFrom}
 use Rattle.file_header.specs.declared.Header.{Header}
-use Rattle.sets.specs.Member.{member, countBelow}
+use Rattle.sets.specs.Member.{member, countBelow, Inserted}
+use Rattle.sets.specs.Lowest.{IsLowest}
+use Rattle.sets.specs.declared.Found.{Found}
+use Rattle.sets.specs.declared.Found.the-variants as found
 use Rattle.sets_pending.specs.Growing.{waits, Marked, PlacesKept}
 use Rattle.arcs_column.specs.Ways.{transitionAt, directionAt, placeAt}
 use Rattle.arcs_groups.specs.Groups.{Opens}
@@ -98,9 +101,16 @@ pub record Ready (h : Header) (marks : ℕ) (places transitions gone : List ℕ)
   pub part : (k : ℕ) → T (member gone k) → T (member places k)
   pub marked : Marked places (member gone) marks
 
+-- one place more is gone through, or none
+abbrev pub GoneThrough : Found → List ℕ → List ℕ → Type 0
+GoneThrough (found.At p) gone gone′ = Inserted p gone gone′
+GoneThrough found.Nothing gone gone′ = gone′ ≡ gone
+
 -- the lowest pending place is gone through, and the search goes on; where there is none, nothing is marked
 pub record Stepped (s : List ℕ) (h : Header) (all : Bool) (both : List ℕ) (marks′ : ℕ) (places transitions gone places′ transitions′ gone′ : List ℕ) : Type 0 where
   pub ready : Ready h marks′ places′ transitions′ gone′
+  -- "While places are pending, the pending place with the lowest number is taken next"
+  pub lowest : (r : Found) × IsLowest 1024 (waits places (member gone)) r × GoneThrough r gone gone′
   pub search : (G : Growth) → Grows G s h all both → At G places (member gone) transitions 0 (G .transitions) → At G places′ (member gone′) transitions′ 0 (G .transitions)
   pub less : (toGo gone′ < toGo gone) ⊎ ((marks′ ≡ 0) × (gone′ ≡ gone))
 
