@@ -1,6 +1,8 @@
 // Sets of numbers below 1,024 as sixteen 64-bit words.
 ghost use mathlib.Core.Path.{_≡_};
-ghost use Prim.Native.Nat.{_*_, _≤_, _<_};
+ghost use mathlib.Core.Logic.{_≢_};
+ghost use mathlib.Core.Bool.{true, false};
+ghost use Prim.Native.Nat.{ℕ, _*_, _≤_, _<_};
 ghost use lib.ListN.{length};
 ghost use Rattle.sets.specs.Member.{bit, member, countBelow, Inserted};
 ghost use Rattle.sets.specs.Lowest.{IsLowest};
@@ -44,6 +46,14 @@ pub enum Found {
     Nothing,
 }
 
+// The lowest bit that is 1, of a word that has one: as many zeros stand below it.
+fn zeros_below(w: u64) -> u32
+    requires { ⌜ w ≢ 0 ⌝ }
+    ensures { λ r. ⌜ (r < 64) × (bit w r ≡ true) × ((k : ℕ) → k < r → bit w k ≡ false) ⌝ }
+{
+    u64::trailing_zeros(w)
+}
+
 // The lowest bit that is 1.
 pub fn lowest_bit(w: u64) -> Found
     ensures { λ r. ⌜ IsLowest 64 (bit w) r ⌝ }
@@ -51,7 +61,7 @@ pub fn lowest_bit(w: u64) -> Found
     if w == 0 {
         return Found::Nothing;
     }
-    Found::At(u64::trailing_zeros(w) as usize)
+    Found::At(zeros_below(w) as usize)
 }
 
 // How many bits are 1.
