@@ -178,7 +178,7 @@ Examples:
 Answers:
     taken N times, leaving ..  the tokens left on each place; one time more is not possible
     unlimited, leaving ..      the transition takes nothing; the marking is left as it is
-    refused N: ..              the plan (1 to 8, 16), the transition (12) or the marking (15) is refused
+    refused N: ..              the plan (1 to 7, 16), the transition (12) or the marking (15) is refused
 ",
     },
     Verb {
@@ -202,7 +202,7 @@ Examples:
 
 Answers:
     written OUT: N bytes, N places, N transitions
-    refused N: ..              the plan (1 to 8, 16) or the criterion (10) is refused; nothing is written
+    refused N: ..              the plan (1 to 7, 16) or the criterion (10) is refused; nothing is written
 ",
     },
     Verb {
@@ -221,7 +221,7 @@ Example:
 
 Answers:
     written OUT: N bytes, N places, N transitions
-    refused N: ..              the plan (1 to 8, 16) or the criterion (10) is refused; nothing is written
+    refused N: ..              the plan (1 to 7, 16) or the criterion (10) is refused; nothing is written
 ",
     },
     Verb {
@@ -244,7 +244,7 @@ Example:
 Answers:
     written OUT: N bytes, N places, N transitions
     chosen ..                  below it: the positions, rising
-    refused N: ..              the plan (1 to 8, 16; 17 where it has caps), the criterion (10) or the list
+    refused N: ..              the plan (1 to 7, 16; 17 where it has caps), the criterion (10) or the list
                                (11, 12; 14 where it is stuck) is refused; nothing is written
 ",
     },
@@ -265,7 +265,7 @@ Example:
 Answers:
     written FOLDER/P.slice: N bytes, N places, N transitions
                                a line for each place
-    refused N: ..              the plan is refused (1 to 8, 16); nothing is written
+    refused N: ..              the plan is refused (1 to 7, 16); nothing is written
 ",
     },
     Verb {
@@ -284,7 +284,7 @@ Example:
 Answers:
     written FOLDER/P.slice: N bytes, N places, N transitions
                                a line for each place
-    refused N: ..              the plan is refused (1 to 8, 16); nothing is written
+    refused N: ..              the plan is refused (1 to 7, 16); nothing is written
 ",
     },
     Verb {
