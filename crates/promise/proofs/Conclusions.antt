@@ -11,6 +11,7 @@ use borrow.Author.Tests.{le-ltb}
 use Rattle.net.specs.Net.{Answer, fired, short, full, replay, Uncapped}
 use Rattle.net.specs.Slice.{Slice, HasPlace, HasTransition, WellFormed, Accepted}
 use Rattle.net.specs.Checker.{Verdict, accepted, broken, rules, verdict}
+use Rattle.net.specs.Guarantee.{Contains}
 use Rattle.net.specs.Rakow.{Set, GenerateSlice, GenerateSafetySlice}
 use Rattle.net.specs.Conclusions.{SameVerdict, StuckForGood, SameKept, Unbroken}
 use Rattle.net.proofs.Conclusions.{same-verdict, short-for-good, full-for-good, same-kept, unbroken-accepted, broken-first}
@@ -152,5 +153,6 @@ module _ (plan buffer : List ℕ) (b : Bytes plan) (read : fileRefusal due.Plan 
     same-answer = E .branching-answer (length buffer) (omega (arith, sixteen)) ∙ sym (E .safety-answer (length buffer) (omega (arith, sixteen)));
     same-bytes = E .branching-buffer buffer (omega (arith, sixteen)) ∙ sym (E .safety-buffer buffer (omega (arith, sixteen)));
     accepted = ap (λ (file : List ℕ). checkedBytes plan file []) wrote ∙ E .accepted-bytes;
+    smallest = λ other a. subst⁻¹ (λ (file : List ℕ). Contains (sliceOf other) (sliceOf file)) wrote (E .smallest other a);
     shadow = λ list room ok enough. ap (λ (file : List ℕ). shadowAnswer plan file list room 0) wrote ∙ rw (read, slice-read, ok, le-ltb room (netOf plan .places) enough, no-shadow list);
   }

@@ -121,6 +121,9 @@ module _ (plan : List ℕ) (bytes : Bytes plan) (read : fileRefusal due.Plan pla
   own-accepted : Accepts plan empty []
   own-accepted = subst⁻¹ (λ (file : List ℕ). Accepts plan file []) (sym (safety-file plan)) (safety-cut-accepted plan [] bytes passes)
 
+  contained-here : (slice : List ℕ) → Accepts plan slice [] → Contains (sliceOf slice) (sliceOf empty)
+  contained-here slice a = subst⁻¹ (λ (file : List ℕ). Contains (sliceOf slice) (sliceOf file)) (sym (safety-file plan)) (contained plan [] bytes passes slice a)
+
   pub empty-criterion : EmptyCriterion plan
   unfolding safetyAnswer safetyBuffer branchingAnswer branchingBuffer project own criterionOf wordsFrom
   empty-criterion = record {
@@ -131,5 +134,5 @@ module _ (plan : List ℕ) (bytes : Bytes plan) (read : fileRefusal due.Plan pla
     shadow = λ list. ap (λ (os : List ℕ). own os (strike os list)) (no-origin (headerOf plan .edition)) ∙ ap (own []) (none-stays list);
     accepted = own-accepted;
     accepted-bytes = even-bytes plan empty [] refl ∙ own-accepted;
-    smallest = λ slice a. subst⁻¹ (λ (file : List ℕ). Contains (sliceOf slice) (sliceOf file)) (sym (safety-file plan)) (contained plan [] bytes passes slice a);
+    smallest = search contained-here;
   }

@@ -61,10 +61,14 @@ module _ (plan list : List ℕ) where
     unfolding runRefusal runAnswer runOutcome criterionRefusal placesRefusal keeping emptySlice
     answer = rw (read, none, known, fires, has-room, nothing-kept (netOf plan) list, nothing-written (headerOf plan .edition) (netOf plan), nothing-fed (netOf plan) list)
 
+    wrote : runBuffer plan [] list buffer (length positions) ≡ safetyBuffer plan [] buffer
+    unfolding runBuffer safetyBuffer
+    wrote = rw (answer, empty-file, safety-file plan, fits plan bytes read (length buffer) room)
+
     pub run-for-nothing : RunForNothing plan list buffer positions
-    unfolding runBuffer runPositions safetyBuffer
+    unfolding runPositions
     run-for-nothing = record {
       answer = answer;
-      same-bytes = rw (answer, empty-file, safety-file plan, fits plan bytes read (length buffer) room);
+      same-bytes = cc wrote;
       none = rw (answer, none-chosen);
     }

@@ -75,7 +75,7 @@ run-ne plan Q =
     orElse-ne _ _ 14 (file-ne 14 (omega arith) (omega arith) due.Plan plan) (refuse-ne (hasCaps (netOf plan)) 17 _ 14 (λ e. omega arith) (λ e. omega arith))
 
 -- what is not refused before the list: a cut for Q would not be, and the plan has no caps
-run-passes : (plan Q : List ℕ) → runRefusal plan Q ≡ 0 → (cutRefusal plan Q ≡ 0) × Uncapped (netOf plan)
+pub run-passes : (plan Q : List ℕ) → runRefusal plan Q ≡ 0 → (cutRefusal plan Q ≡ 0) × Uncapped (netOf plan)
 unfolding runRefusal cutRefusal
 run-passes plan Q e =
     let a = orElse-0 (fileRefusal due.Plan plan) _ e in
@@ -90,7 +90,7 @@ module _ (plan Q list : List ℕ) (cut-passes : cutRefusal plan Q ≡ 0) (none :
   unfolding replay
   meaning e = rw e at (replay-means (netOf plan) 0 (netOf plan .marking) list known-list)
 
-  list-fires : replay (netOf plan) list .answer ≡ fired → PlanFires (netOf plan) list
+  pub list-fires : replay (netOf plan) list .answer ≡ fired → PlanFires (netOf plan) list
   unfolding PlanFires
   list-fires e = meaning e .0
 
@@ -144,8 +144,8 @@ module _ (plan Q list : List ℕ) (cut-passes : cutRefusal plan Q ≡ 0) (none :
           same = back;
           edition = edition-back (headerOf plan .edition) (runCut N Q list) run-writable;
           criterion = λ q h. subst⁻¹ (λ (S : Slice). HasPlace S q) back (kept q h);
-          fires = subst⁻¹ (λ (S : Slice). SliceFires S (firedAt list (fed N Q list .positions))) back (done .0);
-          enough = λ q h. subst⁻¹ (λ (S : Slice). planTokens N list q ≤ sliceTokens S (firedAt list (fed N Q list .positions)) q) back (done .1 q h);
+          fires = search (subst⁻¹ (λ (S : Slice). SliceFires S (firedAt list (fed N Q list .positions))) back (done .0));
+          enough = λ q h. omega (arith, subst⁻¹ (λ (S : Slice). planTokens N list q ≤ sliceTokens S (firedAt list (fed N Q list .positions)) q) back (done .1 q h));
         }
 
 -- what is written, where nothing is refused
@@ -206,7 +206,7 @@ module _ (plan Q list entry slots : List ℕ) (bytes : Bytes plan) where
     feeds = fed-back;
     places = λ w. ap (λ (a : RunAnswer). a .places) (told w) ∙ ap (λ (S : Slice). S .net .places) (sym (fed-back w .same));
     transitions = λ w. ap (λ (a : RunAnswer). a .transitions) (told w) ∙ ap (λ (S : Slice). S .net .transitions) (sym (fed-back w .same));
-    sticks = stuck-there;
+    sticks = λ w. let s = stuck-there w in search (s .0, s .1);
   }
 
 -- at the call

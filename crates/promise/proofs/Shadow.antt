@@ -71,7 +71,7 @@ module _ (plan slice list : List ℕ) (passes : listRefusal (netOf plan .transit
 -- ---- what is written
 
 -- an entry of a marking that stands first
-written-entry : (N : Net) (M : Marking) (rest : List ℕ) (q : ℕ) → q < N .places → getD (tokens N M ++ rest) q 0 ≡ M q
+pub written-entry : (N : Net) (M : Marking) (rest : List ℕ) (q : ℕ) → q < N .places → getD (tokens N M ++ rest) q 0 ≡ M q
 written-entry N M rest q l = List·getD-append (tokens N M) rest 0 q (omega (arith, length-tokens N M, l)) ∙ getD-tokens N M q l
 
 module _ (plan slice list marking output : List ℕ) (bytes : Bytes plan) (e : shadowRefusal plan slice list (length marking) (length output) ≡ 0) where
@@ -93,9 +93,12 @@ module _ (plan slice list marking output : List ℕ) (bytes : Bytes plan) (e : s
   holds-of : (Q : List ℕ) → Accepts plan slice Q → Guarantee (netOf plan) (sliceOf slice) Q
   holds-of Q a = demand-3 plan slice Q [] bytes .guarantee a
 
+  there : (Q : List ℕ) → Accepts plan slice Q → Fires (sliceOf slice .net) (sliceOf slice .net .marking) (shadowOf (netOf plan) (sliceOf slice) list)
+  there Q a = shadow-fires plan slice list list-passes Q (holds-of Q a)
+
   pub followed-in : FollowedIn plan slice (take (shadowAnswer plan slice list (length marking) (length output) .count) (shadowOutput plan slice list marking output))
       (shadowMarking plan slice list marking output)
   followed-in = subst⁻¹ (λ (l : List ℕ). FollowedIn plan slice l (shadowMarking plan slice list marking output)) shadow (record {
-    fires = λ Q a. shadow-fires plan slice list list-passes Q (holds-of Q a);
-    tokens = λ Q a q h. shadow-ends plan slice list list-passes Q (holds-of Q a) q h ∙ sym (entry q (in-plan Q a q h));
+    fires = search there;
+    tokens = λ Q a q h. cc (shadow-ends plan slice list list-passes Q (holds-of Q a) q h ∙ sym (entry q (in-plan Q a q h)));
   })

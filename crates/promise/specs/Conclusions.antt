@@ -8,6 +8,7 @@ use lib.Dec.{T}
 use Rattle.net.specs.Net.{replay}
 use Rattle.net.specs.Slice.{Slice, HasPlace, HasTransition}
 use Rattle.net.specs.Checker.{rules}
+use Rattle.net.specs.Guarantee.{Contains}
 use Rattle.net.specs.Conclusions.{Unbroken, BrokenFirst}
 use Rattle.net.specs.Rakow.{Set}
 use Rattle.file.specs.Layout.{netOf, sliceOf}
@@ -37,6 +38,8 @@ pub record CutForNothing (plan buffer : List ℕ) : Type 0 where
   pub same-bytes : branchingBuffer plan [] buffer ≡ safetyBuffer plan [] buffer
   -- the C check accepts it, its criterion having no bytes
   pub accepted : checkedBytes plan (safetyBuffer plan [] buffer) [] ≡ 0
+  -- and every slice that is accepted for no place contains it
+  pub smallest : (other : List ℕ) → Accepts plan other [] → Contains (sliceOf other) (sliceOf (safetyBuffer plan [] buffer))
   -- the shadow of a list that is not refused is empty, and no entry need be lent for it
   pub shadow : (list : List ℕ) (room : ℕ) → listRefusal (netOf plan .transitions) list ≡ 0 → netOf plan .places ≤ room
       → shadowAnswer plan (safetyBuffer plan [] buffer) list room 0 ≡ record { run = replayTold (replay (netOf plan) list .answer); count = 0 }

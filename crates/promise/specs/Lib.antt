@@ -5,7 +5,9 @@ pub mod RunCut
 pub mod Conclusions
 pub mod Exactness
 pub mod Together
+pub mod Rooms
 pub mod Promise
+pub mod Uses
 pub mod Example
 pub mod RunExample
 pub mod FullExample
