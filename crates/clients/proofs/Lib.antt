@@ -1,0 +1,4 @@
+pub mod Cutting
+pub mod Listed
+pub mod Running
+pub mod Taken
