@@ -1,4 +1,5 @@
 pub mod Cutting
 pub mod Listed
+pub mod Roomy
 pub mod Running
 pub mod Taken

@@ -4,5 +4,6 @@ pub mod c_calls;
 pub mod cuts;
 pub mod lists;
 pub mod recorded;
+pub mod rooms;
 pub mod shadows;
 pub mod takings;
