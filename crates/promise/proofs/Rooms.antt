@@ -259,10 +259,10 @@ module _ (file : List ℕ) where
 
     pub rooms : RoomSuffices file
     rooms = record {
-      replay = replay-room;
-      shadow = shadow-room;
-      together = together-room;
-      safety = safety-room;
-      branching = branching-room;
-      run-cut = run-room;
+      replay = λ list room h. replay-room list room (omega (arith, h));
+      shadow = λ slice list room space h l. shadow-room slice list room space (omega (arith, h)) (omega (arith, l));
+      together = λ t marking room h. together-room t marking room (omega (arith, h));
+      safety = λ Q room h. safety-room Q room (omega (arith, h));
+      branching = λ Q room h. branching-room Q room (omega (arith, h));
+      run-cut = λ Q list room entries h l. run-room Q list room entries (omega (arith, h)) (omega (arith, l));
     }
