@@ -14,10 +14,9 @@ use Rattle.promise.specs.Firing.{replayTold}
 use Rattle.replay_steps.specs.Steps.{held, Ready, Plain, Holds, Listed, Underway}
 use Rattle.replay_steps.proofs.Underway.{known, fired-on, replay-end, replay-short, replay-full}
 use Rattle.replay_firing.specs.Short.{needAt}
-use Rattle.replay_firing.specs.Firing.{Testable, Firable, Tried}
-use Rattle.replay_firing.specs.declared.Test.{Test}
-use Rattle.replay_firing.specs.declared.Test.the-variants.{Passes}
-use Rattle.replay_firing.specs.declared.Test.the-variants as test
+use Rattle.replay_firing.specs.Firing.{Firable, Filled}
+use Rattle.replay_firing.specs.declared.Found.{Found}
+use Rattle.replay_firing.specs.declared.Found.the-variants.{Nowhere, At}
 use Rattle.replay_firing.proofs.Short.{Covered, Weighed, supplied}
 use Rattle.replay.specs.Told.{outcomeNumbers}
 use Rattle.replay.specs.Steps.{Ended}
@@ -79,23 +78,13 @@ module _ {s : List ℕ} {h : Header} {ts m₀ m : List ℕ} {k : ℕ} (u : Under
           let able = uncapped-enabled (netFrom s h) (r .uncapped) (getD ts k 0) (held m) (unfold Supplied in λ p u. supplied c all p) in
           fired-on u l (r .ready .sound) (r .ready .bytes) able f
 
-    -- the firing is tried, for any net
-    pub testable : Testable s h (getD ts k 0) m
-    testable = record { known = known u l; low = low; caps = u .caps }
+    -- no place is short, and the firing is done unless it leaves one above its cap: then the marking is the one before
+    module _ {found : Found} {m′ : List ℕ} (x : Filled (netFrom s h) (getD ts k 0) m m′ found) where
+      pub fired-capped : found ≡ Nowhere → Sound s h → Bytes s → Underway s h ts m₀ m′ (k + 1)
+      fired-capped e w b = let y = subst (Filled (netFrom s h) (getD ts k 0) m m′) e x in fired-on u l w b (y .0) (y .1)
 
-    module _ {t : Test} {m′ : List ℕ} (x : Tried (netFrom s h) (getD ts k 0) m m′ t) where
-      pub fired-next : t ≡ Passes → Sound s h → Bytes s → Underway s h ts m₀ m′ (k + 1)
-      fired-next e w b = let y = subst (Tried (netFrom s h) (getD ts k 0) m m′) e x in fired-on u l w b (y .0) (y .1)
-
-      -- the marking is the one before
-      pub tried-short : {p n : ℕ} → t ≡ test.Short p n → Ended s h ts m₀ m′ (Short k p n)
-      tried-short {p} {n} e =
-          let y = subst (Tried (netFrom s h) (getD ts k 0) m m′) e x in
-          subst⁻¹ (λ (m₁ : List ℕ). Ended s h ts m₀ m₁ (Short k p n)) (y .1)
-          (ended (Short k p n) (sym (u .same) ∙ replay-short (netFrom s h) ts k (held m) l p n (y .0)) refl)
-
-      pub tried-full : {p n : ℕ} → t ≡ test.Full p n → Ended s h ts m₀ m′ (Full k p n)
-      tried-full {p} {n} e =
-          let y = subst (Tried (netFrom s h) (getD ts k 0) m m′) e x in
+      pub ended-full : {p n : ℕ} → found ≡ At p n → Ended s h ts m₀ m′ (Full k p n)
+      ended-full {p} {n} e =
+          let y = subst (Filled (netFrom s h) (getD ts k 0) m m′) e x in
           subst⁻¹ (λ (m₁ : List ℕ). Ended s h ts m₀ m₁ (Full k p n)) (y .1)
           (ended (Full k p n) (sym (u .same) ∙ replay-full (netFrom s h) ts k (held m) l p n (y .0)) refl)

@@ -1,4 +1,6 @@
 // Replay of a list of transitions on the net of a file that was read.
+mod capped;
+
 ghost use mathlib.Core.Path.{_≡_};
 ghost use Prim.Native.Nat.{_*_, _<_, _≤_};
 ghost use lib.ListN.{length};
@@ -10,11 +12,10 @@ ghost use Rattle.promise.specs.Firing.{replayTold, replayOr};
 ghost use Rattle.replay.specs.Told.{outcomeNumbers, heldBack};
 ghost use Rattle.replay_steps.specs.Steps.{Ready, Plain, Underway};
 ghost use Rattle.replay.specs.Steps.{begun, Passed, Ended};
+use crate::capped::run_capped;
 use file_arcs::arc;
 use file_header::Header;
-use replay_firing::Test;
 use replay_firing::add_up;
-use replay_firing::attempt;
 use replay_firing::fire;
 use replay_firing::missing;
 use tables::LARGE;
@@ -90,33 +91,6 @@ fn run(
         fire(file, h, table, t, marking);
         k += 1;
     }
-}
-
-// The same for any net, one firing after the other.
-fn run_capped(
-    file: &[u8],
-    h: Header,
-    table: &[u16],
-    list: &[u16],
-    done: usize,
-    marking: &mut [u64],
-) -> Outcome
-    requires { ⌜ Ready (now file) h (now table) (now marking) ⌝ }
-    requires { ⌜ Underway (now file) h (now list) (begun (now file) h) (now marking) done ⌝ }
-    ensures { λ r. ⌜ Ended (now (file .entry)) h (now (list .entry)) (begun (now (file .entry)) h) (now (marking .exit)) r ⌝ }
-{
-    let mut k = done;
-    while k < list.len() {
-        let t = list[k] as usize;
-        let index = k as u32;
-        let test = attempt(file, h, table, t, marking);
-        match test {
-            Test::Passes => k += 1,
-            Test::Short(place, amount) => return Outcome::Short(index, place, amount),
-            Test::Full(place, amount) => return Outcome::Full(index, place, amount),
-        }
-    }
-    Outcome::Fired
 }
 
 // The same for any net: by a quick way first, then by the quicker of the two.

@@ -12,13 +12,9 @@ use Rattle.file.specs.Layout.{netFrom}
 use Rattle.file_header.specs.declared.Header.{Header}
 use Rattle.file_arcs.proofs.Rows.{weight-le}
 use Rattle.replay_steps.specs.Steps.{held, Ready, Holds}
-use Rattle.replay_firing.specs.Firing.{Testable, Firable, Left, unfired, Overfull, ShortFound, FullFound, Filled}
+use Rattle.replay_firing.specs.Firing.{Firable, Left, unfired, Overfull, FullFound, Filled}
 use Rattle.replay_firing.specs.declared.Found.{Found}
 use Rattle.replay_firing.specs.declared.Found.the-variants.{Nowhere, At}
-
--- no place is short
-pub firable : {s : List ℕ} {h : Header} {t : ℕ} {m : List ℕ} → Testable s h t m → {found : Found} → ShortFound (netFrom s h) t (held m) found → found ≡ Nowhere → Firable s h t m
-firable {s} {h} {t} {m} x f e = record { known = x .known; supplied = subst (ShortFound (netFrom s h) t (held m)) e f; low = x .low; caps = x .caps }
 
 module _ {s : List ℕ} {h : Header} {table m : List ℕ} (r : Ready s h table m) {t : ℕ} (f : Firable s h t m) where
   supplied : Supplied (netFrom s h) t (held m)

@@ -4,23 +4,15 @@ use mathlib.Core.List.{List}
 use mathlib.Core.Path.{_≡_}
 use lib.Dec.{T, eqb}
 use lib.ListN.{getD}
-use Rattle.net.specs.Net.{Net, Marking, input, output, fire, capped, WithinCaps, Enabled, ShortAt, FullAt}
+use Rattle.net.specs.Net.{Net, Marking, input, output, fire, capped, WithinCaps, Enabled, FullAt}
 use Rattle.file.specs.Layout.{netFrom}
 use Rattle.file_header.specs.declared.Header.{Header}
 use Rattle.arcs_starts.specs.Table.{choose}
 use Rattle.replay_steps.specs.Steps.{held, Holds}
 use Rattle.replay_firing.specs.declared.Found.{Found}
 use Rattle.replay_firing.specs.declared.Found.the-variants.{Nowhere, At}
-use Rattle.replay_firing.specs.declared.Test.{Test}
-use Rattle.replay_firing.specs.declared.Test.the-variants.{Passes, Short, Full}
 
--- t is a transition, and m is within the caps
-pub record Testable (s : List ℕ) (h : Header) (t : ℕ) (m : List ℕ) : Type 0 where
-  pub known : t < h .transitions
-  pub low : (p : ℕ) → getD m p 0 < 2 ^ 62
-  pub caps : WithinCaps (netFrom s h) (held m)
-
--- the same, and no place of m is short for t
+-- t is a transition, no place of m is short for it, and m is within the caps
 pub record Firable (s : List ℕ) (h : Header) (t : ℕ) (m : List ℕ) : Type 0 where
   pub known : t < h .transitions
   pub supplied : (p : ℕ) → input (netFrom s h) p t ≤ getD m p 0
@@ -50,11 +42,6 @@ pub record Overfull (N : Net) (t : ℕ) (M : Marking) (p n : ℕ) : Type 0 where
   pub some : 0 < n
   pub lowest : (q : ℕ) → q < p → 0 < output N q t → T (capped N q) → M q ≤ N .cap q
 
--- the lowest place that is short for t was looked for
-abbrev pub ShortFound : Net → ℕ → Marking → Found → Type 0
-ShortFound N t M Nowhere = (p : ℕ) → input N p t ≤ M p
-ShortFound N t M (At p n) = ShortAt N t M p n
-
 -- the lowest place above its cap was looked for, where a firing of t left M
 abbrev pub FullFound : Net → ℕ → Marking → Found → Type 0
 FullFound N t M Nowhere = (q : ℕ) → 0 < output N q t → T (capped N q) → M q ≤ N .cap q
@@ -64,9 +51,3 @@ FullFound N t M (At p n) = Overfull N t M p n
 abbrev pub Filled : Net → ℕ → List ℕ → List ℕ → Found → Type 0
 Filled N t m m′ Nowhere = Enabled N t (held m) × Holds m m′ (fire N t (held m))
 Filled N t m m′ (At p n) = FullAt N t (held m) p n × (m′ ≡ m)
-
--- the same, or a place is short and m stays
-abbrev pub Tried : Net → ℕ → List ℕ → List ℕ → Test → Type 0
-Tried N t m m′ Passes = Enabled N t (held m) × Holds m m′ (fire N t (held m))
-Tried N t m m′ (Short p n) = ShortAt N t (held m) p n × (m′ ≡ m)
-Tried N t m m′ (Full p n) = FullAt N t (held m) p n × (m′ ≡ m)

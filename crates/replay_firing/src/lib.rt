@@ -1,4 +1,4 @@
-// One firing of a marking: which place is short for it, the firing itself, and which place it leaves above its cap.
+// One firing of a marking: what its inputs take, the firing itself, and which place it leaves above its cap.
 ghost use mathlib.Core.Path.{_≡_};
 ghost use Prim.Native.Nat.{ℕ, _+_, _-_, _^_, _<_, _≤_};
 ghost use lib.Dec.{eqb};
@@ -9,23 +9,16 @@ ghost use Rattle.arcs_column.specs.Gain.{sumTo, Run, Takes, Gives};
 ghost use Rattle.replay_steps.specs.Steps.{held, Ready, Holds};
 ghost use Rattle.arcs_starts.specs.Table.{choose};
 ghost use Rattle.replay_firing.specs.Short.{needAt, Lacking};
-ghost use Rattle.replay_firing.specs.Firing.{Testable, Firable, Left, unfired, excessOver, ShortFound, FullFound, Filled, Tried};
+ghost use Rattle.replay_firing.specs.Firing.{Firable, Left, unfired, excessOver, FullFound, Filled};
 use arcs_groups::group;
 use file_arcs::arc;
 use file_header::Header;
 use tables::entry;
 
-// The lowest place of some kind and an amount there, or none.
+// The lowest place above its cap and the tokens above it, or none.
 pub enum Found {
     Nowhere,
     At(u32, u32),
-}
-
-// What the test of a firing says: it passes, or the lowest place that is short with the tokens missing there, or the lowest that is full with its excess.
-pub enum Test {
-    Passes,
-    Short(u32, u32),
-    Full(u32, u32),
 }
 
 // What the arcs so far take from the place p: one more, of this weight, after those that took `need` from the place `last`.
@@ -48,33 +41,6 @@ pub fn missing(file: &[u8], h: Header, j: usize, need: u64, count: u64) -> u32
     let all = group(file, h.arcstart, j, h.arcs);
     let whole = need + (all.weight as u64) - (a.weight as u64);
     (whole - count) as u32
-}
-
-// The lowest place that is short for t. Its inputs stand by rising place.
-fn lowest_short(file: &[u8], h: Header, table: &[u16], t: usize, marking: &[u64]) -> Found
-    requires { ⌜ Ready (now file) h (now table) (now marking) ⌝ }
-    requires { ⌜ Testable (now file) h t (now marking) ⌝ }
-    ensures { λ r. ⌜ ShortFound (netFrom (now (file .entry)) h) t (held (now (marking .entry))) r ⌝ }
-{
-    let from = entry(table, 2 * t);
-    let middle = entry(table, 2 * t + 1);
-    let mut j = from;
-    let mut last: usize = 65536;
-    let mut need: u64 = 0;
-    while j < middle {
-        let a = arc(file, h.arcstart + 8 * j);
-        let p = a.place;
-        need = add_up(p, a.weight, last, need);
-        last = p;
-        let count = marking[p];
-        if count < need {
-            let place = p as u32;
-            let amount = missing(file, h, j, need, count);
-            return Found::At(place, amount);
-        }
-        j += 1;
-    }
-    Found::Nowhere
 }
 
 // Takes the weights of the arcs from `from` to `to` out of the marking.
@@ -171,7 +137,7 @@ fn lowest_full(file: &[u8], h: Header, table: &[u16], t: usize, marking: &[u64])
 }
 
 // Fires t, for which no place is short, unless that leaves a place above its cap.
-fn fire_capped(file: &[u8], h: Header, table: &[u16], t: usize, marking: &mut [u64]) -> Found
+pub fn fire_capped(file: &[u8], h: Header, table: &[u16], t: usize, marking: &mut [u64]) -> Found
     requires { ⌜ Ready (now file) h (now table) (now marking) ⌝ }
     requires { ⌜ Firable (now file) h t (now marking) ⌝ }
     ensures { λ r. ⌜ Filled (netFrom (now (file .entry)) h) t (now (marking .entry)) (now (marking .exit)) r ⌝ }
@@ -183,21 +149,4 @@ fn fire_capped(file: &[u8], h: Header, table: &[u16], t: usize, marking: &mut [u
         return r;
     }
     r
-}
-
-// Fires t where it is enabled: the inputs are tested first, then the caps.
-pub fn attempt(file: &[u8], h: Header, table: &[u16], t: usize, marking: &mut [u64]) -> Test
-    requires { ⌜ Ready (now file) h (now table) (now marking) ⌝ }
-    requires { ⌜ Testable (now file) h t (now marking) ⌝ }
-    ensures { λ r. ⌜ Tried (netFrom (now (file .entry)) h) t (now (marking .entry)) (now (marking .exit)) r ⌝ }
-{
-    let short = lowest_short(file, h, table, t, marking);
-    if let Found::At(place, amount) = short {
-        return Test::Short(place, amount);
-    }
-    let full = fire_capped(file, h, table, t, marking);
-    if let Found::At(place, amount) = full {
-        return Test::Full(place, amount);
-    }
-    Test::Passes
 }
