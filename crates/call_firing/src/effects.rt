@@ -12,7 +12,7 @@ pub enum Change {
 }
 
 // Refused: the file's number; 10 for an unknown place, then 12 for an unknown transition.
-pub fn effect(file: &[u8], place: u16, transition: u16) -> Change
+pub fn effect(file: &[u8], place: u32, transition: u32) -> Change
     ensures { λ r. ⌜ changeNumbers r ≡ effectAnswer (now (file .entry)) place transition ⌝ }
 {
     let whole = file::read(file, Due::Either);

@@ -9,7 +9,7 @@ use together::Together;
 
 // The first entries of `rest` get what is left, one for each place. Refused: the plan's number; 12 for an unknown transition; 15 where the marking
 // has not one entry for each place; 13 where `rest` has fewer.
-pub fn together(plan: &[u8], transition: u16, marking: &[u64], rest: &mut [u64]) -> Together
+pub fn together(plan: &[u8], transition: u32, marking: &[u64], rest: &mut [u64]) -> Together
     ensures answer { λ r. ⌜ togetherNumbers r ≡ togetherAnswer (now (plan .entry)) transition (now (marking .entry)) (length (now (rest .entry))) ⌝ }
     ensures rest { λ _. ⌜ now (rest .exit) ≡ togetherRest (now (plan .entry)) transition (now (marking .entry)) (now (rest .entry)) ⌝ }
     ensures largest { λ r. ⌜ TakesLargest (now (plan .entry)) transition (now (marking .entry)) (togetherNumbers r) (now (rest .exit)) ⌝ }

@@ -32,11 +32,11 @@ enum-known-first c = search needs
 enum-told : tie.Need-enum-told
 enum-told c = search needs
 
-slice-aggregate-result : tie.Need-slice-aggregate-result
-slice-aggregate-result c = search needs
+no-run-requires : tie.Need-no-run-requires
+no-run-requires c κs = search needs
 
 returns : tie.Need-returns
-returns c = sym (plan-refused _ _ _ _ (not-read due.Plan _ (c .before .before .before .read .ensures) (c .before .enum-told .given .1)))
+returns c = c .no-run .ensures ∙ sym (plan-refused _ _ _ _ (not-read due.Plan _ (c .before .before .before .read .ensures) (c .before .enum-told .given .1)))
 
 read-requires-2 : tie.Need-read-requires-2
 read-requires-2 c κs = search needs
@@ -47,11 +47,11 @@ enum-known-second c = search needs
 enum-told-2 : tie.Need-enum-told-2
 enum-told-2 c = search needs
 
-slice-aggregate-result-2 : tie.Need-slice-aggregate-result-2
-slice-aggregate-result-2 c = search needs
+no-run-requires-2 : tie.Need-no-run-requires-2
+no-run-requires-2 c κs = search needs
 
 returns-2 : tie.Need-returns-2
-returns-2 c = sym (slice-refused _ _ _ _ (plan-at (c .before .before .before .before .before) .read) (not-read due.Slice _ (c .before .before .before .read2 .ensures) (c .before .enum-told2 .given .1)))
+returns-2 c = c .no-run2 .ensures ∙ sym (slice-refused _ _ _ _ (plan-at (c .before .before .before .before .before) .read) (not-read due.Slice _ (c .before .before .before .read2 .ensures) (c .before .enum-told2 .given .1)))
 
 run-requires : tie.Need-run-requires
 run-requires c κs = slice-at (c .before .before) .good
@@ -76,12 +76,12 @@ arcs-spec =
     read-requires
     enum-known-first
     enum-told
-    slice-aggregate-result
+    no-run-requires
     returns
     read-requires-2
     enum-known-second
     enum-told-2
-    slice-aggregate-result-2
+    no-run-requires-2
     returns-2
     run-requires
     returns-3
