@@ -38,7 +38,7 @@
 #include <stdint.h>
 
 /* One more with each change of a call, of a number or of the files, so that a program can refuse to be built with another. */
-#define NESFOAL_VERSION 8
+#define NESFOAL_VERSION 9
 
 /* The limits of a file, and of a list that a call takes. */
 #define NESFOAL_MAX_FILE_BYTES 65536
@@ -146,7 +146,7 @@ uint32_t nesfoal_verdict(const uint8_t *plan, size_t plan_length,
  * file, then 10 for an unknown place, then 12 for an unknown transition, with 0 in *effect.
  */
 uint32_t nesfoal_effect(const uint8_t *file, size_t file_length,
-                        uint16_t place, uint16_t transition,
+                        uint32_t place, uint32_t transition,
                         int32_t *effect);
 
 /* Fires a list of transitions of a plan or a slice, one after the other, from the initial marking.
@@ -194,7 +194,7 @@ uint32_t nesfoal_shadow(const uint8_t *plan, size_t plan_length,
  * unlimited, the marking. Later entries keep their values.
  */
 uint32_t nesfoal_together(const uint8_t *plan, size_t plan_length,
-                          uint16_t transition,
+                          uint32_t transition,
                           const uint64_t *marking, size_t marking_count,
                           uint64_t *rest, size_t rest_count,
                           uint64_t *times);
@@ -247,11 +247,11 @@ uint32_t nesfoal_run_cut(const uint8_t *plan, size_t plan_length,
  * *start. An arc is: transition (2 bytes, low byte first), direction (1: 0 from place to transition, 1 from transition to
  * place), a zero byte, place (2), weight (2). Parallel arcs stand there one by one, as in the file.
  * The run is empty, and both numbers are 0, exactly where either file is refused, the number is unknown in the file
- * named, or the transition has no arcs there.
+ * named, or the transition has no arcs there. It is then the empty part at the start of the file named.
  */
 uint32_t nesfoal_arcs(const uint8_t *plan, size_t plan_length,
                       const uint8_t *slice, size_t slice_length,
-                      bool of_slice, uint16_t transition,
+                      bool of_slice, uint32_t transition,
                       uint32_t *start);
 
 #ifdef __cplusplus

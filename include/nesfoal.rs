@@ -3,7 +3,7 @@
 
 #![allow(dead_code)]
 
-pub const NESFOAL_VERSION: u32 = 8;
+pub const NESFOAL_VERSION: u32 = 9;
 
 pub const NESFOAL_MAX_FILE_BYTES: usize = 65536;
 pub const NESFOAL_MAX_PLACES: usize = 1024;
@@ -55,14 +55,14 @@ pub const NESFOAL_RULE: u32 = 100;
 
 #[link(name = "nesfoal", kind = "static")]
 extern "C" {
-    pub fn nesfoal_effect(file: *const u8, file_len: usize, place: u16, transition: u16, effect: *mut i32) -> u32;
+    pub fn nesfoal_effect(file: *const u8, file_len: usize, place: u32, transition: u32, effect: *mut i32) -> u32;
     pub fn nesfoal_arcs(
         plan: *const u8,
         plan_len: usize,
         slice: *const u8,
         slice_len: usize,
         of_slice: bool,
-        transition: u16,
+        transition: u32,
         start: *mut u32,
     ) -> u32;
     pub fn nesfoal_replay(
@@ -136,7 +136,7 @@ extern "C" {
     pub fn nesfoal_together(
         plan: *const u8,
         plan_len: usize,
-        transition: u16,
+        transition: u32,
         marking: *const u64,
         marking_len: usize,
         rest: *mut u64,

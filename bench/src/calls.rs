@@ -3,8 +3,8 @@
 use crate::nets::Input;
 use crate::tuned;
 
-type Effect = unsafe extern "C" fn(*const u8, usize, u16, u16, *mut i32) -> u32;
-type Arcs = unsafe extern "C" fn(*const u8, usize, *const u8, usize, bool, u16, *mut u32) -> u32;
+type Effect = unsafe extern "C" fn(*const u8, usize, u32, u32, *mut i32) -> u32;
+type Arcs = unsafe extern "C" fn(*const u8, usize, *const u8, usize, bool, u32, *mut u32) -> u32;
 type Replay =
     unsafe extern "C" fn(*const u8, usize, *const u16, usize, *mut u64, usize, *mut u32, *mut u32, *mut u32) -> u32;
 type Cut =
@@ -44,7 +44,7 @@ type Shadow = unsafe extern "C" fn(
     *mut u32,
     *mut u32,
 ) -> u32;
-type Together = unsafe extern "C" fn(*const u8, usize, u16, *const u64, usize, *mut u64, usize, *mut u64) -> u32;
+type Together = unsafe extern "C" fn(*const u8, usize, u32, *const u64, usize, *mut u64, usize, *mut u64) -> u32;
 type Check = unsafe extern "C" fn(*const u8, usize, *const u8, usize, *const u8, usize) -> u32;
 type Verdict = unsafe extern "C" fn(*const u8, usize, *const u8, usize, *const u16, usize, *mut u32) -> u32;
 
@@ -223,7 +223,7 @@ impl<'a> Job<'a> {
         let function = match self.call {
             Call::ReadPlan | Call::ReadSlice | Call::Effect => {
                 let file = if self.call == Call::ReadSlice { &input.slice } else { &input.plan };
-                let place = if self.call.only_reads() { u16::MAX } else { input.place };
+                let place = if self.call.only_reads() { 65_535 } else { input.place };
                 read_part(&mut arguments, file);
                 arguments.extend([u64::from(place), u64::from(input.transition)]);
                 arguments.push(&raw mut self.values.effect as u64);
@@ -310,11 +310,11 @@ impl<'a> Job<'a> {
         match self.call {
             Call::ReadPlan => {
                 let call = program.effect.unwrap();
-                Box::new(move || unsafe { call(plan.0, plan.1, u16::MAX, transition, effect) })
+                Box::new(move || unsafe { call(plan.0, plan.1, 65_535, transition, effect) })
             }
             Call::ReadSlice => {
                 let call = program.effect.unwrap();
-                Box::new(move || unsafe { call(slice.0, slice.1, u16::MAX, transition, effect) })
+                Box::new(move || unsafe { call(slice.0, slice.1, 65_535, transition, effect) })
             }
             Call::Effect => {
                 let call = program.effect.unwrap();

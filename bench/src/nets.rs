@@ -23,10 +23,10 @@ pub struct Input {
     /// The criterion of the run cut: the first place that the list's last firing to raise any raises.
     pub fed: Vec<u16>,
     /// An arc's place and transition.
-    pub place: u16,
-    pub transition: u16,
+    pub place: u32,
+    pub transition: u32,
     /// A transition with inputs, and a marking from which they are taken: any 64-bit numbers.
-    pub taking: u16,
+    pub taking: u32,
     pub tokens: Vec<u64>,
     /// Places, transitions and arcs of the plan and of the slice.
     pub counts: [[usize; 3]; 2],
@@ -62,9 +62,9 @@ impl Input {
             checked: 0,
             fed: last_raised(&net, &list),
             list,
-            place: middle.place,
-            transition: middle.transition,
-            taking: input.expect("a transition with inputs").transition,
+            place: middle.place.into(),
+            transition: middle.transition.into(),
+            taking: input.expect("a transition with inputs").transition.into(),
             tokens: (0..net.places()).map(|_| rng.next()).collect(),
             counts,
             capped: net.has_caps(),

@@ -291,11 +291,11 @@ pub fn sticks(number: u32, transition: u16, stop: Stop) -> Answer {
         .data("short", stop.amount)
 }
 
-pub fn effect(effect: i32, transition: u16, place: u16) -> Answer {
+pub fn effect(effect: i32, transition: u32, place: u32) -> Answer {
     answer!("effect", Good, "effect {effect} of transition {transition} on place {place}", effect, transition, place)
 }
 
-pub fn arcs(arcs: Vec<Arc>, transition: u16, side: Side) -> Answer {
+pub fn arcs(arcs: Vec<Arc>, transition: u32, side: Side) -> Answer {
     let count = format!("arcs {} of", arcs.len());
     let answer = Answer::new("arcs", Status::Good).say(count);
     let values = vec![transition.into(), side_named(side).into(), arcs.into()];

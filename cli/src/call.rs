@@ -40,9 +40,9 @@ impl<'a> Call<'a> {
         }
     }
 
-    /// The number that word i is.
-    pub fn number<T: Entry>(&self, i: usize) -> Result<T, Answer> {
-        numbers::number(&self.words[i])
+    /// The place or the transition that word i is.
+    pub fn number(&self, i: usize) -> Result<u32, Answer> {
+        numbers::numbered(&self.words[i])
     }
 
     /// The list that the words of a range are.

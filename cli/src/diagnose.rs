@@ -16,8 +16,8 @@ pub struct Asked<'a> {
     /// How many numbers the marking has.
     pub marking: usize,
     /// Where a place or a transition was asked for by itself.
-    pub place: Option<u16>,
-    pub transition: Option<u16>,
+    pub place: Option<u32>,
+    pub transition: Option<u32>,
 }
 
 impl Asked<'_> {
@@ -61,7 +61,7 @@ impl Asked<'_> {
 }
 
 /// A number that the file has not, where no call refuses it.
-pub fn no_such(file: &str, what: &'static str, n: u16, count: u64) -> Answer {
+pub fn no_such(file: &str, what: &'static str, n: impl std::fmt::Display, count: u64) -> Answer {
     let count = counted(count, what);
     answers::error(format!("the {file} has no {what} {n}: it has {count}, numbered from 0"))
 }

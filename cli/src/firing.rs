@@ -31,7 +31,7 @@ pub fn arcs(call: &mut Call) -> Done {
         let asked = Asked { files: &[&plan, &slice], ..Asked::default() };
         asked.granted(library::verdict(&plan.bytes, &slice.bytes, &[]))?;
         let count = transitions(if side == Side::Plan { &plan.bytes } else { &slice.bytes });
-        if usize::from(transition) >= count {
+        if transition as usize >= count {
             return Err(no_such(answers::side_named(side), "transition", transition, count as u64));
         }
     }

@@ -101,7 +101,7 @@ impl Firing {
 }
 
 /// By how much one firing changes the tokens of a place.
-pub fn effect(file: &[u8], place: u16, transition: u16) -> Result<i32, Refusal> {
+pub fn effect(file: &[u8], place: u32, transition: u32) -> Result<i32, Refusal> {
     let mut effect = 0;
     let number = unsafe { nesfoal_effect(file.as_ptr(), file.len(), place, transition, &mut effect) };
     Refusal::or_done(number).map(|()| effect)
@@ -125,7 +125,7 @@ pub enum Side {
 }
 
 /// The part of the file named that is the transition's arcs: empty where there are none or something is refused.
-pub fn arcs<'a>(plan: &'a [u8], slice: &'a [u8], side: Side, transition: u16) -> &'a [u8] {
+pub fn arcs<'a>(plan: &'a [u8], slice: &'a [u8], side: Side, transition: u32) -> &'a [u8] {
     let mut start = 0;
     let length = unsafe {
         nesfoal_arcs(
@@ -198,7 +198,7 @@ pub fn shadow(plan: &[u8], slice: &[u8], list: &[u16], places: usize) -> Result<
 }
 
 /// How often the inputs can be taken, None where the transition takes nothing, and what is left.
-pub fn together(plan: &[u8], transition: u16, marking: &[u64]) -> Result<(Option<u64>, Vec<u64>), Refusal> {
+pub fn together(plan: &[u8], transition: u32, marking: &[u64]) -> Result<(Option<u64>, Vec<u64>), Refusal> {
     let mut rest = vec![0; NESFOAL_MARKING_ROOM];
     let mut times = 0;
     let number = unsafe {

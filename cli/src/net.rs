@@ -178,7 +178,7 @@ mod tests {
                 assert_eq!(tokens, marking);
                 let other = if side == Side::Plan { &empty } else { &slice };
                 let each: Vec<Arc> = (0..net.trailer.transitions)
-                    .flat_map(|t| arcs_of(library::arcs(&plan, other, side, t as u16)))
+                    .flat_map(|t| arcs_of(library::arcs(&plan, other, side, t as u32)))
                     .collect();
                 assert_eq!(net.arcs(), each);
                 count += 1;

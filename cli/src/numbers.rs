@@ -87,6 +87,12 @@ fn entry<T: Entry>(word: &[u8]) -> Result<T, String> {
     parsed(word, T::LARGEST).map(T::new).ok_or_else(|| no_number(word, T::LARGEST))
 }
 
+/// A place or a transition, a word of the command. No net has one above 32 bits: all those count as the largest of 32 bits.
+pub fn numbered(word: &OsStr) -> Result<u32, Answer> {
+    let digits = !word.is_empty() && word.as_bytes().iter().all(u8::is_ascii_digit);
+    number(word).or_else(|fault| if digits { Ok(u32::MAX) } else { Err(fault) })
+}
+
 /// The name in a word @FILE.
 fn named(word: &OsStr) -> Option<&OsStr> {
     word.as_bytes().strip_prefix(b"@").filter(|name| !name.is_empty()).map(OsStr::from_bytes)
@@ -175,6 +181,13 @@ mod tests {
         }
         assert_eq!(parsed(b"65535", 65535), Some(65535));
         assert_eq!(parsed(b"65536", 65535), None);
+        for (text, n) in [("3", 3), ("65539", 65_539), ("4294967295", u32::MAX), ("4294967299", u32::MAX)] {
+            assert_eq!(numbered(text.as_ref()), Ok(n));
+        }
+        assert_eq!(numbered("9".repeat(99).as_ref()), Ok(u32::MAX));
+        for text in ["", "-1", "1x", "99999999999x"] {
+            assert!(numbered(text.as_ref()).is_err(), "{text}");
+        }
     }
 
     #[test]

@@ -77,7 +77,7 @@ static void expect(const char *what, long long got, long long due)
     }
 }
 
-static void effect_is(const char *what, const uint8_t *file, size_t n, uint16_t place, uint16_t transition,
+static void effect_is(const char *what, const uint8_t *file, size_t n, uint32_t place, uint32_t transition,
                       uint32_t number, int32_t due)
 {
     int32_t effect = 99;
@@ -86,7 +86,7 @@ static void effect_is(const char *what, const uint8_t *file, size_t n, uint16_t 
 }
 
 static void run_is(const char *what, const uint8_t *plan, size_t plan_n, const uint8_t *slice, size_t slice_n,
-                   bool of_slice, uint16_t transition, uint32_t length, uint32_t due)
+                   bool of_slice, uint32_t transition, uint32_t length, uint32_t due)
 {
     uint32_t start = 99;
     expect(what, nesfoal_arcs(plan, plan_n, slice, slice_n, of_slice, transition, &start), length);
@@ -103,6 +103,9 @@ static void effects(void)
     effect_is("unknown place", plan, 108, 5, 0, NESFOAL_REFUSED_PLACE, 0);
     effect_is("unknown transition", plan, 108, 0, 4, NESFOAL_REFUSED_TRANSITION, 0);
     effect_is("both unknown", plan, 108, 5, 4, NESFOAL_REFUSED_PLACE, 0);
+    effect_is("65,536 more than a place", plan, 108, 65539, 2, NESFOAL_REFUSED_PLACE, 0);
+    effect_is("65,536 more than a transition", plan, 108, 3, 65538, NESFOAL_REFUSED_TRANSITION, 0);
+    effect_is("the largest numbers", plan, 108, UINT32_MAX, UINT32_MAX, NESFOAL_REFUSED_PLACE, 0);
     effect_is("no bytes", NULL, 0, 0, 0, NESFOAL_REFUSED_LENGTH, 0);
     effect_is("15 bytes", plan + 93, 15, 0, 0, NESFOAL_REFUSED_LENGTH, 0);
     effect_is("front byte lost", plan + 1, 107, 0, 0, NESFOAL_REFUSED_BODY, 0);
@@ -148,6 +151,8 @@ static void arcs(void)
     run_is("slice, transition 1", plan, 108, cut, 78, true, 1, 16, 36);
     run_is("plan, unknown", plan, 108, cut, 78, false, 4, 0, 0);
     run_is("slice, unknown", plan, 108, cut, 78, true, 2, 0, 0);
+    run_is("plan, 65,536 more than a transition", plan, 108, cut, 78, false, 65538, 0, 0);
+    run_is("slice, 65,536 more than a transition", plan, 108, cut, 78, true, 65536, 0, 0);
     run_is("files the wrong way round", cut, 78, plan, 108, false, 0, 0, 0);
     run_is("no plan", NULL, 0, cut, 78, true, 0, 0, 0);
     run_is("no slice", plan, 108, NULL, 0, false, 0, 0, 0);
@@ -231,7 +236,7 @@ static void takings(void)
     const uint64_t most = UINT64_MAX;
     const struct {
         const char *what;
-        uint16_t transition;
+        uint32_t transition;
         uint64_t marking[6];
         size_t n, room;
         uint32_t answer;
@@ -242,6 +247,7 @@ static void takings(void)
         {"together, 3", 3, {most, most, 0, 0, 1}, 5, 5, 0, most, {0, most, 0, 0, 1, 7}},
         {"together, 1, not once", 1, {most, 9, 0, 0, 0}, 5, 5, 0, 0, {most, 9, 0, 0, 0, 7}},
         {"together, an unknown transition", 4, {2, 1, 0, 0, 0}, 5, 5, NESFOAL_REFUSED_TRANSITION, 0, {7, 7, 7, 7, 7, 7}},
+        {"together, 65,536 more than a transition", 65536, {2, 1, 0, 0, 0}, 5, 5, NESFOAL_REFUSED_TRANSITION, 0, {7, 7, 7, 7, 7, 7}},
         {"together, 4 entries", 0, {2, 1, 0, 0, 0}, 4, 5, NESFOAL_REFUSED_MARKING, 0, {7, 7, 7, 7, 7, 7}},
         {"together, 6 entries", 0, {2, 1, 0, 0, 0}, 6, 6, NESFOAL_REFUSED_MARKING, 0, {7, 7, 7, 7, 7, 7}},
         {"together, marking before buffer", 0, {2}, 1, 0, NESFOAL_REFUSED_MARKING, 0, {7, 7, 7, 7, 7, 7}},

@@ -4,12 +4,12 @@ use crate::net::Kind;
 use crate::read::read;
 
 /// Where the run starts in the file named, and its bytes; empty at 0 where there is none.
-pub fn arcs<'a>(plan: &'a [u8], slice: &'a [u8], of_slice: bool, transition: u16) -> (usize, &'a [u8]) {
+pub fn arcs<'a>(plan: &'a [u8], slice: &'a [u8], of_slice: bool, transition: u32) -> (usize, &'a [u8]) {
     let none: (usize, &[u8]) = (0, &[]);
     let Ok(plan_net) = read(plan, Some(Kind::Plan)) else { return none };
     let Ok(slice_net) = read(slice, Some(Kind::Slice)) else { return none };
     let (net, file) = if of_slice { (slice_net, slice) } else { (plan_net, plan) };
-    let transition = usize::from(transition);
+    let transition = transition as usize;
     if transition >= net.transitions() || net.arcs_of(transition).is_empty() {
         return none;
     }

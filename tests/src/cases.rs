@@ -120,8 +120,8 @@ fn show_numbers(name: &str, lent: &Lent<u16>) -> String {
 #[derive(Clone, Debug)]
 pub struct EffectCase {
     pub file: Lent<u8>,
-    pub place: u16,
-    pub transition: u16,
+    pub place: u32,
+    pub transition: u32,
 }
 
 impl Case for EffectCase {
@@ -152,7 +152,7 @@ pub struct ArcsCase {
     pub plan: Lent<u8>,
     pub slice: Lent<u8>,
     pub of_slice: bool,
-    pub transition: u16,
+    pub transition: u32,
 }
 
 impl Case for ArcsCase {
@@ -185,7 +185,7 @@ impl Case for ArcsCase {
             Err(n) => return format!("slice-{n}"),
         };
         let net = if self.of_slice { slice } else { plan };
-        if usize::from(self.transition) >= net.transitions() {
+        if self.transition as usize >= net.transitions() {
             "unknown".into()
         } else {
             "no-arcs".into()
@@ -361,7 +361,7 @@ impl Case for ShadowCase {
 #[derive(Clone, Debug)]
 pub struct TogetherCase {
     pub plan: Lent<u8>,
-    pub transition: u16,
+    pub transition: u32,
     pub marking: Lent<u64>,
     pub rest: Lent<u64>,
 }

@@ -251,7 +251,7 @@ fn buffer<T: Copy + From<u8>>(len: usize) -> Lent<T> {
 }
 
 // A case by what is handed over, and the entries that are lent.
-fn arcs_case(plan: &[u8], slice: &[u8], of_slice: bool, transition: u16) -> ArcsCase {
+fn arcs_case(plan: &[u8], slice: &[u8], of_slice: bool, transition: u32) -> ArcsCase {
     ArcsCase { plan: lent(plan), slice: lent(slice), of_slice, transition }
 }
 
@@ -294,14 +294,17 @@ pub fn effects() -> Vec<Fixed<EffectCase>> {
     let mut list = Vec::new();
     let small = small_plan().bytes();
     let due: [[i64; 4]; 5] = [[-1, 0, 0, -1], [-1, 1, 0, 0], [1, -1, 0, 0], [0, 1, -2, 0], [0, 0, 1, 0]];
-    for p in 0..5u16 {
-        for t in 0..4u16 {
-            let effect = due[usize::from(p)][usize::from(t)];
+    for p in 0..5 {
+        for t in 0..4 {
+            let effect = due[p as usize][t as usize];
             list.push(fixed(format!("kerb, effect of {t} on {p}"), case(&small, p, t), 0, [effect]));
         }
     }
     let numbers = [(5, 0, 10), (65_535, 0, 10), (0, 4, 12), (4, 65_535, 12), (5, 4, 10)];
-    for (p, t, number) in numbers {
+    // Their low 16 bits are numbers of the net.
+    let wide = [(65_539, 2, 10), (3, 65_538, 12), (65_539, 65_538, 10), (1 << 31, 0, 10), (0, 1 << 31, 12)];
+    let most = [(u32::MAX, 0, 10), (0, u32::MAX, 12), (u32::MAX - 65_535, 0, 10), (0, u32::MAX - 65_535, 12)];
+    for (p, t, number) in numbers.into_iter().chain(wide).chain(most) {
         list.push(fixed(format!("kerb, effect of {t} on {p}"), case(&small, p, t), number, [0]));
     }
     let nets = [
@@ -359,10 +362,15 @@ pub fn arc_runs() -> Vec<Fixed<ArcsCase>> {
         (false, 3, 8, 84),
         (false, 4, 0, 0),
         (false, 65_535, 0, 0),
+        (false, 65_536, 0, 0),
+        (false, 65_538, 0, 0),
+        (false, u32::MAX, 0, 0),
         (true, 0, 24, 12),
         (true, 1, 16, 36),
         (true, 2, 0, 0),
         (true, 3, 0, 0),
+        (true, 65_537, 0, 0),
+        (true, 1 << 31, 0, 0),
     ];
     for (of_slice, t, length, start) in runs {
         let which = if of_slice { "slice" } else { "kerb" };
@@ -408,7 +416,7 @@ pub fn arc_runs() -> Vec<Fixed<ArcsCase>> {
         for t in 0..transitions {
             let run = net.plan[at..net.plan.len() - 16].chunks(8).take_while(|a| a[0] == t).count();
             let start = if run == 0 { 0 } else { at as i64 };
-            let case = case(&net.plan, &slice, false, u16::from(t));
+            let case = case(&net.plan, &slice, false, u32::from(t));
             list.push(fixed(format!("{}, transition {t}", net.name), case, 8 * run as u32, [start]));
             at += 8 * run;
         }
@@ -858,7 +866,7 @@ pub fn takings() -> Vec<Fixed<TogetherCase>> {
     let mut list = Vec::new();
     const MOST: u64 = u64::MAX;
     // Written into as many entries as there are places, and into more.
-    let mut answered = |name: &str, plan: &[u8], t: u16, marking: &[u64], times: Option<u64>, rest: &[u64]| {
+    let mut answered = |name: &str, plan: &[u8], t: u32, marking: &[u64], times: Option<u64>, rest: &[u64]| {
         for more in [0, 1, 7] {
             let len = marking.len() + more;
             let number = if times.is_some() { 0 } else { 100 };
@@ -912,14 +920,16 @@ pub fn takings() -> Vec<Fixed<TogetherCase>> {
     let (held, left): (Vec<u64>, Vec<u64>) = (0..1_024).map(|p| (tokens(p), tokens(p) - 3_000_000_000)).unzip();
     answered("1,024 inputs", &wide, 0, &held, Some(1_000_000_000), &left);
 
-    let mut refused = |name: String, plan: &[u8], t: u16, marking: &[u64], len: usize, number| {
+    let mut refused = |name: String, plan: &[u8], t: u32, marking: &[u64], len: usize, number| {
         let mut one = fixed(name, case(plan, t, marking, len), number, [0]);
         one.cells = Some(vec![Cells::Longs(after(len, &[]))]);
         list.push(one);
     };
     let five = [2, 1, 0, 0, 0];
     refused("transition T".into(), &small, 4, &five, 5, 12);
-    refused("transition 65,535".into(), &small, 65_535, &five, 5, 12);
+    for t in [65_535, 65_536, 65_539, 1 << 31, u32::MAX] {
+        refused(format!("transition {t}"), &small, t, &five, 5, 12);
+    }
     refused("no transitions".into(), &one_place_plan(), 0, &[3], 1, 12);
     refused("4 entries".into(), &small, 0, &five[..4], 5, 15);
     refused("6 entries".into(), &small, 0, &[2, 1, 0, 0, 0, 0], 6, 15);

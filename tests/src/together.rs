@@ -12,9 +12,9 @@ pub enum Together {
 }
 
 /// How often the inputs of a transition can be taken together from a marking; what is left of it goes to the first P entries.
-pub fn together(plan: &[u8], transition: u16, marking: &[u64], rest: &mut [u64]) -> Result<Together, Refusal> {
+pub fn together(plan: &[u8], transition: u32, marking: &[u64], rest: &mut [u64]) -> Result<Together, Refusal> {
     let net = read(plan, Some(Kind::Plan))?;
-    if usize::from(transition) >= net.transitions() {
+    if transition as usize >= net.transitions() {
         return Err(12);
     }
     if marking.len() != net.places() {
@@ -23,7 +23,7 @@ pub fn together(plan: &[u8], transition: u16, marking: &[u64], rest: &mut [u64])
     if rest.len() < net.places() {
         return Err(13);
     }
-    let taken = net.inputs(usize::from(transition));
+    let taken = net.inputs(transition as usize);
     let times = marking.iter().zip(&taken).filter(|(_, &taken)| taken > 0).map(|(held, taken)| held / taken).min();
     for (p, (held, taken)) in marking.iter().zip(&taken).enumerate() {
         rest[p] = held - times.unwrap_or(0) * taken;
@@ -51,7 +51,7 @@ mod tests {
             let (marking, mut rest) = (case.marking.part(), case.rest.clone());
             let answer = together(case.plan.part(), case.transition, marking, rest.part_mut());
             let net = read(case.plan.part(), Some(Kind::Plan)).unwrap();
-            let taken = net.inputs(usize::from(case.transition));
+            let taken = net.inputs(case.transition as usize);
             let fits = |k: u128| (0..net.places()).all(|p| k * u128::from(taken[p]) <= u128::from(marking[p]));
             let k = match answer {
                 Ok(Together::Times(k)) => {

@@ -16,7 +16,7 @@ function made(head, list,    name, upper, n, i, parts, a, b, kind, body) {
                 kind = "RESULT"; count = "1"
             }
             body = body "        {" kind ", 0, (void *)(uintptr_t)" b ", " count ", sizeof *" b "},\n"
-        } else if (a ~ /^(uint16_t|bool) [a-z_]+$/) body = body "        {NUMBER, " b ", 0, 0, 0},\n"
+        } else if (a ~ /^(uint32_t|bool) [a-z_]+$/) body = body "        {NUMBER, " b ", 0, 0, 0},\n"
         else fail(name ": an argument of a kind that is not known: " a)
     }
     printf "extern void shipped_%s(void);\n", name

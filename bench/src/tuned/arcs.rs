@@ -4,13 +4,13 @@ use super::read::{read, PLAN, SLICE};
 use super::starts::first;
 
 #[inline(always)]
-pub fn arcs(plan: &[u8], slice: &[u8], of_slice: bool, transition: u16, start: &mut u32) -> u32 {
+pub fn arcs(plan: &[u8], slice: &[u8], of_slice: bool, transition: u32, start: &mut u32) -> u32 {
     *start = 0;
     let Ok(plan_header) = read(plan, PLAN) else { return 0 };
     let Ok(slice_header) = read(slice, SLICE) else { return 0 };
     let (h, file) = if of_slice { (slice_header, slice) } else { (plan_header, plan) };
     let t = u64::from(transition);
-    if usize::from(transition) >= h.transitions {
+    if transition as usize >= h.transitions {
         return 0;
     }
     // SAFETY: the file was read.

@@ -21,7 +21,7 @@ unsafe fn lent_out<'a, T>(at: *mut T, count: usize) -> &'a mut [T] {
     }
 }
 
-pub unsafe extern "C" fn effect(file: *const u8, n: usize, place: u16, transition: u16, effect: *mut i32) -> u32 {
+pub unsafe extern "C" fn effect(file: *const u8, n: usize, place: u32, transition: u32, effect: *mut i32) -> u32 {
     super::effect::effect(lent(file, n), place, transition, &mut *effect)
 }
 
@@ -31,7 +31,7 @@ pub unsafe extern "C" fn arcs(
     slice: *const u8,
     slice_len: usize,
     of_slice: bool,
-    transition: u16,
+    transition: u32,
     start: *mut u32,
 ) -> u32 {
     super::arcs::arcs(lent(plan, plan_len), lent(slice, slice_len), of_slice, transition, &mut *start)
@@ -132,7 +132,7 @@ pub unsafe extern "C" fn shadow(
 pub unsafe extern "C" fn together(
     plan: *const u8,
     plan_len: usize,
-    transition: u16,
+    transition: u32,
     marking: *const u64,
     marking_len: usize,
     rest: *mut u64,

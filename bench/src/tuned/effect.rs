@@ -4,16 +4,16 @@ use super::read::{read, EITHER};
 use super::starts::weight_of;
 
 #[inline(always)]
-pub fn effect(file: &[u8], place: u16, transition: u16, effect: &mut i32) -> u32 {
+pub fn effect(file: &[u8], place: u32, transition: u32, effect: &mut i32) -> u32 {
     *effect = 0;
     let h = match read(file, EITHER) {
         Ok(h) => h,
         Err(refusal) => return refusal,
     };
-    if usize::from(place) >= h.places {
+    if place as usize >= h.places {
         return 10;
     }
-    if usize::from(transition) >= h.transitions {
+    if transition as usize >= h.transitions {
         return 12;
     }
     let (p, t) = (u64::from(place), u64::from(transition));

@@ -5,13 +5,13 @@ use super::read::*;
 use super::starts::first;
 
 #[inline(always)]
-pub fn together(plan: &[u8], transition: u16, marking: &[u64], rest: &mut [u64], times: &mut u64) -> u32 {
+pub fn together(plan: &[u8], transition: u32, marking: &[u64], rest: &mut [u64], times: &mut u64) -> u32 {
     *times = 0;
     let h = match read(plan, PLAN) {
         Ok(h) => h,
         Err(refusal) => return refusal,
     };
-    if usize::from(transition) >= h.transitions {
+    if transition as usize >= h.transitions {
         return 12;
     }
     if marking.len() != h.places {

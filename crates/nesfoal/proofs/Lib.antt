@@ -1,3 +1,4 @@
 pub mod AsRead
 pub mod AsFollowed
+pub mod AsTaken
 pub mod Apart

@@ -26,7 +26,7 @@ fn value(c: Change) -> i32
 
 // Effect: 0 or the number of a refusal; the effect goes to `to`, 0 where it is refused.
 #[no_mangle]
-pub extern "C" fn nesfoal_effect(file: &[u8], place: u16, transition: u16, to: &mut i32) -> u32
+pub extern "C" fn nesfoal_effect(file: &[u8], place: u32, transition: u32, to: &mut i32) -> u32
     ensures answer { λ r. ⌜ r ≡ effectAnswer (now (file .entry)) place transition .refusal ⌝ }
     ensures effect { λ _. ⌜ now (to .exit) ≡ effectAnswer (now (file .entry)) place transition .effect ⌝ }
 {

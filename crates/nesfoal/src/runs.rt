@@ -9,7 +9,7 @@ pub extern "C" fn nesfoal_arcs(
     plan: &[u8],
     slice: &[u8],
     inslice: bool,
-    transition: u16,
+    transition: u32,
     start: &mut u32,
 ) -> u32
     ensures answer { λ r. ⌜ r ≡ length (arcRun (now (plan .entry)) (now (slice .entry)) inslice transition) ⌝ }

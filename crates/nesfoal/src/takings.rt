@@ -3,7 +3,7 @@ ghost use mathlib.Core.Path.{_≡_};
 ghost use lib.ListN.{length};
 ghost use Rattle.promise.specs.Together.{togetherAnswer, togetherRest, TakesLargest};
 ghost use Rattle.together.specs.Told.{togetherNumbers};
-ghost use Rattle.nesfoal.specs.Takings.{togetherCode};
+ghost use Rattle.nesfoal.specs.Takings.{togetherCode, takingsRead};
 use together::Together;
 
 // 0 where there is a largest number, 100 where any number of times fits, else the number of a refusal.
@@ -32,7 +32,7 @@ fn times_of(a: Together) -> u64
 #[no_mangle]
 pub extern "C" fn nesfoal_together(
     plan: &[u8],
-    transition: u16,
+    transition: u32,
     marking: &[u64],
     rest: &mut [u64],
     times: &mut u64,
@@ -40,7 +40,7 @@ pub extern "C" fn nesfoal_together(
     ensures answer { λ r. ⌜ r ≡ togetherCode (togetherAnswer (now (plan .entry)) transition (now (marking .entry)) (length (now (rest .entry)))) ⌝ }
     ensures rest { λ _. ⌜ now (rest .exit) ≡ togetherRest (now (plan .entry)) transition (now (marking .entry)) (now (rest .entry)) ⌝ }
     ensures times { λ _. ⌜ now (times .exit) ≡ togetherAnswer (now (plan .entry)) transition (now (marking .entry)) (length (now (rest .entry))) .times ⌝ }
-    ensures largest { λ _. ⌜ TakesLargest (now (plan .entry)) transition (now (marking .entry)) (togetherAnswer (now (plan .entry)) transition (now (marking .entry)) (length (now (rest .entry)))) (now (rest .exit)) ⌝ }
+    ensures largest { λ r. ⌜ TakesLargest (now (plan .entry)) transition (now (marking .entry)) (takingsRead r (now (times .exit))) (now (rest .exit)) ⌝ }
 {
     let a = call_firing::takings::together(plan, transition, marking, rest);
     *times = times_of(a);

@@ -572,7 +572,7 @@ pub fn takings() -> Vec<Fixed<TogetherCase>> {
     };
     let mut list = Vec::new();
     // Inputs alone count: neither what is added nor what is handed in is held to a cap.
-    let mut answered = |name: &str, plan: &Draft, t: u16, marking: &[u64], times: Option<u64>, rest: &[u64]| {
+    let mut answered = |name: &str, plan: &Draft, t: u32, marking: &[u64], times: Option<u64>, rest: &[u64]| {
         let number = if times.is_some() { 0 } else { 100 };
         let len = marking.len() + 1;
         let mut one = fixed(name, case(plan, t, marking, len), number, [times.unwrap_or(0)]);

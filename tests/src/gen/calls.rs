@@ -69,15 +69,15 @@ pub fn effect_case(rng: &mut Rng) -> EffectCase {
     if aim < 36 {
         let file = bad_file(rng, None);
         let file = lend(rng, &file);
-        return EffectCase { file, place: rng.below(6) as u16, transition: rng.below(6) as u16 };
+        return EffectCase { file, place: rng.below(6) as u32, transition: rng.below(6) as u32 };
     }
     let draft = good_file(rng);
     let (places, transitions) = (draft.marking.len(), usize::from(draft.transitions));
-    let mut place = if places == 0 { 0 } else { rng.below(places) as u16 };
-    let mut transition = if transitions == 0 { 0 } else { rng.below(transitions) as u16 };
+    let mut place = if places == 0 { 0 } else { rng.below(places) as u32 };
+    let mut transition = if transitions == 0 { 0 } else { rng.below(transitions) as u32 };
     if !draft.arcs.is_empty() && rng.percent(70) {
         let arc = rng.pick(&draft.arcs);
-        (place, transition) = (arc.place, arc.transition);
+        (place, transition) = (arc.place.into(), arc.transition.into());
     }
     if aim < 44 || aim >= 98 {
         place = unknown_number(rng, places);
@@ -111,9 +111,9 @@ pub fn arcs_case(rng: &mut Rng) -> ArcsCase {
     let slice_draft = some_slice(rng, &plan_net);
     let named = if of_slice { &slice_draft } else { &draft };
     let transitions = usize::from(named.transitions);
-    let mut transition = if transitions == 0 { 0 } else { rng.below(transitions) as u16 };
+    let mut transition = if transitions == 0 { 0 } else { rng.below(transitions) as u32 };
     if !named.arcs.is_empty() && rng.percent(70) {
-        transition = rng.pick(&named.arcs).transition;
+        transition = rng.pick(&named.arcs).transition.into();
     }
     if (34..44).contains(&aim) {
         transition = unknown_number(rng, transitions);
@@ -283,7 +283,7 @@ pub fn together_case(rng: &mut Rng) -> TogetherCase {
     let (mut transition, mut marking) = (0, vec![0; net.places()]);
     if !those.is_empty() {
         let t = *rng.pick(&those);
-        (transition, marking) = (t as u16, marking_for(rng, &net, t));
+        (transition, marking) = (t as u32, marking_for(rng, &net, t));
     }
     // Faults met later stand there too, now and then.
     if (28..36).contains(&aim) || aim < 28 && rng.percent(10) {
@@ -521,7 +521,7 @@ mod tests {
                 continue;
             }
             let net = read(case.plan.part(), Some(Kind::Plan)).unwrap();
-            let (ins, taken) = (net.in_and_out(usize::from(case.transition)).0, net.inputs(case.transition.into()));
+            let (ins, taken) = (net.in_and_out(case.transition as usize).0, net.inputs(case.transition as usize));
             let [Cells::Longs(cells)] = &answer.cells[..] else { panic!("one buffer") };
             let decides = |place: u16| cells[case.rest.start + usize::from(place)] < taken[usize::from(place)];
             let (first, end) = (ins[0].place, ins[ins.len() - 1].place);

@@ -226,10 +226,11 @@ fn extreme(rng: &mut Rng) -> u64 {
     *rng.pick(&[0, 1, any, any, any >> 32, 1 << 63, u64::MAX - 1, u64::MAX])
 }
 
-/// A number below the count, at it, or far beyond.
-pub fn unknown_number(rng: &mut Rng, count: usize) -> u16 {
-    let far = rng.range(count, 65_535);
-    *rng.pick(&[count, count, far, 65_535]) as u16
+/// A number that is not below the count: at it, far beyond, or above 16 bits, then often with a known number in the low half.
+pub fn unknown_number(rng: &mut Rng, count: usize) -> u32 {
+    let (far, wide) = (rng.range(count, 65_535), rng.range(65_536, u32::MAX as usize));
+    let known = rng.range(1, 65_535) << 16 | rng.below(count.max(1));
+    *rng.pick(&[count, count, far, 65_535, 65_536 + count, known, known, wide, u32::MAX as usize]) as u32
 }
 
 /// Entries to be read, at any alignment, with other entries before and after.

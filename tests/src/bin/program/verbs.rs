@@ -248,7 +248,7 @@ fn of_arcs(case: &ArcsCase) -> Asked {
         (_, Err(n)) => refused(n, "slice"),
         (Ok(plan_net), Ok(slice_net)) => {
             let count = if case.of_slice { slice_net.transitions() } else { plan_net.transitions() };
-            if usize::from(t) >= count {
+            if t as usize >= count {
                 let it = counted(count, "transition");
                 Due::new("unknown", format!("error: the {which} has no transition {t}: it has {it}, numbered from 0\n"))
             } else {

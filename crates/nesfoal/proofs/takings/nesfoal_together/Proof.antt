@@ -1,7 +1,7 @@
-use mathlib.Core.Path.{refl, _∙_, ap}
+use mathlib.Core.Path.{_∙_, ap}
 use Rattle.promise.specs.Together.{TogetherAnswer}
-use Rattle.promise.proofs.Together.{takes-largest}
 use Rattle.nesfoal.specs.Takings.{togetherCode}
+use Rattle.nesfoal.proofs.AsTaken.{together-for-c}
 use borrow.Author.Needs.{needs}
 use Rattle.nesfoal.proofs.takings.nesfoal_together.Statement.{statement}
 use Rattle.nesfoal.proofs.takings.nesfoal_together.Tie as tie
@@ -20,10 +20,10 @@ same-length c = search needs
 
 returns : tie.Need-returns
 returns c =
-    let e = c .before .before .before .before .together .ensures in (
-      c .code .ensures ∙ ap togetherCode (e .0),
-      (e .1 .0, (c .before .times-of .ensures ∙ ap (λ (a : TogetherAnswer). a .times) (e .0), takes-largest _ _ _ _ refl (e .1 .0))),
-    )
+    let e = c .before .before .before .before .together .ensures in
+    let r = c .code .ensures ∙ ap togetherCode (e .0) in
+    let k = c .before .times-of .ensures ∙ ap (λ (a : TogetherAnswer). a .times) (e .0) in
+    (r, (e .1 .0, (k, together-for-c _ _ _ _ (e .0) (e .1 .1) r k)))
 
 pub nesfoal-together-spec : {M : Type 1} → statement M
 nesfoal-together-spec =
