@@ -10,7 +10,7 @@ ghost use Rattle.clients.specs.Ended.{isLimited, Emptied};
 use together::Together;
 
 // The transition number of `together`.
-pub type Number = u16;
+pub type Number = u32;
 
 // Whether there is a largest number of takings.
 pub fn is_limited(a: Together) -> bool
