@@ -15,5 +15,6 @@ pub mod Uncapped
 pub mod Rakow
 pub mod Replay
 pub mod Together
+pub mod Range
 pub mod Feeding
 pub mod Run
