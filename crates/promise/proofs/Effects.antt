@@ -17,6 +17,7 @@ use Rattle.file_header.specs.Layout.{headerOf}
 use Rattle.file.specs.Layout.{netOf}
 use Rattle.file_words.specs.Refusal.{refuse}
 use Rattle.file.specs.Refusal.{fileRefusal}
+use Rattle.file_header.specs.declared.Due.{Due}
 use Rattle.file_header.specs.declared.Due.the-variants as due
 use Rattle.file.proofs.Caps.{marking-lt}
 use Rattle.file_arcs.proofs.Rows.{weight-le}
@@ -26,8 +27,8 @@ use Rattle.promise.specs.Firing.{listRefusal}
 use Rattle.promise.specs.Promise.{EffectRange, Bounded}
 
 -- of a file that can be read, in(p,t) and out(p,t) are sums of at most 4,096 weights
-sum-small : (file : List ℕ) → Bytes file → fileRefusal due.Either file ≡ 0 → (d p t : ℕ) → weightOn d p t (netOf file .arcs) ≤ 268431360
-sum-small file b e d p t = omega (arith, sound due.Either file e .placed .arcs, weight-le d p t file b (headerOf file .arcstart) (headerOf file .arcs))
+pub sum-small : (kind : Due) (file : List ℕ) → Bytes file → fileRefusal kind file ≡ 0 → (d p t : ℕ) → weightOn d p t (netOf file .arcs) ≤ 268431360
+sum-small kind file b e d p t = omega (arith, sound kind file e .placed .arcs, weight-le d p t file b (headerOf file .arcstart) (headerOf file .arcs))
 
 -- a difference is not below minus what is taken away
 difference-low : (n a b : ℕ) → b ≤ suc n → negsuc n ≤ℤ (pos a -ℤ pos b)
@@ -42,8 +43,8 @@ difference-high n a (suc b) h = by-cases (ltb a (suc b)) (λ e. rw e (leZ-yes tt
 pub effect-range : (file : List ℕ) → Bytes file → fileRefusal due.Either file ≡ 0 → EffectRange file
 unfolding input output effect
 effect-range file b e = record {
-  lowest = λ p t. difference-low _ (output (netOf file) p t) (input (netOf file) p t) (omega (arith, sum-small file b e 0 p t));
-  highest = λ p t. difference-high _ (output (netOf file) p t) (input (netOf file) p t) (omega (arith, sum-small file b e 1 p t));
+  lowest = λ p t. difference-low _ (output (netOf file) p t) (input (netOf file) p t) (omega (arith, sum-small due.Either file b e 0 p t));
+  highest = λ p t. difference-high _ (output (netOf file) p t) (input (netOf file) p t) (omega (arith, sum-small due.Either file b e 1 p t));
 }
 
 -- each firing adds an output at most
@@ -60,4 +61,4 @@ pub bounded : (file list : List ℕ) → Bytes file → fileRefusal due.Either f
 unfolding replay output listRefusal
 bounded file list b e l =
     let short = ltb-false 65535 (length list) (refuse-0 (ltb 65535 (length list)) 10 (refuse (any (λ t. leb (netOf file .transitions) t) list) 12 0) l .0) in
-    record { tokens-low = λ p. omega (arith, short, marking-lt file b (headerOf file) p, replay-low (netOf file) (sum-small file b e 1) 0 (netOf file .marking) list p) }
+    record { tokens-low = λ p. omega (arith, short, marking-lt file b (headerOf file) p, replay-low (netOf file) (sum-small due.Either file b e 1) 0 (netOf file .marking) list p) }

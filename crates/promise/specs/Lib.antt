@@ -6,9 +6,11 @@ pub mod Conclusions
 pub mod Exactness
 pub mod Together
 pub mod Rooms
+pub mod Range
 pub mod Promise
 pub mod Uses
 pub mod Example
 pub mod RunExample
 pub mod FullExample
 pub mod OrderExample
+pub mod RangeExample
