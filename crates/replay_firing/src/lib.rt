@@ -59,7 +59,7 @@ fn take(file: &[u8], start: usize, from: usize, to: usize, marking: &mut [u64])
 }
 
 // Adds the weights of the arcs from `from` to `to` to the marking.
-fn give(file: &[u8], start: usize, from: usize, to: usize, marking: &mut [u64])
+pub fn give(file: &[u8], start: usize, from: usize, to: usize, marking: &mut [u64])
     requires { ⌜ Run (now file) start from to (length (now marking)) ⌝ }
     requires { ⌜ ((p : ℕ) → getD (now marking) p 0 + sumTo (now file) start p to < 2 ^ 64 + sumTo (now file) start p from) ⌝ }
     ensures { λ _. ⌜ Gives (now (file .entry)) start from to (now (marking .entry)) (now (marking .exit)) ⌝ }

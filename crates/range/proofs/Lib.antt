@@ -1,0 +1,3 @@
+pub mod Need
+pub mod Passing
+pub mod Apart
