@@ -3,4 +3,5 @@ pub mod ArcRuns
 pub mod Replayed
 pub mod Followed
 pub mod Taken
+pub mod Ranged
 pub mod Apart

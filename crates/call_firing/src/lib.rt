@@ -1,5 +1,6 @@
-// The public calls that fire transitions: effect, arc run, replay, a run and its shadow, takings. No call asks anything of its caller: bad input is refused with its number.
+// The public calls that fire transitions: effect, arc run, replay, a run and its shadow, takings, a range of markings. No call asks anything of its caller: bad input is refused with its number.
 pub mod effects;
+pub mod ranges;
 pub mod replays;
 pub mod runs;
 pub mod shadows;
