@@ -4,9 +4,10 @@ use Rattle.checker.proofs.Apart.{told-apart as verdicts}
 use Rattle.replay.proofs.Apart.{told-apart as outcomes}
 use Rattle.shadow.proofs.Apart.{told-apart as shadows}
 use Rattle.together.proofs.Apart.{told-apart as takings}
+use Rattle.range.proofs.Apart.{told-apart as ranges}
 use Rattle.slice.proofs.Apart.{told-apart as cuts}
 use Rattle.run_cut.proofs.Apart.{told-apart as run-cuts}
 use Rattle.call_firing.proofs.Apart.{told-apart as changes}
 
 pub pinned : Pinned
-pinned = record { check = verdicts; replay = outcomes; shadow = shadows; safety-and-branching = cuts; run-cut = run-cuts; effect = changes; together = takings }
+pinned = record { check = verdicts; replay = outcomes; shadow = shadows; safety-and-branching = cuts; run-cut = run-cuts; effect = changes; together = takings; range = ranges }

@@ -3,6 +3,7 @@ use Rattle.checker.specs.Answer.{ToldApart as Verdicts}
 use Rattle.replay.specs.Told.{ToldApart as Outcomes}
 use Rattle.shadow.specs.Told.{ToldApart as Shadows}
 use Rattle.together.specs.Told.{ToldApart as Takings}
+use Rattle.range.specs.Told.{ToldApart as Ranges}
 use Rattle.slice.specs.Kept.{ToldApart as Cuts}
 use Rattle.run_cut.specs.Told.{ToldApart as RunCuts}
 use Rattle.call_firing.specs.Effect.{ToldApart as Changes}
@@ -16,3 +17,4 @@ pub record Pinned : Type 0 where
   pub run-cut : RunCuts
   pub effect : Changes
   pub together : Takings
+  pub range : Ranges
