@@ -25,7 +25,7 @@ use Rattle.file_words.proofs.Laws.{refuse-0, orElse-0}
 use Rattle.promise.specs.Calls.{written}
 use Rattle.promise.specs.Firing.{listRefusal}
 use Rattle.promise.specs.Together.{standing}
-use Rattle.promise.specs.Range.{upperWrong, rangeRefusal, RangeAnswer, rangeTold, rangeOr, rangeAnswer, rangeNeed, TellsRange, SameRange, NeedFits}
+use Rattle.promise.specs.Range.{upperWrong, rangeRefusal, RangeAnswer, rangeTold, rangeOr, rangeAnswer, rangeNeed, TellsRange, SameRange, NeedFits, MoreIsEnough}
 use Rattle.promise.proofs.Effects.{sum-small}
 use Rattle.promise.proofs.Replays.{list-known, differ}
 
@@ -174,3 +174,9 @@ unfolding input listRefusal
 need-fits plan list b e l =
     let short = ltb-false 65535 (length list) (refuse-0 (ltb 65535 (length list)) 10 (refuse (any (λ t. leb (netOf plan .transitions) t) list) 12 0) l .0) in
     record { need-low = λ p. omega (arith, short, law.need-low (netOf plan) 268431360 (sum-small due.Plan plan b e 0) list p) }
+
+pub more-is-enough : (plan list upper : List ℕ) (a : RangeAnswer) (exit : List ℕ) → a .refused ≡ false → TellsRange plan list upper a exit → MoreIsEnough plan list
+unfolding Covers
+more-is-enough plan list upper a exit e x = record {
+  more = λ M M′ c f. x .needed e .exactly M′ .1 (λ p l. omega (arith, x .needed e .exactly M .0 f p l, c p l));
+}

@@ -33,6 +33,7 @@ range-rows = record {
   of-a-sum = record { answer = refl; need = refl };
   no-caps = record { answer = refl; need = refl };
   no-plan = refl;
+  capped-no-plan = refl;
   capped = refl;
   unknown = refl;
   four-entries = refl;

@@ -6,8 +6,8 @@ use mathlib.Core.Path.{_≡_}
 use mathlib.Core.Logic.{_↔_}
 use lib.ListN.{length}
 use lib.Dec.{eqb, ltb}
-use Rattle.net.specs.Net.{Net, hasCaps, tokens}
-use Rattle.net.specs.Range.{need, covers, Extent, every, partly, never, extent, FromEvery, FromSome, FromNone, Needs}
+use Rattle.net.specs.Net.{Marking, Net, Fires, hasCaps, tokens}
+use Rattle.net.specs.Range.{need, Covers, covers, Extent, every, partly, never, extent, FromEvery, FromSome, FromNone, Needs}
 use Rattle.file.specs.Layout.{netOf}
 use Rattle.file_words.specs.Refusal.{refuse, orElse}
 use Rattle.file.specs.Refusal.{fileRefusal}
@@ -75,3 +75,7 @@ pub record SameRange (plan : List ℕ) (a b : RangeAnswer) (exit exit′ : List 
 -- "one 64-bit entry a place" is enough: a plan and a list, neither of them refused, need fewer tokens than 2 to the power 44 on each place
 pub record NeedFits (plan list : List ℕ) : Type 0 where
   pub need-low : (p : ℕ) → need (netOf plan) list p < 2 ^ 44
+
+-- what people conclude from a need that was written: who has more has enough
+pub record MoreIsEnough (plan list : List ℕ) : Type 0 where
+  pub more : (M M′ : Marking) → Covers (netOf plan) M′ M → Fires (netOf plan) M list → Fires (netOf plan) M′ list

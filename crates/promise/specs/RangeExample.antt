@@ -37,6 +37,8 @@ pub record RangeRows : Type 0 where
   pub no-caps : Ranged zeroPlan (0 ∷ 1 ∷ 0 ∷ 1 ∷ 0 ∷ []) (3 ∷ 1 ∷ 0 ∷ 0 ∷ 0 ∷ []) partly (3 ∷ 1 ∷ 0 ∷ 0 ∷ 0 ∷ 7 ∷ [])
   -- the plan; 17, before the list; the list; "21: .. after the list"; 13
   pub no-plan : rangeAnswer (emptySlice 1) (9 ∷ []) [] 0 ≡ rangeOr 3 every
+  -- the plan before its caps: the file of a capped plan, told to be a slice
+  pub capped-no-plan : rangeAnswer (set fullPlan 122 1) [] [] 0 .refusal ≡ 3
   pub capped : rangeAnswer fullPlan (9 ∷ []) [] 0 ≡ rangeOr 17 every
   pub unknown : rangeAnswer smallPlan (0 ∷ 4 ∷ []) [] 0 ≡ rangeOr 12 every
   pub four-entries : rangeAnswer smallPlan (0 ∷ []) (2 ∷ 1 ∷ 0 ∷ 0 ∷ []) 0 ≡ rangeOr 21 every
