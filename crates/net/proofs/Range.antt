@@ -1,5 +1,5 @@
 -- A list fires exactly from the markings that cover its need, so the least and the largest marking of a range tell about all of it.
-use Prim.Native.Nat.{ℕ, _-_, _*_, _<_, _≤_}
+use Prim.Native.Nat.{ℕ, _+_, _-_, _*_, _<_, _≤_}
 use mathlib.Core.Bool.{Bool, true, false, not}
 use mathlib.Core.List.{List, [], _∷_}
 use mathlib.Core.Path.{_≡_, refl, ap}
@@ -9,7 +9,7 @@ use lib.ListN.{length}
 use lib.Dec.{T, eqb, ltb, eqb-refl}
 use borrow.Author.Tests.{lt-ltb, ltb-true, ltb-false}
 use Rattle.net.specs.Numbers.{among, any, selected}
-use Rattle.net.specs.Net.{Marking, Net, input, fire, Uncapped, Supplied, Enabled, Fires}
+use Rattle.net.specs.Net.{Marking, Net, input, output, fire, Uncapped, Supplied, Enabled, Fires, after}
 use Rattle.net.specs.Range
 use Rattle.net.proofs.Numbers.{by-cases, holds, is-true, fails, is-false, or-left, or-right, any-has, any-finds, below-passes, below-has}
 use Rattle.net.proofs.Uncapped.{uncapped-enabled}
@@ -35,6 +35,12 @@ unfolding Range.need
 need-low N b small [] p = omega arith
 need-low N b small (t ∷ ts) p = omega (arith, small p t, need-low N b small ts p)
 
+-- and leaves an output more at most
+pub after-low : (N : Net) (b : ℕ) → ((p t : ℕ) → output N p t ≤ b) → (M : Marking) (ts : List ℕ) (p : ℕ) → after N M ts p ≤ M p + b * length ts
+unfolding after fire
+after-low N b small M [] p = omega arith
+after-low N b small M (t ∷ ts) p = omega (arith, small p t, after-low N b small (fire N t M) ts p)
+
 -- the entries of a list that holds the need on its places are a need too
 pub needs : (N : Net) → Uncapped N → (ts : List ℕ) → ((t : ℕ) → T (among t ts) → t < N .transitions)
     → (needed : Marking) → ((p : ℕ) → p < N .places → needed p ≡ Range.need N ts p) → Range.Needs N ts needed
@@ -46,6 +52,10 @@ needs N none ts known needed same =
       itself = law needed .1 (λ p l. omega (arith, same p l));
       least = λ M f p l. omega (arith, law M .0 f p l, same p l);
     }
+
+pub more-is-enough : (N : Net) (ts : List ℕ) (needed : Marking) → Range.Needs N ts needed → Range.MoreIsEnough N ts
+unfolding Range.Covers
+more-is-enough N ts needed x = record { more = λ M M′ c f. x .exactly M′ .1 (λ p l. omega (arith, x .exactly M .0 f p l, c p l)) }
 
 -- ---- the test
 

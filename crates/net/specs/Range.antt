@@ -56,3 +56,7 @@ pub record Needs (N : Net) (ts : List ℕ) (needed : Marking) : Type 0 where
   -- "the least marking": the list fires from it, and from none that has fewer tokens on some place
   pub itself : Fires N needed ts
   pub least : (M : Marking) → Fires N M ts → Covers N M needed
+
+-- what people conclude from the need: who has more has enough
+pub record MoreIsEnough (N : Net) (ts : List ℕ) : Type 0 where
+  pub more : (M M′ : Marking) → Covers N M′ M → Fires N M ts → Fires N M′ ts

@@ -1,6 +1,6 @@
 -- What `range` answers holds of every marking in the range, and what it writes is the need.
 use Prim.Native.Nat.{ℕ, zero, suc, _+_, _<_}
-use mathlib.Core.Bool.{Bool, true, false, not, _||_}
+use mathlib.Core.Bool.{Bool, true, false, not}
 use mathlib.Core.List.{List, _++_}
 use mathlib.Core.Path.{_≡_, refl, sym, ap, subst, _∙_}
 use mathlib.Core.Logic.{_↔_}
@@ -9,8 +9,8 @@ use lib.ListN.{length, drop, getD, List·getD-append}
 use lib.Dec.{T, eqb, ltb, leb}
 use borrow.Author.Tests.{ltb-false, not-false}
 use Rattle.net.specs.Numbers.{among, any}
-use Rattle.net.specs.Net.{Net, input, Uncapped, hasCaps, tokens}
-use Rattle.net.specs.Range.{need, Covers, covers, Extent, every, partly, never, extent, FromEvery, FromSome, FromNone, Needs}
+use Rattle.net.specs.Net.{Net, input, output, Uncapped, hasCaps, tokens}
+use Rattle.net.specs.Range.{need, Covers, covers, Extent, every, partly, never, extent, FromEvery, FromSome, FromNone, Needs, MoreIsEnough}
 use Rattle.net.proofs.Numbers.{holds, is-true, same-test}
 use Rattle.net.proofs.Markings.{length-tokens, getD-tokens}
 use Rattle.net.proofs.Range as law
@@ -21,11 +21,11 @@ use Rattle.file_words.specs.Refusal.{refuse}
 use Rattle.file.specs.Refusal.{fileRefusal}
 use Rattle.file_header.specs.declared.Due.the-variants as due
 use Rattle.file.proofs.Caps.{none-capped}
-use Rattle.file_words.proofs.Laws.{refuse-0, orElse-0}
+use Rattle.file_words.proofs.Laws.{refuse-0, orElse-0, or-false}
 use Rattle.promise.specs.Calls.{written}
 use Rattle.promise.specs.Firing.{listRefusal}
 use Rattle.promise.specs.Together.{standing}
-use Rattle.promise.specs.Range.{upperWrong, rangeRefusal, RangeAnswer, rangeTold, rangeOr, rangeAnswer, rangeNeed, TellsRange, SameRange, NeedFits, MoreIsEnough}
+use Rattle.promise.specs.Range.{upperWrong, rangeRefusal, RangeAnswer, rangeTold, rangeOr, rangeAnswer, rangeNeed, TellsRange, SameRange, NeedFits, AskedAgain, FromTheNeed}
 use Rattle.promise.proofs.Effects.{sum-small}
 use Rattle.promise.proofs.Replays.{list-known, differ}
 
@@ -34,10 +34,11 @@ not-refused : (n : ℕ) (x : Extent) → rangeOr n x .refused ≡ false → n �
 not-refused zero x e = refl
 not-refused (suc n) x e = differ (sym e)
 
--- neither test of the upper list fails
-both-false : (a b : Bool) → a || b ≡ false → (a ≡ false) × (b ≡ false)
-both-false true b e = differ (sym e)
-both-false false b e = (refl, e)
+zero-refusal : (n : ℕ) (x : Extent) → rangeOr n x .refused ≡ false → rangeOr n x .refusal ≡ 0
+zero-refusal zero every e = refl
+zero-refusal zero partly e = refl
+zero-refusal zero never e = refl
+zero-refusal (suc n) x e = differ (sym e)
 
 -- the extent that the numbers tell
 told-every : (x : Extent) → (rangeTold x .every ≡ true) ↔ (x ≡ every)
@@ -88,7 +89,7 @@ module _ (plan list upper lent : List ℕ) where
 
     rises : Covers N (standing upper) (N .marking)
     unfolding upperWrong
-    rises = law.covers-yes N (standing upper) (N .marking) (not-false _ (both-false (not (eqb (length upper) (N .places))) (not (covers N (standing upper) (N .marking))) (parts .2) .1))
+    rises = law.covers-yes N (standing upper) (N .marking) (not-false _ (or-false (not (eqb (length upper) (N .places))) (not (covers N (standing upper) (N .marking))) (parts .2) .1))
 
     told : rangeAnswer plan list upper (length lent) ≡ rangeTold (extent N (standing upper) list)
     unfolding rangeAnswer
@@ -175,8 +176,32 @@ need-fits plan list b e l =
     let short = ltb-false 65535 (length list) (refuse-0 (ltb 65535 (length list)) 10 (refuse (any (λ t. leb (netOf plan .transitions) t) list) 12 0) l .0) in
     record { need-low = λ p. omega (arith, short, law.need-low (netOf plan) 268431360 (sum-small due.Plan plan b e 0) list p) }
 
-pub more-is-enough : (plan list upper : List ℕ) (a : RangeAnswer) (exit : List ℕ) → a .refused ≡ false → TellsRange plan list upper a exit → MoreIsEnough plan list
-unfolding Covers
-more-is-enough plan list upper a exit e x = record {
-  more = λ M M′ c f. x .needed e .exactly M′ .1 (λ p l. omega (arith, x .needed e .exactly M .0 f p l, c p l));
-}
+-- ---- what people conclude
+
+pub more-is-enough : (plan list upper : List ℕ) (a : RangeAnswer) (exit : List ℕ) → a .refused ≡ false → TellsRange plan list upper a exit → MoreIsEnough (netOf plan) list
+more-is-enough plan list upper a exit e x = law.more-is-enough (netOf plan) list (standing exit) (x .needed e)
+
+-- answers that are no refusals and agree in the rest are the same
+one-answer : (a b : RangeAnswer) → a .refused ≡ false → b .refused ≡ false → a .refusal ≡ 0 → b .refusal ≡ 0
+    → a .every ≡ b .every → a .partly ≡ b .partly → a .never ≡ b .never → a ≡ b
+one-answer a b e f z w x y n i = record { refused = (e ∙ sym f) i; refusal = (z ∙ sym w) i; every = x i; partly = y i; never = n i }
+
+pub asked-again : (plan list upper lent lent′ : List ℕ) → rangeAnswer plan list upper (length lent) .refused ≡ false → rangeAnswer plan list upper (length lent′) .refused ≡ false
+    → AskedAgain plan list upper lent lent′
+unfolding Covers rangeAnswer
+asked-again plan list upper lent lent′ e f =
+    let s = same-range plan list upper _ _ _ _ e f (tells plan list upper lent) (tells plan list upper lent′) in
+    let z = zero-refusal (rangeRefusal plan list upper (length lent)) _ e in
+    let w = zero-refusal (rangeRefusal plan list upper (length lent′)) _ f in
+    record {
+      same-answer = one-answer _ _ e f z w (s .same-every) (s .same-partly) (s .same-never);
+      same-covers = λ M. (λ c p l. omega (arith, c p l, s .same-need p l), λ c p l. omega (arith, c p l, s .same-need p l));
+    }
+
+pub from-the-need : (plan list : List ℕ) → Bytes plan → fileRefusal due.Plan plan ≡ 0 → listRefusal (netOf plan .transitions) list ≡ 0 → FromTheNeed plan list
+unfolding output listRefusal
+from-the-need plan list b e l =
+    let short = ltb-false 65535 (length list) (refuse-0 (ltb 65535 (length list)) 10 (refuse (any (λ t. leb (netOf plan .transitions) t) list) 12 0) l .0) in
+    record {
+      ends-low = λ p. omega (arith, short, need-fits plan list b e l .need-low p, law.after-low (netOf plan) 268431360 (sum-small due.Plan plan b e 1) (need (netOf plan) list) list p);
+    }

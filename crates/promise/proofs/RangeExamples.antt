@@ -12,13 +12,12 @@ use Rattle.file_header.specs.Refusal.{trailerRefusal}
 use Rattle.file.specs.Refusal.{originsRefusal, linksRefusal, bodyRefusal, fileRefusal}
 use Rattle.promise.specs.Firing.{listRefusal}
 use Rattle.promise.specs.Range.{upperWrong, rangeRefusal, rangeAnswer, rangeNeed}
-use Rattle.promise.specs.Promise.{emptySlice}
 use Rattle.promise.specs.Example.{smallPlan, parallelPlan}
 use Rattle.promise.specs.FullExample.{fullPlan, zeroPlan}
 use Rattle.promise.specs.RangeExample.{RangeRows}
 
 pub range-rows : RangeRows
-unfolding any selected below weightOn input output capped hasCaps tokens need covers extent le16 le32 trailerOf headerOf arcsFrom trailerRefusal arcsRefusal tableRefusal originsRefusal linksRefusal capsRefusal bodyRefusal fileRefusal listRefusal upperWrong rangeRefusal rangeAnswer rangeNeed emptySlice smallPlan parallelPlan fullPlan zeroPlan
+unfolding any selected below weightOn input output capped hasCaps tokens need covers extent le16 le32 trailerOf headerOf arcsFrom trailerRefusal arcsRefusal tableRefusal originsRefusal linksRefusal capsRefusal bodyRefusal fileRefusal listRefusal upperWrong rangeRefusal rangeAnswer rangeNeed smallPlan parallelPlan fullPlan zeroPlan
 range-rows = record {
   starred = record { answer = refl; need = refl };
   wide = record { answer = refl; need = refl };
@@ -32,13 +31,13 @@ range-rows = record {
   given-back = record { answer = refl; need = refl };
   of-a-sum = record { answer = refl; need = refl };
   no-caps = record { answer = refl; need = refl };
-  no-plan = refl;
-  capped-no-plan = refl;
-  capped = refl;
-  unknown = refl;
-  four-entries = refl;
-  six-entries = refl;
-  below-the-plan = refl;
-  little-room = refl;
-  kept = refl;
+  just-room = refl;
+  no-plan = λ list upper lent. record { answer = refl; kept = refl };
+  capped = λ list upper lent. record { answer = refl; kept = refl };
+  long = λ list upper lent e. record { answer = rw e; kept = rw e };
+  unknown = λ upper lent. record { answer = refl; kept = refl };
+  four-entries = λ lent. record { answer = refl; kept = refl };
+  six-entries = λ lent. record { answer = refl; kept = refl };
+  below-the-plan = λ lent. record { answer = refl; kept = refl };
+  little-room = record { answer = refl; kept = refl };
 }

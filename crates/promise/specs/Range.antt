@@ -6,7 +6,7 @@ use mathlib.Core.Path.{_≡_}
 use mathlib.Core.Logic.{_↔_}
 use lib.ListN.{length}
 use lib.Dec.{eqb, ltb}
-use Rattle.net.specs.Net.{Marking, Net, Fires, hasCaps, tokens}
+use Rattle.net.specs.Net.{Marking, Net, after, hasCaps, tokens}
 use Rattle.net.specs.Range.{need, Covers, covers, Extent, every, partly, never, extent, FromEvery, FromSome, FromNone, Needs}
 use Rattle.file.specs.Layout.{netOf}
 use Rattle.file_words.specs.Refusal.{refuse, orElse}
@@ -76,6 +76,11 @@ pub record SameRange (plan : List ℕ) (a b : RangeAnswer) (exit exit′ : List 
 pub record NeedFits (plan list : List ℕ) : Type 0 where
   pub need-low : (p : ℕ) → need (netOf plan) list p < 2 ^ 44
 
--- what people conclude from a need that was written: who has more has enough
-pub record MoreIsEnough (plan list : List ℕ) : Type 0 where
-  pub more : (M M′ : Marking) → Covers (netOf plan) M′ M → Fires (netOf plan) M list → Fires (netOf plan) M′ list
+-- what people conclude: asked again with other entries lent, the call gives the same answer, and the same markings cover what it writes
+pub record AskedAgain (plan list upper lent lent′ : List ℕ) : Type 0 where
+  pub same-answer : rangeAnswer plan list upper (length lent) ≡ rangeAnswer plan list upper (length lent′)
+  pub same-covers : (M : Marking) → Covers (netOf plan) M (standing (rangeNeed plan list upper lent)) ↔ Covers (netOf plan) M (standing (rangeNeed plan list upper lent′))
+
+-- and a list fired from just what it needs "stays below 2 to the power 45", as document 01 says of a replayed marking
+pub record FromTheNeed (plan list : List ℕ) : Type 0 where
+  pub ends-low : (p : ℕ) → after (netOf plan) (need (netOf plan) list) list p < 2 ^ 45

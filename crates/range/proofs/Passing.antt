@@ -1,6 +1,6 @@
 -- What is known where nothing is refused, and the answer in numbers where something is.
 use Prim.Native.Nat.{ℕ, zero, suc, _≤_}
-use mathlib.Core.Bool.{Bool, true, false, not, _||_}
+use mathlib.Core.Bool.{Bool, true, false, not}
 use mathlib.Core.List.{List}
 use mathlib.Core.Path.{_≡_, refl, sym, ap, _∙_}
 use lib.ListN.{length}
@@ -11,11 +11,10 @@ use Rattle.net.specs.Range.{covers, Extent}
 use Rattle.file_words.specs.Refusal.{refuse}
 use Rattle.file.specs.Layout.{netFrom}
 use Rattle.file_header.specs.declared.Header.{Header}
-use Rattle.file_words.proofs.Laws.{refuse-0, orElse-0, orElse-stop}
+use Rattle.file_words.proofs.Laws.{refuse-0, orElse-0, orElse-stop, or-false}
 use Rattle.promise.specs.Firing.{listRefusal}
 use Rattle.promise.specs.Together.{standing}
 use Rattle.promise.specs.Range.{upperWrong, RangeAnswer, rangeTold, rangeOr}
-use Rattle.promise.proofs.Replays.{differ}
 use Rattle.inputs_lists.proofs.Passing as listed
 use Rattle.range.specs.Told.{heldBack}
 use Rattle.range.specs.Need.{Known}
@@ -47,10 +46,6 @@ module _ (s : List ℕ) (h : Header) (list upper : List ℕ) (room : ℕ) where
 
 -- ---- where nothing is refused
 
-both-false : (a b : Bool) → a || b ≡ false → a ≡ false
-both-false true b e = differ (sym e)
-both-false false b e = refl
-
 module _ (s : List ℕ) (h : Header) (list upper : List ℕ) (room : ℕ) {n : ℕ} (e : n ≡ heldBack s h list upper room) (z : n ≡ 0) where
   tests : (listRefusal (h .transitions) list ≡ 0) × (upperWrong (netFrom s h) upper ≡ false) × (ltb room (h .places) ≡ false)
   tests =
@@ -66,7 +61,7 @@ module _ (s : List ℕ) (h : Header) (list upper : List ℕ) (room : ℕ) {n : �
   unfolding upperWrong
   as-many =
       eqb-true (length upper) (h .places)
-      (not-false _ (both-false (not (eqb (length upper) (h .places))) (not (covers (netFrom s h) (standing upper) (netFrom s h .marking))) (tests .1)))
+      (not-false _ (or-false (not (eqb (length upper) (h .places))) (not (covers (netFrom s h) (standing upper) (netFrom s h .marking))) (tests .1) .0))
 
   pub room-enough : h .places ≤ room
   room-enough = ltb-false room (h .places) (tests .2)
