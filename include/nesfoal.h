@@ -10,7 +10,7 @@
  * - A byte string, a list and a lent buffer are each a pointer and a count of entries. As many entries can be read there, and
  *   in a lent buffer written, until the call returns; they take at most PTRDIFF_MAX bytes, as every object in C does.
  * - Where the count is 0 the pointer is not used: it may be null, or point anywhere. With any other count it is not null.
- * - Lists of 16 bits and of 64 bits stand at the alignment of their type; byte strings may stand at any address.
+ * - Lists of 16, 32 and 64 bits stand at the alignment of their type; byte strings may stand at any address.
  * - Each result pointer (int32_t *, uint32_t * or uint64_t * without a count) is not null and points to one number, at its
  *   alignment.
  * - What a call writes overlaps nothing else that it is given: a lent buffer and a result overlap no input, no other buffer
@@ -48,8 +48,8 @@
 #define NESFOAL_MAX_LIST_ENTRIES 65535
 
 /* Room that always suffices, whatever the plan and the list, so that 13 is not met: bytes for the slice that a cut writes,
- * 45,072 (8 for a marking and a cap, 8 for an arc, 2 for an origin, 16 for the trailer); entries for a marking, of a replay or
- * of what nesfoal_together leaves; entries for a shadow; entries for the positions of a run cut.
+ * 45,072 (8 for a marking and a cap, 8 for an arc, 2 for an origin, 16 for the trailer); entries for a marking, of a replay,
+ * of what nesfoal_together leaves or of what nesfoal_range needs; entries for a shadow; entries for the positions of a run cut.
  */
 #define NESFOAL_SLICE_ROOM \
     (8 * NESFOAL_MAX_PLACES + 8 * NESFOAL_MAX_ARCS + 2 * NESFOAL_MAX_PLACES + 2 * NESFOAL_MAX_TRANSITIONS + 16)
@@ -71,10 +71,12 @@
 #define NESFOAL_STACK_SHADOW 41984
 #define NESFOAL_STACK_TOGETHER 1024
 #define NESFOAL_STACK_ARCS 1024
+#define NESFOAL_STACK_RANGE 6144
 
 /* What the calls return, but for nesfoal_arcs. In the order of checking: files come first (plan before slice), then
- * criterion, list or transition, marking, and last the buffer; each file is gone through from 1 to 5, then 16, then its arcs
- * one by one, 6 before 7, then 8. So a plan is refused with 1 to 7 or 16, a slice with 1 to 8 or 16: 'of the file' below.
+ * criterion, list or transition, marking or upper list, and last the buffer; each file is gone through from 1 to 5, then 16,
+ * then its arcs one by one, 6 before 7, then 8. So a plan is refused with 1 to 7 or 16, a slice with 1 to 8 or 16: 'of the
+ * file' below.
  */
 enum {
     NESFOAL_DONE = 0,
@@ -98,12 +100,15 @@ enum {
     NESFOAL_REFUSED_STUCK = 14,      /* list of a run cut: it sticks; comes after 12 */
     NESFOAL_REFUSED_MARKING = 15,    /* marking: not as many entries as the plan has places */
     NESFOAL_REFUSED_CAP = 16,        /* a place: its marking above its cap, if that is not 0; comes after 5 */
-    NESFOAL_REFUSED_CAPPED = 17,     /* plan of a run cut: some place has a cap; comes after the plan's own */
-    NESFOAL_LAST_REFUSAL = 17,       /* answers from 1 to this one are refusals */
+    NESFOAL_REFUSED_CAPPED = 17,     /* plan of a run cut or of a range: some place has a cap; comes after the plan's own */
+    NESFOAL_REFUSED_UPPER = 21,      /* upper list: not as many entries as the plan has places, or one below the plan's marking */
+    NESFOAL_LAST_REFUSAL = 21,       /* answers from 1 to this one are refusals */
 
     NESFOAL_STUCK = 100,     /* of a replay or a run with its shadow: a transition lacks tokens */
     NESFOAL_FULL = 101,      /* of the same: it has them, and would leave a place above its cap */
     NESFOAL_UNLIMITED = 100, /* of nesfoal_together: the transition takes nothing */
+    NESFOAL_SOME = 100,      /* of nesfoal_range: the list fires from some markings in the range, but not from all */
+    NESFOAL_NONE = 101,      /* of the same: from none; from every one is 0, NESFOAL_DONE */
     NESFOAL_RULE = 100       /* of a check: plus the number of the broken rule, 1 to 10 */
 };
 
@@ -198,6 +203,23 @@ uint32_t nesfoal_together(const uint8_t *plan, size_t plan_length,
                           const uint64_t *marking, size_t marking_count,
                           uint64_t *rest, size_t rest_count,
                           uint64_t *times);
+
+/* Attendance known within a range: before roll call the tokens of each place lie between the plan's marking and upper, both
+ * included. Does a list of the plan's transitions fire from every marking in that range, from some but not all, or from none? And
+ * what does it need? From a marking, in the range or not, the list fires exactly where that marking has at least need's tokens on
+ * each place; so need is the least marking from which it fires.
+ * Plans with caps are refused, since there more tokens can block a firing.
+ *
+ * upper: the most tokens of each place, as many entries as the plan has places, none below the plan's marking.
+ * Returns 0 from every marking, NESFOAL_SOME or NESFOAL_NONE; or a refusal: that of the plan, 17 where a place has a cap, 11, 12,
+ * 21, and 13 where need has fewer entries than the plan has places.
+ * The first entries of need, one for each place, become the tokens needed there, whichever of the three is answered; each is
+ * below 2 to the power 44. Later entries keep their values.
+ */
+uint32_t nesfoal_range(const uint8_t *plan, size_t plan_length,
+                       const uint16_t *list, size_t list_count,
+                       const uint32_t *upper, size_t upper_count,
+                       uint64_t *need, size_t need_count);
 
 /* The safety cut of a plan for a criterion (places of the plan, strictly rising): the smallest slice that nesfoal_check
  * accepts for them, written as a slice file without note, of the plan's edition. For no place either cut is the slice of 16

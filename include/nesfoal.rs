@@ -27,6 +27,7 @@ pub const NESFOAL_STACK_RUN_CUT: usize = 59392;
 pub const NESFOAL_STACK_SHADOW: usize = 41984;
 pub const NESFOAL_STACK_TOGETHER: usize = 1024;
 pub const NESFOAL_STACK_ARCS: usize = 1024;
+pub const NESFOAL_STACK_RANGE: usize = 6144;
 
 pub const NESFOAL_DONE: u32 = 0;
 pub const NESFOAL_ACCEPTED: u32 = 0;
@@ -47,10 +48,13 @@ pub const NESFOAL_REFUSED_STUCK: u32 = 14;
 pub const NESFOAL_REFUSED_MARKING: u32 = 15;
 pub const NESFOAL_REFUSED_CAP: u32 = 16;
 pub const NESFOAL_REFUSED_CAPPED: u32 = 17;
-pub const NESFOAL_LAST_REFUSAL: u32 = 17;
+pub const NESFOAL_REFUSED_UPPER: u32 = 21;
+pub const NESFOAL_LAST_REFUSAL: u32 = 21;
 pub const NESFOAL_STUCK: u32 = 100;
 pub const NESFOAL_FULL: u32 = 101;
 pub const NESFOAL_UNLIMITED: u32 = 100;
+pub const NESFOAL_SOME: u32 = 100;
+pub const NESFOAL_NONE: u32 = 101;
 pub const NESFOAL_RULE: u32 = 100;
 
 #[link(name = "nesfoal", kind = "static")]
@@ -142,6 +146,16 @@ extern "C" {
         rest: *mut u64,
         rest_len: usize,
         times: *mut u64,
+    ) -> u32;
+    pub fn nesfoal_range(
+        plan: *const u8,
+        plan_len: usize,
+        list: *const u16,
+        list_len: usize,
+        upper: *const u32,
+        upper_len: usize,
+        need: *mut u64,
+        need_len: usize,
     ) -> u32;
     pub fn nesfoal_check(
         plan: *const u8,

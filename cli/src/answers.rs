@@ -1,6 +1,6 @@
 //! What the program says. An answer is a sentence with holes: filled in, they are its words; their names and values are its JSON.
 
-use crate::library::{Side, Slice, Stop};
+use crate::library::{Extent, Side, Slice, Stop};
 use crate::net::{Arc, Net};
 use std::io::Write;
 
@@ -8,7 +8,7 @@ use std::io::Write;
 #[derive(Clone, Copy, Debug, PartialEq, Eq, PartialOrd, Ord)]
 pub enum Status {
     Good = 0,
-    /// Stuck, full, a rule broken.
+    /// Stuck, full, a list that does not always fire, a rule broken.
     Bad = 1,
     /// Refused, bad usage, an error.
     Refused = 2,
@@ -46,6 +46,7 @@ value! {
     i32: n => Value::Number(n.into());
     u16: n => Value::Number(n.into());
     u32: n => Value::Number(n.into());
+    u64: n => Value::Number(n.into());
     usize: n => Value::Number(n as i128);
     &[u8]: text => Value::Text(text.into());
     &str: text => Value::Text(text.into());
@@ -341,6 +342,31 @@ pub fn taken(times: u64, leaving: &[u64]) -> Answer {
 
 pub fn unlimited(leaving: &[u64]) -> Answer {
     answer!("unlimited", Good, "unlimited, leaving{leaving}", leaving)
+}
+
+/// A place that may have too few tokens for a list.
+pub struct Scarce {
+    pub place: usize,
+    pub least: u32,
+    pub most: u32,
+    pub needs: u64,
+}
+
+/// From which markings of a range a list fires; why not from all; and what it needs.
+pub fn range(extent: Extent, scarce: Option<Scarce>, needed: &[u64]) -> Answer {
+    let (outcome, status) = match extent {
+        Extent::Every => ("always", Status::Good),
+        Extent::Some => ("sometimes", Status::Bad),
+        Extent::None => ("never", Status::Bad),
+    };
+    let mut answer = Answer::new(outcome, status).say(outcome).say(" fires");
+    if let Some(Scarce { place, least, most, needs }) = scarce {
+        answer = answer.and_says(": place {place} has {least}", vec![place.into(), least.into()]);
+        answer =
+            if least < most { answer.and_says(" to {most}", vec![most.into()]) } else { answer.data("most", most) };
+        answer = answer.and_says(" and needs {needs}", vec![needs.into()]);
+    }
+    answer.and_says("; needed{needed}", vec![needed.into()])
 }
 
 pub fn written(file: &[u8], slice: &Slice) -> Answer {

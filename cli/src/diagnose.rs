@@ -15,6 +15,8 @@ pub struct Asked<'a> {
     pub list: &'a [u16],
     /// How many numbers the marking has.
     pub marking: usize,
+    /// Where a range was asked for, its upper end.
+    pub upper: Option<&'a [u32]>,
     /// Where a place or a transition was asked for by itself.
     pub place: Option<u32>,
     pub transition: Option<u32>,
@@ -45,6 +47,10 @@ impl Asked<'_> {
             Refusal::Buffer => of_call("buffer: shorter than what is written".into()),
             Refusal::Stuck => of_call("list: stuck".into()),
             Refusal::Marking => of_call(format!("marking: {}", not_for_each(self.marking, p))),
+            Refusal::Upper => of_call(format!("upper list: {}", upper(self.upper.unwrap_or(&[]), &file.bytes))),
+            Refusal::Capped if self.upper.is_some() => {
+                of_file("a plan with caps; there more tokens can block a firing, and no marking is the least".into())
+            }
             Refusal::Capped => of_file("a plan with caps; the cut for a run is of plans without".into()),
             _ => of_file(of_bytes(refusal, &file.bytes)),
         }
@@ -183,6 +189,18 @@ fn not_for_each(count: usize, places: usize) -> String {
     format!("{numbers}; P is {places}")
 }
 
+/// The first entry of an upper list that is below the plan's marking, where there is one for each place.
+fn upper(upper: &[u32], plan: &[u8]) -> String {
+    let below = Net::by_trailer(plan).filter(|net| net.trailer.places == upper.len()).and_then(|net| {
+        let tokens = (0..upper.len()).map(|p| net.tokens(p).unwrap_or(0));
+        tokens.zip(upper).enumerate().find(|(_, (tokens, &most))| *tokens > most)
+    });
+    match below {
+        Some((p, (tokens, most))) => format!("entry {p} is {most}: below the plan's {tokens}"),
+        None => not_for_each(upper.len(), places(plan)),
+    }
+}
+
 /// The first entry of a list that is no transition.
 fn list(list: &[u16], transitions: usize) -> String {
     match list.iter().enumerate().find(|(_, &n)| usize::from(n) >= transitions) {
@@ -200,16 +218,20 @@ fn bytes(n: usize) -> String {
 mod tests {
     use super::*;
 
+    /// The same numbers each time, each below what is asked.
+    fn numbers_from(mut seed: u64) -> impl FnMut(usize) -> usize {
+        move |below| {
+            seed = seed.wrapping_mul(6364136223846793005).wrapping_add(1442695040888963407);
+            (seed >> 33) as usize % below
+        }
+    }
+
     /// Files with bytes changed at random: each that is refused has a sentence of its own, which names the rule that was broken.
     #[test]
     fn every_refusal_has_its_reason() {
         let plan = std::fs::read(concat!(env!("CARGO_MANIFEST_DIR"), "/../plans/full-kerb.plan")).unwrap();
         let slice = library::safety(&plan, &[2]).ok().unwrap().bytes;
-        let mut seed = 1u64;
-        let mut random = move |below: usize| {
-            seed = seed.wrapping_mul(6364136223846793005).wrapping_add(1442695040888963407);
-            (seed >> 33) as usize % below
-        };
+        let mut random = numbers_from(1);
         let mut met = std::collections::BTreeMap::new();
         for round in 0..40_000 {
             let mut file = if round % 2 == 0 { plan.clone() } else { slice.clone() };
@@ -240,5 +262,34 @@ mod tests {
             }
         }
         assert_eq!(met.keys().copied().collect::<Vec<_>>(), [1, 2, 3, 4, 5, 6, 7, 8, 16]);
+    }
+    /// Upper lists at random: each that is refused has a sentence of its own.
+    #[test]
+    fn every_entry_has_its_reason() {
+        let plan = |name: &str| {
+            let path = format!("{}/../plans/{name}.plan", env!("CARGO_MANIFEST_DIR"));
+            File { name: name.into(), bytes: std::fs::read(path).unwrap() }
+        };
+        let files = ["small-kerb", "full-kerb", "loop"].map(plan);
+        let mut random = numbers_from(3);
+        let mut met = std::collections::BTreeMap::new();
+        let mut refused = |asked: Asked, refusal: Option<Refusal>| {
+            let Some(refusal) = refusal else { return };
+            let why = String::from_utf8(asked.refused(refusal).words()).unwrap();
+            assert!(
+                why.starts_with(&format!("refused {}: ", refusal.number())) && !why.contains("it is refused"),
+                "{why}"
+            );
+            *met.entry(refusal.number()).or_insert(0) += 1;
+        };
+        for _ in 0..20_000 {
+            let file = &files[random(3)];
+            let length = places(&file.bytes) + usize::from(random(8) == 0);
+            let upper: Vec<u32> = (0..length).map(|_| random(4) as u32).collect();
+
+            let asked = Asked { files: &[file], upper: Some(&upper), ..Asked::default() };
+            refused(asked, library::range(&file.bytes, &[], &upper).err());
+        }
+        assert_eq!(met.keys().copied().collect::<Vec<_>>(), [17, 21]);
     }
 }

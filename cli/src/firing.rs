@@ -1,11 +1,11 @@
-//! effect, arcs, replay, together, shadow: questions about transitions and lists of them.
+//! effect, arcs, replay, together, need, shadow: questions about transitions and lists of them.
 
-use crate::answers::{self, Answer};
+use crate::answers::{self, Answer, Scarce};
 use crate::call::{Call, Done};
 use crate::diagnose::{no_such, Asked};
-use crate::library::{self, Firing, Side};
+use crate::library::{self, Extent, Firing, Side};
 use crate::net::{arcs_of, places, transitions};
-use crate::numbers::{LIST, MARKING};
+use crate::numbers::{LIST, MARKING, UPPER};
 
 /// effect FILE PLACE TRANSITION
 pub fn effect(call: &mut Call) -> Done {
@@ -83,4 +83,22 @@ pub fn together(call: &mut Call) -> Done {
         Some(times) => answers::taken(times, &leaving),
         None => answers::unlimited(&leaving),
     })
+}
+
+/// need PLAN LIST [upto UPPER..]: without an upper list the range is the plan's own marking alone.
+pub fn need(call: &mut Call) -> Done {
+    let upto = call.find(1, "upto");
+    let list = call.list(1..upto.unwrap_or(call.words.len()), &LIST)?;
+    let given = upto.map(|upto| call.list_from(upto + 1, &UPPER)).transpose()?;
+    let plan = call.file(0)?;
+    let own = own_marking(&plan.bytes);
+    let own: Vec<u32> = own.iter().map(|&tokens| u32::try_from(tokens).unwrap_or(u32::MAX)).collect();
+    let upper = given.unwrap_or_else(|| own.clone());
+    let asked = Asked { files: &[&plan], list: &list, upper: Some(&upper), ..Asked::default() };
+    let (extent, need) = asked.granted(library::range(&plan.bytes, &list, &upper))?;
+    // the lowest place whose tokens may not do, or cannot
+    let held = if extent == Extent::None { &upper } else { &own };
+    let scarce = (0..need.len()).find(|&p| need[p] > held[p].into());
+    let scarce = scarce.map(|place| Scarce { place, least: own[place], most: upper[place], needs: need[place] });
+    call.tell(answers::range(extent, scarce, &need))
 }

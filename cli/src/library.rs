@@ -47,6 +47,7 @@ refusals! {
     Marking = NESFOAL_REFUSED_MARKING,
     Cap = NESFOAL_REFUSED_CAP,
     Capped = NESFOAL_REFUSED_CAPPED,
+    Upper = NESFOAL_REFUSED_UPPER,
 }
 
 impl Refusal {
@@ -220,6 +221,39 @@ pub fn together(plan: &[u8], transition: u32, marking: &[u64]) -> Result<(Option
     };
     rest.truncate(marking.len());
     Ok((times, rest))
+}
+
+/// From which markings of a range a list fires.
+#[derive(Clone, Copy, Debug, PartialEq, Eq)]
+pub enum Extent {
+    Every,
+    Some,
+    None,
+}
+
+/// From which markings between the plan's and `upper` a list fires, and the least marking that it needs.
+pub fn range(plan: &[u8], list: &[u16], upper: &[u32]) -> Result<(Extent, Vec<u64>), Refusal> {
+    let mut need = vec![0; NESFOAL_MARKING_ROOM];
+    let number = unsafe {
+        nesfoal_range(
+            plan.as_ptr(),
+            plan.len(),
+            list.as_ptr(),
+            list.len(),
+            upper.as_ptr(),
+            upper.len(),
+            need.as_mut_ptr(),
+            need.len(),
+        )
+    };
+    let extent = match number {
+        NESFOAL_DONE => Extent::Every,
+        NESFOAL_SOME => Extent::Some,
+        NESFOAL_NONE => Extent::None,
+        _ => return Err(Refusal::of(number)),
+    };
+    need.truncate(upper.len());
+    Ok((extent, need))
 }
 
 /// A slice file as a cut wrote it.

@@ -1,5 +1,6 @@
 //! `nesfoal VERB ..`: cuts, checks and replays place/transition nets. It reads words and files, makes calls of the proved library, and
-//! says what they answer; it decides nothing. Exit status: 0; 1 stuck, full or a rule broken; 2 refused, bad usage or an error.
+//! says what they answer; it decides nothing. Exit status: 0; 1 stuck, full, not always fired or a rule broken; 2 refused, bad usage or an
+//! error.
 
 mod answers;
 mod call;

@@ -58,10 +58,14 @@ pub const LIST: Kind<u16> = Kind {
 pub const MARKING: Kind<u64> = Kind {
     name: "a marking",
     most: MAX_PLACES,
-    starts: &[b"fired", b"taken", b"unlimited,"],
-    ends: &[b"ending", b"leaving"],
+    starts: &[b"fired", b"taken", b"unlimited,", b"always", b"sometimes", b"never"],
+    ends: &[b"ending", b"leaving", b"needed"],
     entry: PhantomData,
 };
+
+/// The most tokens of each place.
+pub const UPPER: Kind<u32> =
+    Kind { name: "an upper list", most: MARKING.most, starts: MARKING.starts, ends: MARKING.ends, entry: PhantomData };
 
 /// The number that a text is: digits, at most `largest`.
 fn parsed(text: &[u8], largest: u64) -> Option<u64> {
@@ -124,7 +128,7 @@ pub fn list<T: Entry>(words: &[OsString], kind: &Kind<T>, input: &mut Input) -> 
 }
 
 /// The entries of a list's file. One with nothing but text in it is no list of bytes: as numbers of two bytes all would be above
-/// 2,312, and no net has so many places or transitions; of eight, above 651,061,555,542,690,056.
+/// 2,312, and no net has so many places or transitions; of four, above 151,587,080; of eight, above 651,061,555,542,690,056.
 fn of_bytes<T: Entry>(bytes: &[u8], kind: &Kind<T>) -> Result<Vec<T>, String> {
     if bytes.iter().all(|b| matches!(b, 9..=13 | 32..=126)) {
         return of_text(bytes, kind);
@@ -213,6 +217,7 @@ mod tests {
     #[test]
     fn bytes() {
         assert_eq!(of_bytes(&[1, 2, 0, 1], &LIST), Ok(vec![513, 256]));
+        assert_eq!(of_bytes(&[1, 0, 0, 128], &UPPER), Ok(vec![0x8000_0001]));
         assert_eq!(of_bytes(&[255; 8], &MARKING), Ok(vec![u64::MAX]));
         assert!(of_bytes(&[1, 2, 0], &LIST).is_err_and(|why| why.contains("an odd number of bytes")));
         assert_eq!(of_bytes(&[0; 200_000], &LIST).unwrap().len(), MAX_LIST_ENTRIES + 1);

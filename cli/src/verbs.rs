@@ -46,15 +46,15 @@ impl Verb {
 /// What the page of help says below the verbs.
 pub const NOTES: &str = "\
 FILE is a plan or a slice. Places and transitions are numbered from 0.
-Q, the criterion, is rising place numbers; LIST is transition numbers. Either may be empty; or @FILE,
-or - for standard input: numbers in text with white space between them, or two bytes an entry, low
-byte first. MARKING likewise, with eight bytes an entry.
+Q, the criterion, is rising place numbers; LIST is transition numbers; MARKING and UPPER are tokens, a
+number for each place. Each may be empty; or @FILE, or - for standard input: numbers in text with white
+space between them, or bytes, low byte first, two an entry (four in UPPER, eight in MARKING).
 One FILE may be - for standard input, and OUT for standard output.
 OUT that exists is replaced where it is a slice or empty; else --force, anywhere before --, replaces it.
 --json, anywhere before --: each answer is an object on a line of standard output, refusals and errors
 too. --version: the version of the library.
 Verdicts and lists go to standard output, refusals and errors to standard error.
-Exit status: 0; 1 stuck, full or a rule broken; 2 refused, bad usage or an error.
+Exit status: 0; 1 stuck, full, not always fired or a rule broken; 2 refused, bad usage or an error.
 ";
 
 #[rustfmt::skip] // an entry as it reads
@@ -179,6 +179,36 @@ Answers:
     taken N times, leaving ..  the tokens left on each place; one time more is not possible
     unlimited, leaving ..      the transition takes nothing; the marking is left as it is
     refused N: ..              the plan (1 to 7, 16), the transition (12) or the marking (15) is refused
+",
+    },
+    Verb {
+        name: "need",
+        forms: &[
+            ("PLAN LIST [upto UPPER..]", "from which markings the list fires, and what it needs"),
+        ],
+        takes: 1..=MANY,
+        run: firing::need,
+        text: "\
+For tokens that are known only within a range: each place has at least the plan's tokens and at most
+UPPER's, which is a number up to 4294967295 for each place. Without upto the range is the plan's own
+marking alone. The answer ends with the least marking that the list needs: the list fires from a
+marking exactly where each place has at least so many tokens. A plan with caps is refused, since there
+more tokens can block a firing. The answer may be piped into a verb whose MARKING is then -.
+
+Examples:
+    nesfoal need plans/small-kerb.plan 0 1 0 1 0 upto 5 1 0 0 0
+    nesfoal need plans/small-kerb.plan 0 1 0 1 2
+    nesfoal need plans/small-kerb.plan 0 0 | nesfoal together plans/small-kerb.plan 0 -
+
+Answers:
+    always fires; needed ..    from every marking in the range
+    sometimes fires: place P has N to N and needs N; needed ..
+                               from some markings in the range, not from all; the lowest place that may
+                               have too few (status 1)
+    never fires: place P has N to N and needs N; needed ..
+                               from none; the lowest place that has too few (status 1)
+    refused N: ..              the plan (1 to 8, 16; 17 where it has caps), the list (11, 12) or the upper
+                               list (21) is refused
 ",
     },
     Verb {

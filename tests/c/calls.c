@@ -844,6 +844,36 @@ static void shared(void)
     expect("a note of one byte", nesfoal_verdict(odd, 109, odd + 109, 78, (const uint16_t[]){2}, 1, &number), 0);
 }
 
+/* Attendance within a range (02, A11). */
+static void ranges(void)
+{
+    static const uint16_t all[] = {0, 1, 0, 1, 2}, third[] = {0, 1, 0, 1, 0}, ring[] = {2}, unknown[] = {4};
+    const struct {
+        const char *what;
+        const uint16_t *list;
+        size_t n;
+        uint32_t upper[6];
+        size_t upper_n, room;
+        uint32_t answer;
+        uint64_t need[6];
+    } cases[] = {
+        {"range, every", all, 5, {2, 1, 0, 0, 0}, 5, 6, 0, {2, 1, 0, 0, 0, 7}},
+        {"range, some", third, 5, {3, 1, 0, 0, 0}, 5, 5, NESFOAL_SOME, {3, 1, 0, 0, 0, 7}},
+        {"range, none", ring, 1, {2, 1, 0, 1, 0}, 5, 5, NESFOAL_NONE, {0, 0, 0, 2, 0, 7}},
+        {"range, the list before the upper list", unknown, 1, {0}, 1, 0, NESFOAL_REFUSED_TRANSITION, {7, 7, 7, 7, 7, 7}},
+        {"range, 4 entries", ring, 1, {2, 1, 0, 0}, 4, 0, NESFOAL_REFUSED_UPPER, {7, 7, 7, 7, 7, 7}},
+        {"range, below the plan", ring, 1, {2, 0, 9, 9, 9}, 5, 0, NESFOAL_REFUSED_UPPER, {7, 7, 7, 7, 7, 7}},
+        {"range, too little room", ring, 1, {2, 1, 0, 0, 0}, 5, 4, NESFOAL_REFUSED_BUFFER, {7, 7, 7, 7, 7, 7}},
+    };
+    for (size_t i = 0; i < sizeof cases / sizeof cases[0]; i++) {
+        uint64_t need[6] = {7, 7, 7, 7, 7, 7};
+        expect(cases[i].what, nesfoal_range(plan, 108, cases[i].list, cases[i].n, cases[i].upper, cases[i].upper_n, need, cases[i].room), cases[i].answer);
+        expect(cases[i].what, memcmp(need, cases[i].need, sizeof need), 0);
+    }
+    expect("range, caps", nesfoal_range(capped, 128, NULL, 0, NULL, 0, NULL, 0), NESFOAL_REFUSED_CAPPED);
+    expect("range, nothing", nesfoal_range(NULL, 0, NULL, 0, NULL, 0, NULL, 0), NESFOAL_REFUSED_LENGTH);
+}
+
 int main(void)
 {
     effects();
@@ -862,6 +892,7 @@ int main(void)
     above_caps();
     nulls();
     shared();
+    ranges();
     printf("%u passed, %u failed\n", passed, failed);
     return failed != 0;
 }
