@@ -1,10 +1,11 @@
 //! A case of each call: what is handed in, and the whole answer of the second implementation.
 
 use crate::cut::{cut, Cut};
+use crate::range::Extent;
 use crate::replay::{Hindrance, Replayed};
 use crate::run_cut::RunCut;
 use crate::together::Together;
-use crate::{arcs, check, effect, replay, run_cut, shadow, together};
+use crate::{arcs, check, effect, range, replay, run_cut, shadow, together};
 use std::fmt::Write;
 
 /// Entries that are lent to a call, standing inside a larger piece of memory.
@@ -393,6 +394,43 @@ impl Case for TogetherCase {
             (0, _) => "2^32-or-more".into(),
             (100, _) => "unlimited".into(),
             (n, _) => n.to_string(),
+        }
+    }
+}
+
+#[derive(Clone, Debug)]
+pub struct RangeCase {
+    pub plan: Lent<u8>,
+    pub list: Lent<u16>,
+    pub upper: Lent<u32>,
+    pub need: Lent<u64>,
+}
+
+impl Case for RangeCase {
+    fn second(&self) -> Answer {
+        let mut lent = self.need.clone();
+        let number = match range::range(self.plan.part(), self.list.part(), self.upper.part(), lent.part_mut()) {
+            Ok(Extent::Every) => 0,
+            Ok(Extent::SomeNotAll) => 100,
+            Ok(Extent::Never) => 101,
+            Err(refusal) => refusal,
+        };
+        Answer::new(number, [0; 0], vec![Cells::Longs(lent.cells)])
+    }
+
+    fn show(&self) -> String {
+        show_bytes("plan", &self.plan)
+            + &show_numbers("list", &self.list)
+            + &format!("  upper ({} entries): {:?}\n", self.upper.len, self.upper.part())
+            + &format!("  need: {} entries lent\n", self.need.len)
+    }
+
+    fn outcome(&self, answer: &Answer) -> String {
+        match answer.number {
+            0 => "every".into(),
+            100 => "some".into(),
+            101 => "none".into(),
+            n => n.to_string(),
         }
     }
 }

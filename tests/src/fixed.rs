@@ -8,6 +8,9 @@ use crate::published;
 use crate::read::read;
 
 pub mod capped;
+mod range;
+
+pub use range::ranges;
 
 /// A case and the answer that the papers give; `cells` only where the example states them.
 pub struct Fixed<C> {
@@ -1235,6 +1238,11 @@ mod tests {
     #[test]
     fn taking_examples() {
         hold(takings());
+    }
+
+    #[test]
+    fn range_examples() {
+        hold(ranges());
     }
 
     #[test]

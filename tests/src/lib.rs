@@ -9,6 +9,7 @@ pub mod cut;
 pub mod effect;
 pub mod list;
 pub mod net;
+pub mod range;
 pub mod read;
 pub mod replay;
 pub mod run_cut;

@@ -4,6 +4,7 @@ use super::*;
 use crate::cases::*;
 use crate::cut::{self, Cut};
 use crate::net::{Kind, Net, MAX_LIST};
+use crate::range::least_marking;
 use crate::read::read;
 use crate::replay::{fire_list, Replayed};
 use crate::rng::Rng;
@@ -298,11 +299,82 @@ pub fn together_case(rng: &mut Rng) -> TogetherCase {
 }
 
 /// Another number of entries: one more or less, none, or far more.
-fn change_length(rng: &mut Rng, marking: &mut Vec<u64>) {
-    let length = marking.len();
+fn change_length<T: Copy + From<u8>>(rng: &mut Rng, entries: &mut Vec<T>) {
+    let length = entries.len();
     let far = length + rng.range(2, 2_000);
     let other = *rng.pick(&[length + 1, length + 1, length.saturating_sub(1), length.saturating_sub(1), 0, far]);
-    marking.resize(if other == length { length + 1 } else { other }, 7);
+    entries.resize(if other == length { length + 1 } else { other }, T::from(7));
+}
+
+/// The most tokens of each place: those of the plan, a few more, one short of what the list needs, just that, or far above.
+fn upper_for(rng: &mut Rng, net: &Net, list: &[u16]) -> Vec<u32> {
+    let known = list.len() <= MAX_LIST && list.iter().all(|&t| usize::from(t) < net.transitions());
+    let uncapped = Net { caps: vec![0; net.places()], ..net.clone() };
+    let need = least_marking(&uncapped, if known { list } else { &[] });
+    let need: Vec<u32> = need.iter().map(|&n| u32::try_from(n).unwrap_or(u32::MAX)).collect();
+    let scarce: Vec<usize> = (0..net.places()).filter(|&p| need[p] > net.marking[p]).collect();
+    let style = rng.below(8);
+    let mut upper: Vec<u32> = (0..net.places())
+        .map(|p| {
+            let (held, needed) = (net.marking[p], need[p].max(net.marking[p]));
+            let any = held.max(rng.next() as u32);
+            match style {
+                0 => held,
+                1 => u32::MAX,
+                2..=4 => needed.saturating_add(rng.below(2) as u32),
+                5 => held.saturating_add(rng.below(3) as u32),
+                _ => *rng.pick(&[held, needed, needed, needed.saturating_add(1), any, u32::MAX]),
+            }
+        })
+        .collect();
+    // One token short at one place.
+    if !scarce.is_empty() && rng.percent(30) {
+        let p = *rng.pick(&scarce);
+        upper[p] = need[p] - 1;
+    }
+    upper
+}
+
+/// An upper list with an entry below the plan's, where a place has tokens; else of another length.
+fn spoil_upper(rng: &mut Rng, net: &Net, upper: &mut Vec<u32>) {
+    let marked: Vec<usize> = (0..net.places()).filter(|&p| net.marking[p] > 0).collect();
+    if marked.is_empty() || rng.percent(40) {
+        return change_length(rng, upper);
+    }
+    let p = *rng.pick(&marked);
+    upper[p] = *rng.pick(&[net.marking[p] - 1, 0]);
+    if rng.percent(20) {
+        change_length(rng, upper);
+    }
+}
+
+pub fn range_case(rng: &mut Rng) -> RangeCase {
+    let aim = rng.below(100);
+    let mut draft = if rng.percent(97) { plan_with_arcs(rng) } else { plan(rng) };
+    // Caps are refused: mostly there are none.
+    if draft.has_caps() && rng.percent(80) {
+        draft.caps.clear();
+    }
+    let net = net_of(&draft);
+    let mut file = draft.bytes();
+    if aim < 24 {
+        file = bad_file(rng, Some(Kind::Plan));
+    }
+    // Lists that stick from the plan's marking, more often than not.
+    let list = match aim {
+        24 | 25 => long_list(rng, &net),
+        26..=31 => unknown_list(rng, &net),
+        32..=65 if net.transitions() > 0 => (0..rng.range(1, 9)).map(|_| rng.below(net.transitions()) as u16).collect(),
+        _ => list_for(rng, &net),
+    };
+    let mut upper = upper_for(rng, &net, &list);
+    // Faults met later stand there too, now and then.
+    if (32..40).contains(&aim) || aim < 32 && rng.percent(20) {
+        spoil_upper(rng, &net, &mut upper);
+    }
+    let short = (40..47).contains(&aim) || aim < 40 && rng.percent(20);
+    let len = buffer_length(rng, net.places(), short);
+    RangeCase { plan: lend(rng, &file), list: lend(rng, &list), upper: lend(rng, &upper), need: lend_out(rng, len) }
 }
 
 /// Plan, slice and criterion for the checker.
@@ -414,6 +486,7 @@ mod tests {
         share("shadow", shadow_case, &[0, 100, 101, 1, 2, 3, 4, 5, 6, 7, 8, 11, 12, 13, 16]);
         share("run_cut", run_cut_case, &[0, 14, 1, 2, 3, 4, 5, 6, 7, 10, 11, 12, 13, 16, 17]);
         share("together", together_case, &[0, 100, 1, 2, 3, 4, 5, 6, 7, 12, 13, 15, 16]);
+        share("range", range_case, &[0, 100, 101, 1, 2, 3, 4, 5, 6, 7, 11, 12, 13, 16, 17, 21]);
         let mut checker = vec![0, 1, 2, 3, 4, 5, 6, 7, 8, 10, 16];
         checker.extend(101..=110);
         share("verdict", verdict_case, &checker);

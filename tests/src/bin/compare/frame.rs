@@ -160,8 +160,9 @@ pub fn compare<C: Call>(settings: &Settings) -> bool {
         }
         let theirs = C::library(&one.case);
         let due = one.fault(&theirs);
+        let second = one.case.second();
         for side in &sides {
-            let ours = side.spoilt(one.case.second());
+            let ours = side.spoilt(second.clone());
             if theirs != ours || due.is_some() {
                 side.found.difference(&side.name, &format!("fixed case: {}", one.name), || {
                     show(&one.case, &theirs, &ours) + due.as_deref().unwrap_or_default()

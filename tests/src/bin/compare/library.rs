@@ -167,6 +167,25 @@ pub fn together(case: &TogetherCase) -> Answer {
     Answer { inputs_kept, ..Answer::new(number, [times], vec![Cells::Longs(rest.cells)]) }
 }
 
+#[cfg(feature = "range")]
+pub fn range(case: &RangeCase) -> Answer {
+    let (plan, list, upper, mut need) = (case.plan.clone(), case.list.clone(), case.upper.clone(), case.need.clone());
+    let number = unsafe {
+        nesfoal_range(
+            plan.pointer(),
+            plan.len,
+            list.pointer(),
+            list.len,
+            upper.pointer(),
+            upper.len,
+            need.pointer_mut(),
+            need.len,
+        )
+    };
+    let inputs_kept = plan == case.plan && list == case.list && upper == case.upper;
+    Answer { inputs_kept, ..Answer::new(number, [0; 0], vec![Cells::Longs(need.cells)]) }
+}
+
 #[cfg(feature = "check")]
 pub fn check(case: &CheckCase) -> Answer {
     let (plan, slice, q) = (case.plan.clone(), case.slice.clone(), case.q.clone());

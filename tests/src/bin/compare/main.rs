@@ -14,6 +14,7 @@
     feature = "run_cut",
     feature = "shadow",
     feature = "together",
+    feature = "range",
     feature = "check"
 )))]
 compile_error!("no call to compare: turn a feature on");
@@ -35,6 +36,8 @@ mod effect;
 mod fed;
 #[cfg(feature = "check")]
 mod guarantee;
+#[cfg(feature = "range")]
+mod range;
 #[cfg(feature = "replay")]
 mod replay;
 #[cfg(feature = "run_cut")]
@@ -94,6 +97,8 @@ fn comparisons() -> Vec<fn(&Settings) -> bool> {
         |s| frame::compare::<shadow::Shadow>(s),
         #[cfg(feature = "together")]
         |s| frame::compare::<together::Together>(s),
+        #[cfg(feature = "range")]
+        |s| frame::compare::<range::Range>(s),
         #[cfg(feature = "check")]
         |s| frame::compare::<check::Check>(s),
         #[cfg(feature = "check")]

@@ -69,7 +69,7 @@ impl Ran {
         let (out, error) = (String::from_utf8_lossy(&self.run.stdout), String::from_utf8_lossy(&self.run.stderr));
         let (status, said, silent) = match due.says.split(' ').next() {
             Some("refused" | "error:") => (2, &error, &out),
-            Some("stuck" | "full" | "rule") => (1, &out, &error),
+            Some("stuck" | "full" | "rule" | "sometimes" | "never") => (1, &out, &error),
             _ => (0, &out, &error),
         };
         let fault = |text: &str| Some(format!("  says: {out}{error}  due:  {}\n  {text}\n", due.says));

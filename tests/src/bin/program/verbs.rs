@@ -5,6 +5,7 @@ use nesfoal_tests::check::{verdict, Verdict};
 use nesfoal_tests::cut::{cut, Cut, Written};
 use nesfoal_tests::fixed::{self, Fixed};
 use nesfoal_tests::net::{Kind, Refusal, MAX_FILE, MAX_LIST, MAX_PLACES};
+use nesfoal_tests::range::{range, Extent};
 use nesfoal_tests::read::read;
 use nesfoal_tests::replay::{replay, Hindrance, Replayed};
 use nesfoal_tests::rng::Rng;
@@ -18,6 +19,7 @@ pub const OUT: &str = "out";
 const LIST: &str = "list";
 const CRITERION: &str = "criterion";
 const MARKING: &str = "marking";
+const UPPER: &str = "upper";
 
 #[derive(Clone)]
 pub struct Due {
@@ -131,6 +133,18 @@ pub fn all() -> Vec<Verb> {
             fixed: || each(fixed::takings(), of_together),
             random: |rng| of_together(&gen::together_case(rng)),
             spoils: &[("times", |due| replace(due, "taken ", "taken 1")), ABOVE],
+        },
+        Verb {
+            name: "need",
+            outcomes: "always sometimes never 1 2 3 4 5 6 7 11 12 16 17 21",
+            fixed: || each(fixed::ranges(), of_need),
+            random: |rng| of_need(&gen::range_case(rng)),
+            spoils: &[
+                ("some", |due| replace(due, "sometimes", "always")),
+                ("needs", |due| replace(due, "needs ", "needs 1")),
+                ("upper", |due| replace(due, "refused 21", "refused 15")),
+                ABOVE,
+            ],
         },
         Verb {
             name: "safety",
@@ -330,6 +344,64 @@ fn of_together(case: &TogetherCase) -> Asked {
         Err(n) => refused(n, "plan"),
     };
     Asked::new(&["together", "plan", &t.to_string()], &[("plan", &case.plan)], due).marking(marking, own)
+}
+
+fn of_need(case: &RangeCase) -> Asked {
+    let (plan, list, upper) = (case.plan.part(), case.list.part(), case.upper.part());
+    let net = read(plan, Some(Kind::Plan));
+    let own = net.as_ref().map_or(Vec::new(), |net| net.marking.clone());
+    let mut need = vec![0; MAX_PLACES];
+    let due = match range(plan, list, upper, &mut need) {
+        Ok(extent) => {
+            let need = &need[..own.len()];
+            let tokens: String = need.iter().map(|n| format!(" {n}")).collect();
+            // The lowest place that may have too few, or, where the list never fires, that has.
+            let scarce = |held: &[u32]| {
+                let p = (0..need.len()).find(|&p| need[p] > u64::from(held[p])).expect("a place has too few");
+                let to = if own[p] < upper[p] { format!(" to {}", upper[p]) } else { String::new() };
+                format!(": place {p} has {}{to} and needs {}", own[p], need[p])
+            };
+            match extent {
+                Extent::Every => Due::new("always", format!("always fires; needed{tokens}\n")),
+                Extent::SomeNotAll => {
+                    Due::new("sometimes", format!("sometimes fires{}; needed{tokens}\n", scarce(&own)))
+                }
+                Extent::Never => Due::new("never", format!("never fires{}; needed{tokens}\n", scarce(upper))),
+            }
+        }
+        Err(21) => Due::new(21, format!("refused 21: upper list: {}\n", wrong_upper(upper, &own))),
+        Err(n) => refused(n, "plan"),
+    };
+    let mut asked = Asked::new(&["need", "plan"], &[("plan", &case.plan)], due).list(list);
+    // Without an upper list the range is the plan's own marking alone.
+    if net.is_ok() && own == upper && own.len() % 2 == 1 {
+        return asked;
+    }
+    asked.words.push("upto".into());
+    if upper.is_empty() || upper.len() % 8 == 5 {
+        asked.files.push((UPPER, upper.iter().flat_map(|n| n.to_le_bytes()).collect()));
+        asked.words.push(format!("@{UPPER}"));
+    } else {
+        asked.words.extend(upper.iter().map(|n| n.to_string()));
+    }
+    asked
+}
+
+/// Why an upper list is refused.
+fn wrong_upper(upper: &[u32], own: &[u32]) -> String {
+    if upper.len() != own.len() {
+        return format!("{}; P is {}", how_many(upper.len()), own.len());
+    }
+    let p = (0..own.len()).find(|&p| upper[p] < own[p]).expect("an entry is below");
+    format!("entry {p} is {}: below the plan's {}", upper[p], own[p])
+}
+
+/// How many numbers a list has that should have one for each place.
+fn how_many(count: usize) -> String {
+    if count > MAX_PLACES {
+        return "more than 1,024 numbers".into();
+    }
+    counted(count, "number")
 }
 
 fn of_cut(case: &CutCase) -> Asked {
