@@ -25,6 +25,7 @@ pub fn agree(cases: u64) -> bool {
         call("run_cut", cases, fixed::run_cuts(), gen::run_cut_case, run_cut),
         call("shadow", cases, fixed::shadows(), gen::shadow_case, shadow),
         call("together", cases, fixed::takings(), gen::together_case, together),
+        call("range", cases, fixed::ranges(), gen::range_case, range),
         call("check", cases, fixed::checks(), gen::check_case, check),
         call("verdict", cases, fixed::verdicts(), gen::verdict_case, verdict),
     ];
@@ -133,6 +134,14 @@ fn together(c: &TogetherCase) -> Answer {
     let number =
         unsafe { tuned::together(plan.pointer(), plan.len, c.transition, from, entries, to, room, &mut times) };
     Answer::new(number, [times], vec![Cells::Longs(lent.cells)])
+}
+
+fn range(c: &RangeCase) -> Answer {
+    let (plan, list, upper, mut lent) = (&c.plan, &c.list, &c.upper, c.need.clone());
+    let (to, room) = (lent.pointer_mut(), lent.len);
+    let (from, firings) = (list.pointer(), list.len);
+    let number = unsafe { tuned::range(plan.pointer(), plan.len, from, firings, upper.pointer(), upper.len, to, room) };
+    Answer::new(number, [0; 0], vec![Cells::Longs(lent.cells)])
 }
 
 fn check(c: &CheckCase) -> Answer {

@@ -45,6 +45,7 @@ type Shadow = unsafe extern "C" fn(
     *mut u32,
 ) -> u32;
 type Together = unsafe extern "C" fn(*const u8, usize, u32, *const u64, usize, *mut u64, usize, *mut u64) -> u32;
+type Range = unsafe extern "C" fn(*const u8, usize, *const u16, usize, *const u32, usize, *mut u64, usize) -> u32;
 type Check = unsafe extern "C" fn(*const u8, usize, *const u8, usize, *const u8, usize) -> u32;
 type Verdict = unsafe extern "C" fn(*const u8, usize, *const u8, usize, *const u16, usize, *mut u32) -> u32;
 
@@ -60,6 +61,7 @@ pub struct Program {
     run_cut: Option<RunCut>,
     shadow: Option<Shadow>,
     together: Option<Together>,
+    range: Option<Range>,
 }
 
 /// The library's function if the feature of this name is on.
@@ -84,6 +86,7 @@ pub const LIBRARY: Program = Program {
     run_cut: of_library!(nesfoal_run_cut, "run_cut"),
     shadow: of_library!(nesfoal_shadow, "shadow"),
     together: of_library!(nesfoal_together, "together"),
+    range: of_library!(nesfoal_range, "range"),
 };
 
 pub const TUNED: Program = Program {
@@ -97,6 +100,7 @@ pub const TUNED: Program = Program {
     run_cut: Some(tuned::run_cut),
     shadow: Some(tuned::shadow),
     together: Some(tuned::together),
+    range: Some(tuned::range),
 };
 
 #[derive(Clone, Copy, PartialEq, Eq, Debug)]
@@ -114,9 +118,10 @@ pub enum Call {
     RunCut,
     Shadow,
     Together,
+    Range,
 }
 
-pub const CALLS: [Call; 12] = [
+pub const CALLS: [Call; 13] = [
     Call::ReadPlan,
     Call::ReadSlice,
     Call::Effect,
@@ -129,6 +134,7 @@ pub const CALLS: [Call; 12] = [
     Call::RunCut,
     Call::Shadow,
     Call::Together,
+    Call::Range,
 ];
 
 impl Call {
@@ -146,7 +152,13 @@ impl Call {
             Call::RunCut => "run cut",
             Call::Shadow => "shadow",
             Call::Together => "together",
+            Call::Range => "range",
         }
+    }
+
+    /// Whether the call refuses plans with caps.
+    pub fn without_caps(self) -> bool {
+        matches!(self, Call::RunCut | Call::Range)
     }
 
     /// Whether the call does no more than read a file.
@@ -211,6 +223,7 @@ impl<'a> Job<'a> {
             Call::RunCut => program.run_cut.is_some(),
             Call::Shadow => program.shadow.is_some(),
             Call::Together => program.together.is_some(),
+            Call::Range => program.range.is_some(),
         };
         let buffers = Buffers { marking: vec![0; 1_024], slice: vec![0; 65_536], out: vec![0; 65_535] };
         there.then_some(Job { program, call, input, values: Values::default(), buffers })
@@ -290,6 +303,13 @@ impl<'a> Job<'a> {
                 arguments.push(&raw mut self.values.times as u64);
                 program.together.unwrap() as *const ()
             }
+            Call::Range => {
+                read_part(&mut arguments, &input.plan);
+                read_part(&mut arguments, &input.list);
+                read_part(&mut arguments, &input.upper);
+                written_part(&mut arguments, &mut self.buffers.marking);
+                program.range.unwrap() as *const ()
+            }
         };
         Words { function, arguments }
     }
@@ -367,6 +387,11 @@ impl<'a> Job<'a> {
                 let call = program.together.unwrap();
                 let (to, room) = (marking.as_mut_ptr(), marking.len());
                 Box::new(move || unsafe { call(plan.0, plan.1, taking, tokens.0, tokens.1, to, room, times) })
+            }
+            Call::Range => {
+                let (call, upper) = (program.range.unwrap(), part(&input.upper));
+                let (to, room) = (marking.as_mut_ptr(), marking.len());
+                Box::new(move || unsafe { call(plan.0, plan.1, list.0, list.1, upper.0, upper.1, to, room) })
             }
         }
     }

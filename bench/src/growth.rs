@@ -11,7 +11,7 @@ pub fn print(effort: Effort) {
     );
     println!("longer each doubling of the files' bytes takes (steps that are not exact doublings are scaled to one).");
     println!(
-        "Replay, run cut and shadow keep lists of 65,535 throughout, so they grow mainly with the arcs of a firing."
+        "Replay, run cut, shadow and range keep lists of 65,535 throughout, so they grow mainly with the arcs of a firing."
     );
     println!(
         "Random nets: sixteen of each size in turn. On one and the same net again and again, branches are learnt by"
@@ -35,7 +35,7 @@ pub fn print(effort: Effort) {
         println!("| call | program | 1/8 | 1/4 | 1/2 | 1 | 1/4 : 1/8 | 1/2 : 1/4 | 1 : 1/2 |");
         println!("|---|---|---|---|---|---|---|---|---|");
         for call in CALLS {
-            if family[0][0].capped && call == Call::RunCut {
+            if family[0][0].capped && call.without_caps() {
                 continue;
             }
             family.iter().flatten().for_each(|input| agree(call, input));

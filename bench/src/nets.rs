@@ -28,9 +28,11 @@ pub struct Input {
     /// A transition with inputs, and a marking from which they are taken: any 64-bit numbers.
     pub taking: u32,
     pub tokens: Vec<u64>,
+    /// The upper end of a range of markings: the plan's own, so that the list fires from all of it.
+    pub upper: Vec<u32>,
     /// Places, transitions and arcs of the plan and of the slice.
     pub counts: [[usize; 3]; 2],
-    /// The plan has caps, so that there is no run cut.
+    /// The plan has caps, so that there is no run cut and no range.
     pub capped: bool,
 }
 
@@ -66,6 +68,7 @@ impl Input {
             transition: middle.transition.into(),
             taking: input.expect("a transition with inputs").transition.into(),
             tokens: (0..net.places()).map(|_| rng.next()).collect(),
+            upper: net.marking.clone(),
             counts,
             capped: net.has_caps(),
         }

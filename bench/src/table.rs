@@ -29,11 +29,10 @@ pub fn print(effort: Effort) {
         for call in CALLS {
             // The refilled net is there for its long list alone.
             let extra = input.name == "small, refilled";
-            // There is no run cut of a plan with caps.
-            if input.capped && call == Call::RunCut {
+            if input.capped && call.without_caps() {
                 continue;
             }
-            if !extra || call.only_reads() || matches!(call, Call::Replay | Call::RunCut | Call::Shadow) {
+            if !extra || call.only_reads() || matches!(call, Call::Replay | Call::RunCut | Call::Shadow | Call::Range) {
                 println!("{}", line(call.name(), call, inputs, effort));
             }
         }

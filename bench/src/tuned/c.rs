@@ -143,6 +143,20 @@ pub unsafe extern "C" fn together(
     super::together::together(plan, transition, marking, rest, &mut *times)
 }
 
+pub unsafe extern "C" fn range(
+    plan: *const u8,
+    plan_len: usize,
+    list: *const u16,
+    list_len: usize,
+    upper: *const u32,
+    upper_len: usize,
+    need: *mut u64,
+    need_len: usize,
+) -> u32 {
+    let (plan, list, upper) = (lent(plan, plan_len), lent(list, list_len), lent(upper, upper_len));
+    super::range::range(plan, list, upper, lent_out(need, need_len))
+}
+
 pub unsafe extern "C" fn check(
     plan: *const u8,
     plan_len: usize,

@@ -12,6 +12,7 @@ mod criterion;
 mod cut;
 mod effect;
 mod list;
+mod range;
 mod read;
 mod replay;
 mod run_cut;
@@ -21,4 +22,4 @@ mod together;
 #[cfg(feature = "vectors")]
 mod vectors;
 
-pub use c::{arcs, branching, check, effect, replay, run_cut, safety, shadow, together, verdict};
+pub use c::{arcs, branching, check, effect, range, replay, run_cut, safety, shadow, together, verdict};

@@ -138,6 +138,29 @@ impl Moves {
         }
     }
 
+    /// What a list needs, from its last firing back: in one loop over the moves of a transition from its last to its first, those that
+    /// give come first. What is given beyond the need shows in the sign, and is 0.
+    ///
+    /// # Safety
+    /// As for `begin` and `run`; no place has a cap.
+    #[inline(always)]
+    pub unsafe fn needed(self, h: &Header, numbers: &[u16], needed: *mut i64) {
+        let Moves { starts, moves } = self;
+        starts::fill(starts, h.transitions + 1);
+        needed.write_bytes(0, h.places);
+        for &t in numbers.iter().rev() {
+            let from = usize::from(*starts.add(usize::from(t)));
+            let mut j = usize::from(*starts.add(usize::from(t) + 1));
+            while j > from {
+                j -= 1;
+                let m = *moves.add(j);
+                let at = needed.add((m & 1023) as usize);
+                let before = *at - i64::from(m >> 10);
+                *at = before & !(before >> 63);
+            }
+        }
+    }
+
     /// Fires a list of the file that was read.
     ///
     /// # Safety
