@@ -1,15 +1,26 @@
--- The promises of the safety cut and of the run cut, as a C program reads the answer.
-use Prim.Native.Nat.{ℕ, zero, suc}
-use mathlib.Core.Path.{_≡_, refl, sym, subst, subst⁻¹, _∙_}
+-- The promises of the safety cut, of the run cut and of a range, as a C program reads the answer.
+use Prim.Native.Nat.{ℕ, zero, suc, _≤_}
+use mathlib.Core.Path.{_≡_, refl, sym, ap, subst, subst⁻¹, _∙_}
+use mathlib.Core.Bool.{not, _||_}
 use mathlib.Core.List.{List}
+use native.Mathlib.Omega.{arith}
 use lib.ListN.{length}
+use borrow.Author.Tests.{ne-eqb}
+use Rattle.net.specs.Net.{counted}
 use Rattle.net.specs.Cut.{safety}
 use Rattle.net.specs.Slice.{Slice}
+use Rattle.net.specs.Range.{Extent, every, partly, never, extent}
+use Rattle.file.specs.Layout.{netOf}
 use Rattle.promise.specs.Calls.{CutAnswer, cutAnswer, cutOf, writeRefusal, safetyFile, safetyAnswer}
 use Rattle.promise.specs.Promise.{WritesSmallest}
 use Rattle.promise.specs.RunCut.{RunAnswer, RunsBack}
+use Rattle.promise.specs.Together.{standing}
+use Rattle.promise.specs.Range.{rangeRefusal, rangeOr, rangeAnswer, rangeNeed, TellsRange}
+use Rattle.promise.proofs.Range.{tells-range}
+use Rattle.promise.proofs.Ranges.{range-le}
 use Rattle.nesfoal.specs.Cuts.{cutRead}
 use Rattle.nesfoal.specs.Recorded.{runRead}
+use Rattle.nesfoal.specs.Ranges.{rangeCode, rangeRead}
 
 -- what is read is the answer
 as-read : (n len : ℕ) (S : Slice) → let a = cutAnswer n len S in cutRead (a .refusal) (a .length) (a .places) (a .transitions) ≡ a
@@ -39,3 +50,21 @@ pub run-for-c : (plan Q list : List ℕ) (a : RunAnswer) {exit positions : List 
 run-for-c plan Q list a {exit} {positions} e x er en ep et ec ei eq em =
     subst⁻¹ (λ (y : RunAnswer). RunsBack plan Q list y exit positions) (λ j. runRead (er j) (en j) (ep j) (et j) (ec j) (ei j) (eq j) (em j))
     (run-as-read plan Q list a exit positions (subst (λ (y : RunAnswer). RunsBack plan Q list y exit positions) e x))
+
+-- no refusal of a range has the number of another answer
+range-as-read : (n : ℕ) (x : Extent) → n ≤ 21 → rangeRead (rangeCode (rangeOr n x)) ≡ rangeOr n x
+range-as-read zero every h = refl
+range-as-read zero partly h = refl
+range-as-read zero never h = refl
+range-as-read (suc n) x h =
+    let all = ne-eqb (suc n) 0 (λ e. omega (arith, e)) in
+    let some = ne-eqb (suc n) 100 (λ e. omega (arith, h, e)) in
+    let none = ne-eqb (suc n) 101 (λ e. omega (arith, h, e)) in
+    λ i. record { refused = not (all i || some i || none i); refusal = counted (not (all i || some i || none i)) (suc n); every = all i; partly = some i; never = none i }
+
+pub range-for-c : (plan list upper lent : List ℕ) {r : ℕ} {exit : List ℕ} → r ≡ rangeCode (rangeAnswer plan list upper (length lent)) → exit ≡ rangeNeed plan list upper lent
+    → TellsRange plan list upper (rangeRead r) exit
+unfolding rangeAnswer
+range-for-c plan list upper lent e f =
+    let read = range-as-read (rangeRefusal plan list upper (length lent)) (extent (netOf plan) (standing upper) list) (range-le plan list upper (length lent)) in
+    tells-range plan list upper lent (ap rangeRead e ∙ read) f

@@ -1,6 +1,6 @@
-use mathlib.Core.Path.{refl, _∙_, ap}
-use Rattle.promise.proofs.Range.{tells-range}
+use mathlib.Core.Path.{_∙_, ap}
 use Rattle.nesfoal.specs.Ranges.{rangeCode}
+use Rattle.nesfoal.proofs.AsRead.{range-for-c}
 use borrow.Author.Needs.{needs}
 use Rattle.nesfoal.proofs.ranges.nesfoal_range.Statement.{statement}
 use Rattle.nesfoal.proofs.ranges.nesfoal_range.Tie as tie
@@ -17,7 +17,8 @@ same-length c = search needs
 returns : tie.Need-returns
 returns c =
     let e = c .before .before .before .range .ensures in
-    (c .code .ensures ∙ ap rangeCode (e .0), (e .1 .0, tells-range _ _ _ _ refl (e .1 .0)))
+    let r = c .code .ensures ∙ ap rangeCode (e .0) in
+    (r, (e .1 .0, range-for-c _ _ _ _ r (e .1 .0)))
 
 pub nesfoal-range-spec : {M : Type 1} → statement M
 nesfoal-range-spec = tie.close (tie.spec range-requires code-requires same-length returns)
