@@ -55,10 +55,7 @@ fn extent(net: &Net, numbers: &[u16], upper: &[u32]) -> Extent {
 fn all_between(lower: &[u64], upper: &[u64]) -> Vec<Vec<u64>> {
     let mut all = vec![Vec::new()];
     for (&least, &most) in lower.iter().zip(upper) {
-        all = all
-            .iter()
-            .flat_map(|head| (least..=most).map(move |held| [head.as_slice(), &[held]].concat()))
-            .collect();
+        all = all.iter().flat_map(|head| (least..=most).map(move |held| [head.as_slice(), &[held]].concat())).collect();
     }
     all
 }
