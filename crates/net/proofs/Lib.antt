@@ -18,3 +18,4 @@ pub mod Together
 pub mod Range
 pub mod Feeding
 pub mod Run
+pub mod Normal
