@@ -1,9 +1,10 @@
--- The bytes of a slice file without note: "A slice written by a cut has no note" (document 01, "Plan and slice files").
+-- The bytes of a file without note (document 01, "Plan and slice files"): of a slice, "A slice written by a cut has no note"; of a plan, "without note" (document 02, A10 and A13).
 use Prim.Native.Nat.{ℕ, zero, suc, _+_, _*_}
 use mathlib.Core.List.{List, [], _∷_, _++_}
 use mathlib.Core.Bool.{Bool, true, false}
 use lib.ListN.{length}
 use lib.Dec.{eqb}
+use Rattle.net.specs.Net.{Net}
 use Rattle.net.specs.Slice.{Slice}
 use Rattle.net.specs.declared.Arc.{Arc}
 use Rattle.file_words.specs.Word.{bytes16, bytes32}
@@ -33,18 +34,27 @@ unfoldable pub originsBytes : List ℕ → List ℕ
 originsBytes [] = []
 originsBytes (o ∷ rest) = bytes16 o ++ originsBytes rest
 
--- "So the body length is 4P + 8A, and in a slice 2P + 2T more"; "becomes 8P + 8A, plus origins"
+-- body length (4), P (2), T (2), A (2), kind, edition, the letters BELL
+unfoldable pub trailerBytes : ℕ → ℕ → ℕ → ℕ → ℕ → ℕ → List ℕ
+trailerBytes kind edition body P T A = bytes32 body ++ bytes16 P ++ bytes16 T ++ bytes16 A ++ (kind ∷ edition ∷ 0x42 ∷ 0x45 ∷ 0x4C ∷ 0x4C ∷ [])
+
+-- "the body length is 4P + 8A"; in edition 2 it "becomes 8P + 8A"
+unfoldable pub planBody : ℕ → Net → ℕ
+planBody edition N = placesLength edition (N .places) + 8 * length (N .arcs)
+
+-- the whole file of a plan, of that edition: kind 0
+unfoldable pub planBytes : ℕ → Net → List ℕ
+planBytes edition N =
+    placesBytes edition (N .marking) (N .cap) 0 (N .places) ++ arcsBytes (N .arcs)
+    ++ trailerBytes 0 edition (planBody edition N) (N .places) (N .transitions) (length (N .arcs))
+
+-- "and in a slice 2P + 2T more"
 unfoldable pub sliceBody : ℕ → Slice → ℕ
 sliceBody edition S = placesLength edition (S .net .places) + 8 * length (S .net .arcs) + 2 * S .net .places + 2 * S .net .transitions
 
--- body length (4), P (2), T (2), A (2), kind 1, the edition, the letters BELL
-unfoldable pub trailerBytes : ℕ → Slice → List ℕ
-trailerBytes edition S =
-    bytes32 (sliceBody edition S) ++ bytes16 (S .net .places) ++ bytes16 (S .net .transitions) ++ bytes16 (length (S .net .arcs))
-    ++ (1 ∷ edition ∷ 0x42 ∷ 0x45 ∷ 0x4C ∷ 0x4C ∷ [])
-
--- the whole file, of that edition
+-- the whole file of a slice, of that edition: kind 1
 unfoldable pub sliceBytes : ℕ → Slice → List ℕ
 sliceBytes edition S =
     placesBytes edition (S .net .marking) (S .net .cap) 0 (S .net .places) ++ arcsBytes (S .net .arcs)
-    ++ originsBytes (S .placeOrigins) ++ originsBytes (S .transitionOrigins) ++ trailerBytes edition S
+    ++ originsBytes (S .placeOrigins) ++ originsBytes (S .transitionOrigins)
+    ++ trailerBytes 1 edition (sliceBody edition S) (S .net .places) (S .net .transitions) (length (S .net .arcs))

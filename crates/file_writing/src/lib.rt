@@ -1,1 +1,1 @@
-// The bytes of a slice file: definitions (specs/) that the writer's contracts cite, and the theorem that they read back (proofs/).
+// The bytes of a plan file and of a slice file: definitions (specs/) that the writers' contracts cite, and the theorems that they read back (proofs/).

@@ -18,14 +18,13 @@ use Rattle.file.specs.Facts.{Sound}
 use Rattle.file_arcs.specs.Layout.{arcAt, arcsFrom}
 use Rattle.file_header.specs.Layout.{placesLength}
 use Rattle.file.specs.Layout.{netFrom}
-use Rattle.file_words.specs.Word.{bytes16, bytes32}
 use Rattle.file_writing.specs.Writing.{arcsBytes, originsBytes, sliceBody, trailerBytes, sliceBytes}
 use Rattle.file_header.specs.declared.Header.{Header}
 use Rattle.file_writing.proofs.Bytes.{length-places, length-origins, length-arcs}
+use Rattle.file_writing.proofs.Parts.{length-trailer}
 use Rattle.file_arcs.proofs.Rows.{length-arcsFrom, range-at}
 use Rattle.slice_arcs.specs.Between.{keptArcs, Arcs, ArcsWritten}
 use Rattle.slice_arcs.proofs.Restricted.{arcs-restricted}
-use Rattle.slice_parts.specs.Trailer.{trailerFor}
 use Rattle.slice_parts.specs.Places.{keptPlaceBytes}
 use Rattle.slice_parts.proofs.Steps.{places-same}
 use Rattle.tables.proofs.Sets.{sets-after, sets-first, take-sets}
@@ -135,25 +134,27 @@ module _ (e : ℕ) (N : Net) (ps ts : List ℕ) where
   length-4 = omega (arith, length-append (M ++ A ++ originsBytes ps) (originsBytes ts), length-3, length-origins ts)
 
   -- the file's parts
-  file-parts : sliceBytes e (keeping N ps ts) ≡ M ++ A ++ originsBytes ps ++ originsBytes ts ++ trailerBytes e (keeping N ps ts)
+  abbrev R : List ℕ
+  R = trailerBytes 1 e (sliceBody e (keeping N ps ts)) (keeping N ps ts .net .places) (keeping N ps ts .net .transitions) (length (keeping N ps ts .net .arcs))
+
+  length-R : length R ≡ 16
+  length-R = length-trailer 1 e (sliceBody e (keeping N ps ts)) (keeping N ps ts .net .places) (keeping N ps ts .net .transitions) (length (keeping N ps ts .net .arcs))
+
+  file-parts : sliceBytes e (keeping N ps ts) ≡ M ++ A ++ originsBytes ps ++ originsBytes ts ++ R
   unfolding sliceBytes keeping
   file-parts =
-      ap (λ (l : List ℕ). l ++ A ++ originsBytes ps ++ originsBytes ts ++ trailerBytes e (keeping N ps ts))
+      ap (λ (l : List ℕ). l ++ A ++ originsBytes ps ++ originsBytes ts ++ R)
       (places-same e (λ i. N .marking (getD ps i 0)) (onKept ps (N .marking)) (λ i. N .cap (getD ps i 0)) (onKept ps (N .cap)) 0 (length ps)
       (λ i l. (below-at (length ps) (λ k. N .marking (getD ps k 0)) (0 + i) (omega arith), below-at (length ps) (λ k. N .cap (getD ps k 0)) (0 + i) (omega arith))))
 
-  trailer-is : trailerBytes e (keeping N ps ts) ≡ trailerFor e (body n) (length ps) (length ts) n
-  unfolding trailerBytes sliceBody keeping trailerFor
+  trailer-is : R ≡ trailerBytes 1 e (body n) (length ps) (length ts) n
+  unfolding sliceBody keeping
   trailer-is = refl
-
-  length-trailer : length (trailerBytes e (keeping N ps ts)) ≡ 16
-  unfolding trailerBytes bytes16 bytes32
-  length-trailer = refl
 
   pub file-length : length (sliceBytes e (keeping N ps ts)) ≡ placesLength e (length ps) + 2 * length ps + 8 * length (restrict ps ts (N .arcs)) + 2 * length ts + 16
   file-length =
-      let all = length-append (M ++ A ++ originsBytes ps ++ originsBytes ts) (trailerBytes e (keeping N ps ts)) in
-      omega (arith, ap length (file-parts), all, length-4, length-trailer)
+      let all = length-append (M ++ A ++ originsBytes ps ++ originsBytes ts) R in
+      omega (arith, ap length (file-parts), all, length-4, length-R)
 
   pub kept-places : length ps ≡ keeping N ps ts .net .places
   unfolding keeping
@@ -170,21 +171,20 @@ module _ (e : ℕ) (N : Net) (ps ts : List ℕ) where
       → ArcsWritten b₁ start (arcsBytes found) b₂ middle
       → b₃ ≡ sets b₂ middle (originsBytes ps)
       → b₄ ≡ sets b₃ (middle + 2 * length ps) (originsBytes ts)
-      → b₅ ≡ sets b₄ (middle + 2 * length ps + 2 * length ts) (trailerFor e (middle + 2 * length ps + 2 * length ts) (length ps) (length ts) ((middle - start) / 8))
+      → b₅ ≡ sets b₄ (middle + 2 * length ps + 2 * length ts) (trailerBytes 1 e (middle + 2 * length ps + 2 * length ts) (length ps) (length ts) ((middle - start) / 8))
       → b₅ ≡ sets s 0 (sliceBytes e (keeping N ps ts))
   parts-stored found start middle s b₁ b₂ b₃ b₄ b₅ same e₀ e₁ w e₃ e₄ e₅ =
       let P = originsBytes ps in
       let T = originsBytes ts in
-      let R = trailerBytes e (keeping N ps ts) in
       let end : ℕ = middle + 2 * length ps + 2 * length ts in
       let at : middle ≡ start + 8 * n = omega (arith, w .count, length-arcs found, ap length same) in
       let count : (middle - start) / 8 ≡ n = omega (arith, at) in
       let whole : end ≡ body n = omega (arith, at, e₀) in
-      let here₅ : b₅ ≡ sets b₄ end R = e₅ ∙ (λ i. sets b₄ end (trailerFor e (whole i) (length ps) (length ts) (count i))) ∙ ap (sets b₄ end) (sym trailer-is) in
+      let here₅ : b₅ ≡ sets b₄ end R = e₅ ∙ (λ i. sets b₄ end (trailerBytes 1 e (whole i) (length ps) (length ts) (count i))) ∙ ap (sets b₄ end) (sym trailer-is) in
       let to₄ = sets-after P T b₂ middle (middle + 2 * length ps) e₃ e₄ (omega (arith, length-origins ps)) in
       let to₅ = sets-after (P ++ T) R b₂ middle end to₄ here₅ (omega (arith, length-append P T, length-origins ps, length-origins ts)) in
       let rest : b₅ ≡ sets b₁ start (A ++ (P ++ T ++ R)) =
-      to₅ ∙ w .same (P ++ T ++ R) (omega (arith, length-append (P ++ T) R, length-trailer)) ∙ ap (λ (l : List Arc). sets b₁ start (arcsBytes l ++ (P ++ T ++ R))) same in
+      to₅ ∙ w .same (P ++ T ++ R) (omega (arith, length-append (P ++ T) R, length-R)) ∙ ap (λ (l : List Arc). sets b₁ start (arcsBytes l ++ (P ++ T ++ R))) same in
       let regroup : M ++ (A ++ (P ++ T ++ R)) ≡ M ++ A ++ P ++ T ++ R = simp append-assoc in
       sets-after M (A ++ (P ++ T ++ R)) s 0 start e₁ rest (omega (arith, length-1, e₀)) ∙ ap (sets s 0) (regroup ∙ sym (file-parts))
 

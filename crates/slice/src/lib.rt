@@ -53,7 +53,7 @@ fn write_parts(
     slice_parts::write_origins(ps, middle, buffer);
     slice_parts::write_origins(ts, end, buffer);
     let arcs = (middle - start) / 8;
-    slice_parts::write_trailer(h.edition, ps.len(), ts.len(), arcs, body, buffer);
+    slice_put::put_trailer(1, h.edition, ps.len(), ts.len(), arcs, body, buffer);
     let bytes = (body + 16) as u32;
     let kept_places = ps.len() as u32;
     let kept_transitions = ts.len() as u32;

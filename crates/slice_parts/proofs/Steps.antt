@@ -1,8 +1,8 @@
 -- One turn of each loop over kept numbers.
-use Prim.Native.Nat.{ℕ, zero, suc, _+_, _-_, _*_, _/_, _%_, _≤_, _<_}
+use Prim.Native.Nat.{ℕ, zero, suc, _+_, _-_, _≤_, _<_}
 use mathlib.Core.Bool.{Bool}
 use mathlib.Core.Logic.{_≢_}
-use mathlib.Core.List.{List, [], _∷_, _++_}
+use mathlib.Core.List.{List, [], _++_}
 use mathlib.Core.Path.{_≡_, refl, ap, _∙_}
 use native.Mathlib.Numerals.{add-one}
 use native.Mathlib.Omega.{arith}
@@ -58,15 +58,6 @@ module _ (s : List ℕ) (h : Header) (ps : List ℕ) where
     pub places-end : length ps ≤ i → placesFrom s h ps i ≡ []
     unfolding placesBytes
     places-end l = let z : length ps - i ≡ 0 = omega arith in rw z
-
--- kind 1 and the edition as one number
-pub kind-edition : (e : ℕ) → e ≤ 2 → bytes16 (1 + 256 * e) ≡ 1 ∷ e ∷ []
-unfolding bytes16
-kind-edition e h =
-    let kind : (1 + 256 * e) % 256 ≡ 1 = omega arith in
-    let whole : (1 + 256 * e) / 256 ≡ e = omega arith in
-    let small : e % 256 ≡ e = omega arith in
-    λ i. kind i ∷ (ap (λ (n : ℕ). n % 256) whole ∙ small) i ∷ []
 
 -- two numbers stored one after the other
 pub two-stored : (l : List ℕ) (i k : ℕ) {a b : List ℕ} {x y m c : ℕ} → k ≡ i + 4 → a ≡ sets l i (bytes32 x) → b ≡ sets a k (bytes32 y) → x ≡ m → y ≡ c → b ≡ sets l i (bytes32 m ++ bytes32 c)

@@ -1,4 +1,4 @@
-// The parts of a slice file that are not its arcs: places, origins, trailer.
+// The parts of the body of a slice file that are not its arcs: places, origins.
 ghost use mathlib.Core.Path.{_≡_};
 ghost use mathlib.Core.Logic.{_≢_};
 ghost use Prim.Native.Nat.{ℕ, _+_, _*_, _<_, _≤_};
@@ -9,10 +9,8 @@ ghost use Rattle.file_header.specs.Layout.{placesLength};
 ghost use Rattle.file.specs.Layout.{netFrom};
 ghost use Rattle.file_writing.specs.Writing.{originsBytes};
 ghost use Rattle.slice_parts.specs.Places.{keptPlaceBytes};
-ghost use Rattle.slice_parts.specs.Trailer.{trailerFor};
 use file_header::CAPS;
 use file_header::Header;
-use file_header::tail::LETTERS;
 
 // Writes the kept places in an edition without caps: 4 bytes each, the marking.
 fn write_markings(plan: &[u8], h: Header, ps: &[u16], buffer: &mut [u8])
@@ -74,25 +72,4 @@ pub fn write_origins(list: &[u16], start: usize, buffer: &mut [u8])
         slice_put::put16(buffer, start + 2 * i, list[i] as usize);
         i += 1;
     }
-}
-
-// Writes the trailer of that edition after a body of `body` bytes. The kind is 1, the edition the byte after it.
-pub fn write_trailer(
-    edition: usize,
-    places: usize,
-    transitions: usize,
-    arcs: usize,
-    body: usize,
-    buffer: &mut [u8],
-)
-    requires { ⌜ edition ≤ 2 ⌝ }
-    requires { ⌜ body + 16 ≤ length (now buffer) ⌝ }
-    ensures { λ _. ⌜ now (buffer .exit) ≡ sets (now (buffer .entry)) body (trailerFor edition body places transitions arcs) ⌝ }
-{
-    slice_put::put32(buffer, body, body);
-    slice_put::put16(buffer, body + 4, places);
-    slice_put::put16(buffer, body + 6, transitions);
-    slice_put::put16(buffer, body + 8, arcs);
-    slice_put::put16(buffer, body + 10, 1 + 256 * edition);
-    slice_put::put32(buffer, body + 12, LETTERS);
 }

@@ -1,10 +1,11 @@
-// Writes numbers and arcs into a byte slice, low byte first.
+// Writes numbers, arcs and trailers into a byte slice, low byte first.
 ghost use mathlib.Core.Path.{_≡_};
 ghost use Prim.Native.Nat.{_+_, _<_, _≤_};
 ghost use lib.ListN.{length};
 ghost use lib.Seq.{sets};
 ghost use Rattle.file_words.specs.Word.{bytes16, bytes32};
-ghost use Rattle.file_writing.specs.Writing.{arcBytes};
+ghost use Rattle.file_writing.specs.Writing.{arcBytes, trailerBytes};
+use file_header::tail::LETTERS;
 use net::Arc;
 
 // A number in 2 bytes.
@@ -35,4 +36,26 @@ pub fn put_arc(s: &mut [u8], at: usize, a: Arc)
     put16(s, at + 2, a.direction);
     put16(s, at + 4, a.place);
     put16(s, at + 6, a.weight);
+}
+
+// The trailer of a file of that kind, 0 a plan or 1 a slice, and edition, after a body of `body` bytes. The edition is the byte after the kind.
+pub fn put_trailer(
+    kind: usize,
+    edition: usize,
+    places: usize,
+    transitions: usize,
+    arcs: usize,
+    body: usize,
+    s: &mut [u8],
+)
+    requires { ⌜ (kind ≤ 1) × (edition ≤ 2) ⌝ }
+    requires { ⌜ body + 16 ≤ length (now s) ⌝ }
+    ensures { λ _. ⌜ now (s .exit) ≡ sets (now (s .entry)) body (trailerBytes kind edition body places transitions arcs) ⌝ }
+{
+    put32(s, body, body);
+    put16(s, body + 4, places);
+    put16(s, body + 6, transitions);
+    put16(s, body + 8, arcs);
+    put16(s, body + 10, kind + 256 * edition);
+    put32(s, body + 12, LETTERS);
 }

@@ -30,7 +30,7 @@ arcs-of c = c .before .before .before .before
 abbrev places-of : tie.After-write-origins2 → tie.After-write-origins
 places-of c = c .before .before .before .before
 
-abbrev transitions-of : tie.After-write-trailer → tie.After-write-origins2
+abbrev transitions-of : tie.After-put-trailer → tie.After-write-origins2
 transitions-of c = c .before .before .before .before
 
 -- the call, from the arcs
@@ -109,10 +109,10 @@ write-origins-requires-2 c κs = omega (arith, ends (arcs-of (c .before .before 
 sub-arcs : tie.Need-sub-arcs
 sub-arcs c = search needs
 
-write-trailer-requires : tie.Need-write-trailer-requires
-write-trailer-requires c κs =
+put-trailer-requires : tie.Need-put-trailer-requires
+put-trailer-requires c κs =
     let written = arcs-of (places-of (c .before .before .before)) in
-    (omega (arith, call written .pre .0 .placed .editionSmall), omega (arith, ends written))
+    ((omega arith, omega (arith, call written .pre .0 .placed .editionSmall)), omega (arith, ends written))
 
 -- the three numbers of the answer
 add-bytes : tie.Need-add-bytes
@@ -149,7 +149,7 @@ returns c =
     let ts = start .args .ts .now in
     room e (keeping N ps ts) (start .args .buffer .now) _ _ _ _ (start .pre .1 .1 .1)
     (parts-stored e N ps ts _ (long .places-length .result) (middle .write-arcs .result) (start .args .buffer .now) _ _ _ _ _ (found start) (long .places-length .ensures .0)
-    (marks .write-places .ensures) (middle .write-arcs .ensures) (places .write-origins .ensures) (transitions .write-origins2 .ensures) (trailer .write-trailer .ensures))
+    (marks .write-places .ensures) (middle .write-arcs .ensures) (places .write-origins .ensures) (transitions .write-origins2 .ensures) (trailer .put-trailer .ensures))
     (omega (arith, middle-is middle, file-length e N ps ts)) (kept-places e N ps ts) (kept-transitions e N ps ts)
 
 pub write-parts-spec : {M : Type 1} → statement M
@@ -166,7 +166,7 @@ write-parts-spec =
     write-origins-requires
     write-origins-requires-2
     sub-arcs
-    write-trailer-requires
+    put-trailer-requires
     add-bytes
     cast-bytes
     cast-kept-places

@@ -5,11 +5,11 @@ use mathlib.Core.Path.{ap, _∙_}
 use native.Mathlib.Omega.{arith}
 use lib.Seq.{sets}
 use Rattle.file_words.specs.Word.{bytes16, bytes32}
-use Rattle.slice_parts.specs.Trailer.{trailerFor}
+use Rattle.file_writing.specs.Writing.{trailerBytes}
 use Rattle.tables.proofs.Sets.{sets-after}
-use Rattle.slice_parts.proofs.Steps.{kind-edition}
-use Rattle.slice_parts.proofs.write_trailer.Statement.{statement}
-use Rattle.slice_parts.proofs.write_trailer.Tie as tie
+use Rattle.slice_put.proofs.Trailers.{kind-edition}
+use Rattle.slice_put.proofs.put_trailer.Statement.{statement}
+use Rattle.slice_put.proofs.put_trailer.Tie as tie
 
 put32-requires : tie.Need-put32-requires
 put32-requires c κs = search needs
@@ -54,7 +54,7 @@ same-length : tie.Need-same-length
 same-length c = search needs
 
 returns : tie.Need-returns
-unfolding trailerFor bytes32 bytes16
+unfolding trailerBytes bytes32 bytes16
 returns c =
     let letters = c .before .before in
     let kind = letters .before .before .before .before in
@@ -63,14 +63,15 @@ returns c =
     let places = transitions .before .before .before .before in
     let body = places .before .before .before .before in
     let start = body .before .before .before in
-    let s = start .args .buffer .now in
+    let s = start .args .s .now in
     let b = start .args .body in
+    let k = start .args .kind in
     let e = start .args .edition in
     let B = bytes32 b in
     let P = bytes16 (start .args .places) in
     let T = bytes16 (start .args .transitions) in
     let A = bytes16 (start .args .arcs) in
-    let K = bytes16 (1 + 256 * e) in
+    let K = bytes16 (k + 256 * e) in
     let L = bytes32 0x4C4C4542 in
     sets-after (B ++ P ++ T ++ A ++ K) L s b (b + 12)
     (sets-after (B ++ P ++ T ++ A) K s b (b + 10)
@@ -81,10 +82,10 @@ returns c =
     (arcs .put163 .ensures) (omega arith))
     (kind .put164 .ensures) (omega arith))
     (letters .put322 .ensures) (omega arith)
-    ∙ ap (λ (k : List ℕ). sets s b (B ++ P ++ T ++ A ++ k ++ L)) (kind-edition e (start .pre .0))
+    ∙ ap (λ (l : List ℕ). sets s b (B ++ P ++ T ++ A ++ l ++ L)) (kind-edition k e (start .pre .0 .0) (start .pre .0 .1))
 
-pub write-trailer-spec : {M : Type 1} → statement M
-write-trailer-spec =
+pub put-trailer-spec : {M : Type 1} → statement M
+put-trailer-spec =
     tie.close
     (tie.spec
     put32-requires
