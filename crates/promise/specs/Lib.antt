@@ -7,6 +7,7 @@ pub mod Exactness
 pub mod Together
 pub mod Rooms
 pub mod Range
+pub mod Normal
 pub mod Promise
 pub mod Uses
 pub mod Example
@@ -14,3 +15,4 @@ pub mod RunExample
 pub mod FullExample
 pub mod OrderExample
 pub mod RangeExample
+pub mod NormalExample
