@@ -1,4 +1,4 @@
--- The promises of the safety cut, of the run cut and of a range, as a C program reads the answer.
+-- The promises of the safety cut, of the normal form, of the run cut and of a range, as a C program reads the answer.
 use Prim.Native.Nat.{ℕ, zero, suc, _≤_}
 use mathlib.Core.Path.{_≡_, refl, sym, ap, subst, subst⁻¹, _∙_}
 use mathlib.Core.Bool.{not, _||_}
@@ -13,12 +13,14 @@ use Rattle.net.specs.Range.{Extent, every, partly, never, extent}
 use Rattle.file.specs.Layout.{netOf}
 use Rattle.promise.specs.Calls.{CutAnswer, cutAnswer, cutOf, writeRefusal, safetyFile, safetyAnswer}
 use Rattle.promise.specs.Promise.{WritesSmallest}
+use Rattle.promise.specs.Normal.{normalFile, normalWriteRefusal, FileAnswer, fileAnswer, normalAnswer, WritesNormal}
 use Rattle.promise.specs.RunCut.{RunAnswer, RunsBack}
 use Rattle.promise.specs.Together.{standing}
 use Rattle.promise.specs.Range.{rangeRefusal, rangeOr, rangeAnswer, rangeNeed, TellsRange}
 use Rattle.promise.proofs.Range.{tells-range}
 use Rattle.promise.proofs.Ranges.{range-le}
 use Rattle.nesfoal.specs.Cuts.{cutRead}
+use Rattle.nesfoal.specs.Files.{fileRead}
 use Rattle.nesfoal.specs.Recorded.{runRead}
 use Rattle.nesfoal.specs.Ranges.{rangeCode, rangeRead}
 
@@ -38,6 +40,18 @@ pub safety-for-c : (plan Q : List ℕ) (room : ℕ) {exit : List ℕ} {a : CutAn
 safety-for-c plan Q room {exit} e w er en ep et =
     let same = (λ i. cutRead (er i) (en i) (ep i) (et i)) ∙ safety-as-read plan Q room ∙ sym e in
     subst⁻¹ (λ (x : CutAnswer). WritesSmallest plan Q x exit) same w
+
+-- the same of the normal form
+file-as-read : (n len : ℕ) → let a = fileAnswer n len in fileRead (a .refusal) (a .length) ≡ a
+file-as-read zero len = refl
+file-as-read (suc n) len = refl
+
+pub normal-for-c : (plan : List ℕ) (room : ℕ) {exit : List ℕ} {a : FileAnswer} {r n : ℕ} → a ≡ normalAnswer plan room → WritesNormal plan a exit
+    → r ≡ normalAnswer plan room .refusal → n ≡ normalAnswer plan room .length → WritesNormal plan (fileRead r n) exit
+unfolding normalAnswer
+normal-for-c plan room {exit} e w er en =
+    let same = (λ i. fileRead (er i) (en i)) ∙ file-as-read (normalWriteRefusal plan room) (length (normalFile plan)) ∙ sym e in
+    subst⁻¹ (λ (x : FileAnswer). WritesNormal plan x exit) same w
 
 -- the run cut's promise speaks of the numbers alone
 run-as-read : (plan Q list : List ℕ) (a : RunAnswer) (exit positions : List ℕ) → RunsBack plan Q list a exit positions

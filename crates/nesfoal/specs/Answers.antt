@@ -6,6 +6,7 @@ use Rattle.together.specs.Told.{ToldApart as Takings}
 use Rattle.range.specs.Told.{ToldApart as Ranges}
 use Rattle.slice.specs.Kept.{ToldApart as Cuts}
 use Rattle.run_cut.specs.Told.{ToldApart as RunCuts}
+use Rattle.plan_put.specs.Told.{ToldApart as Files}
 use Rattle.call_firing.specs.Effect.{ToldApart as Changes}
 
 -- no two answers of a call have the same numbers
@@ -18,3 +19,4 @@ pub record Pinned : Type 0 where
   pub effect : Changes
   pub together : Takings
   pub range : Ranges
+  pub normal : Files

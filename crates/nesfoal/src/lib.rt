@@ -2,6 +2,7 @@
 // archive, so all of them stand here.
 pub mod cuts;
 pub mod effects;
+pub mod plans;
 pub mod ranges;
 pub mod recorded;
 pub mod replays;
