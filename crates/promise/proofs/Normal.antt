@@ -35,7 +35,7 @@ use Rattle.file_writing.proofs.Parts.{NetWritable}
 use Rattle.file_writing.proofs.PlanTrip.{plan-header, plan-back, plan-passes, plan-room}
 use Rattle.promise.specs.Calls.{written}
 use Rattle.promise.specs.Firing.{listRefusal, replayRefusal, replayOr, replayAnswer, replayMarking}
-use Rattle.promise.specs.Normal.{weightsRefusal, normalRefusal, normalFile, normalWriteRefusal, FileAnswer, fileAnswer, normalAnswer, normalBuffer, Weighed, NormalForm, OneForm, WritesNormal}
+use Rattle.promise.specs.Normal.{weightsRefusal, normalRefusal, normalFile, normalWriteRefusal, FileAnswer, fileAnswer, normalAnswer, normalBuffer, Weighed, NormalForm, OneForm, WritesNormal, OnePlan}
 use Rattle.promise.proofs.Joined.{joined-range, joined-rise, joined-same, rising-same, rising-ordered, joined-length, weights-fit, weights-25, light-sums, sums-light}
 use Rattle.promise.proofs.Replays.{differ}
 
@@ -324,3 +324,12 @@ module _ (plan buffer : List ℕ) (bytes : Bytes plan) where
   pub writes-normal : {a : FileAnswer} {exit : List ℕ} → a ≡ normalAnswer plan (length buffer) → exit ≡ normalBuffer plan buffer → WritesNormal plan a exit
   writes-normal {a} {exit} e f =
       subst⁻¹ (λ (x : FileAnswer). WritesNormal plan x exit) e (subst⁻¹ (λ (l : List ℕ). WritesNormal plan (normalAnswer plan (length buffer)) l) f writes)
+
+pub one-plan : (plan plan′ file file′ : List ℕ) → NormalForm plan file → NormalForm plan′ file′ → OnePlan plan plan′ file file′
+unfolding normalFile normalAnswer normalWriteRefusal
+one-plan plan plan′ file file′ x y = record {
+  one-file = λ e. sym (x .twice) ∙ ap (λ (N : Net). planBytes 2 (normalOf N)) (x .net ∙ ap (λ (l : List ℕ). normalOf (netOf l)) e ∙ sym (y .net)) ∙ y .twice;
+  replays = λ e list room. x .replayed list room ∙ ap (λ (l : List ℕ). replayAnswer l list room) e ∙ sym (y .replayed list room);
+  markings = λ e list marking. x .marked list marking ∙ ap (λ (l : List ℕ). replayMarking l list marking) e ∙ sym (y .marked list marking);
+  again = λ room l. rw (x .again, x .twice, le-ltb room (length file) l) refl;
+}

@@ -35,6 +35,7 @@ normal-rows = record {
   joined = refl;
   one-more = refl;
   a-slice = refl;
+  slice-above = refl;
   no-room-above = refl;
   little-room = refl;
   kept = refl;

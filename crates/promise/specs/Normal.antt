@@ -90,3 +90,11 @@ pub record WritesNormal (plan : List ℕ) (a : FileAnswer) (exit : List ℕ) : T
       → (take (normalAnswer other (length buffer) .length) (normalBuffer other buffer) ≡ take (a .length) exit) ↔ SameNet (netOf other) (netOf plan)
   -- 40,976 bytes hold any plan's normal form
   pub enough : a .refused ≡ false → a .length ≤ 40976
+
+-- what people conclude: a plan has one normal form, and two plans with the same one are replayed alike
+pub record OnePlan (plan plan′ file file′ : List ℕ) : Type 0 where
+  pub one-file : plan ≡ plan′ → file ≡ file′
+  pub replays : file ≡ file′ → (list : List ℕ) (room : ℕ) → replayAnswer plan list room ≡ replayAnswer plan′ list room
+  pub markings : file ≡ file′ → (list marking : List ℕ) → replayMarking plan list marking ≡ replayMarking plan′ list marking
+  -- and the file is taken again, and left as it is
+  pub again : (room : ℕ) → length file ≤ room → normalAnswer file room ≡ record { refused = false; refusal = 0; length = length file }

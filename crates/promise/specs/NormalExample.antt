@@ -40,6 +40,7 @@ pub record NormalRows : Type 0 where
   pub one-more : normalRefusal (twoArcs 255 255 1 0) ≡ 25
   -- the file first, then 25 "before the buffer", then 13
   pub a-slice : normalAnswer (safetyFile smallPlan (2 ∷ [])) 128 ≡ record { refused = true; refusal = 3; length = 0 }
+  pub slice-above : normalRefusal (set (twoArcs 64 156 64 156) 30 1) ≡ 3
   pub no-room-above : normalAnswer (twoArcs 64 156 64 156) 0 ≡ record { refused = true; refusal = 25; length = 0 }
   pub little-room : normalAnswer smallPlan 127 ≡ record { refused = true; refusal = 13; length = 0 }
   pub kept : normalBuffer smallPlan (9 ∷ 8 ∷ []) ≡ 9 ∷ 8 ∷ []
