@@ -1,9 +1,9 @@
 -- The normal form of a plan reads back as the plan with its parallel arcs joined, is its own normal form, and tells nets apart.
-use Prim.Native.Nat.{ℕ, zero, suc, _≤_, _<_}
+use Prim.Native.Nat.{ℕ, zero, suc, _+_, _*_, _≤_, _<_}
 use mathlib.Core.Bool.{Bool, true, false, _&&_, _||_}
 use mathlib.Core.List.{List, map}
 use mathlib.Core.Path.{_≡_, refl, sym, ap, subst, subst⁻¹, _∙_}
-use mathlib.Core.Logic.{_↔_}
+use mathlib.Core.Logic.{_↔_, _≢_}
 use native.Mathlib.Omega.{arith}
 use lib.ListN.{length, take, drop}
 use lib.Seq.{take-at}
@@ -17,7 +17,7 @@ use Rattle.net.proofs.Normal.{weight-joined, same-net, fares-alike, same-back, 
 use Rattle.file_words.specs.Word.{Bytes}
 use Rattle.file_words.specs.Refusal.{refuse, orElse}
 use Rattle.file_words.proofs.Laws.{refuse-0, orElse-0, or-false}
-use Rattle.file_header.specs.Layout.{trailerOf, headerOf}
+use Rattle.file_header.specs.Layout.{trailerOf, headerOf, placesLength, inSlice}
 use Rattle.file_header.specs.Refusal.{lettersWrong, kindWrong, countsWrong, trailerRefusal}
 use Rattle.file_header.specs.declared.Due.the-variants as due
 use Rattle.file_header.specs.declared.Header.{Header}
@@ -246,9 +246,6 @@ module _ (a b : List ℕ) (bytes-a : Bytes a) (bytes-b : Bytes b) (none-a : norm
   told-same : normalFile a ≡ normalFile b → SameNet Na Nb
   told-same e = same-through (same-net Na) (subst⁻¹ (λ (K : Net). SameNet K Nb) (nets-equal e) (same-back (same-net Nb)))
 
-  told-alike : normalFile a ≡ normalFile b → FaresAlike Na Nb
-  told-alike e = alike-through (fares-alike Na) (subst⁻¹ (λ (K : Net). FaresAlike K Nb) (nets-equal e) (alike-back (fares-alike Nb)))
-
   module _ (x : SameNet Na Nb) where
     marking-same : (p : ℕ) → Na .marking p ≡ Nb .marking p
     marking-same p = by-cases (ltb p (Na .places))
@@ -281,7 +278,7 @@ module _ (a b : List ℕ) (bytes-a : Bytes a) (bytes-b : Bytes b) (none-a : norm
     bytes-same = λ i. planBytes 2 (record { places = x .places i; transitions = x .transitions i; marking = λ p. marking-same p i; cap = λ p. cap-same p i; arcs = arcs-same i })
 
   pub one-form : OneForm a b
-  one-form = record { equal = (told-same, bytes-same); fares = told-alike }
+  one-form = record { equal = (told-same, bytes-same) }
 
 -- ---- at the call
 
@@ -310,14 +307,48 @@ module _ (plan buffer : List ℕ) (passed : normalAnswer plan (length buffer) .r
       ∙ take-at (normalFile plan) (drop (length (normalFile plan)) buffer) (normalAnswer plan (length buffer) .length) (sym length-told)
 
 module _ (plan buffer : List ℕ) (bytes : Bytes plan) where
-  writes : WritesNormal plan (normalAnswer plan (length buffer)) (normalBuffer plan buffer)
+  abbrev answered : FileAnswer
+  answered = normalAnswer plan (length buffer)
+
+  abbrev file : List ℕ
+  file = take (answered .length) (normalBuffer plan buffer)
+
+  module _ (passed : answered .refused ≡ false) where
+    form-written : NormalForm plan file
+    form-written = subst⁻¹ (NormalForm plan) (file-written plan buffer passed) (normal-form plan bytes (has-form plan buffer passed))
+
+    long-written : length file ≡ answered .length
+    long-written = ap length (file-written plan buffer passed) ∙ sym (length-told plan buffer passed)
+
+    -- the second call, on the file, with a buffer that is as long
+    module _ (second : List ℕ) (room : answered .length ≤ length second) where
+      again-passes : normalWriteRefusal file (length second) ≡ 0
+      unfolding normalWriteRefusal
+      again-passes = rw (form-written .again, form-written .twice, le-ltb (length second) (length file) (omega (arith, long-written, room))) refl
+
+      again-answer : normalAnswer file (length second) ≡ answered
+      unfolding normalAnswer
+      again-answer =
+          (λ i. fileAnswer (again-passes i) (length (form-written .twice i)))
+          ∙ (λ i. fileAnswer (sym (none-of plan buffer passed) i) (length (file-written plan buffer passed i)))
+
+      again-bytes : take (answered .length) (normalBuffer file second) ≡ file
+      again-bytes =
+          sym (ap (λ (a : FileAnswer). take (a .length) (normalBuffer file second)) again-answer)
+          ∙ file-written file second (ap (λ (a : FileAnswer). a .refused) again-answer ∙ passed)
+          ∙ form-written .twice
+
+  writes : WritesNormal plan answered (normalBuffer plan buffer)
   writes = record {
-    form = λ e. subst⁻¹ (NormalForm plan) (file-written plan buffer e) (normal-form plan bytes (has-form plan buffer e));
+    long = long-written;
+    form = form-written;
     one = λ e other room low f.
-        subst⁻¹ (λ (l : List ℕ). (l ≡ take (normalAnswer plan (length buffer) .length) (normalBuffer plan buffer)) ↔ SameNet (netOf other) (netOf plan)) (file-written other room f)
+        subst⁻¹ (λ (l : List ℕ). (l ≡ file) ↔ SameNet (netOf other) (netOf plan)) (file-written other room f)
         (subst⁻¹ (λ (l : List ℕ). (normalFile other ≡ l) ↔ SameNet (netOf other) (netOf plan)) (file-written plan buffer e)
         (one-form other plan low bytes (has-form other room f) (has-form plan buffer e) .equal));
     enough = λ e. omega (arith, length-told plan buffer e, normal-room plan bytes (has-form plan buffer e));
+    again = again-answer;
+    twice = again-bytes;
   }
 
   -- by the call's own answer and buffer
@@ -325,11 +356,50 @@ module _ (plan buffer : List ℕ) (bytes : Bytes plan) where
   writes-normal {a} {exit} e f =
       subst⁻¹ (λ (x : FileAnswer). WritesNormal plan x exit) e (subst⁻¹ (λ (l : List ℕ). WritesNormal plan (normalAnswer plan (length buffer)) l) f writes)
 
-pub one-plan : (plan plan′ file file′ : List ℕ) → NormalForm plan file → NormalForm plan′ file′ → OnePlan plan plan′ file file′
-unfolding normalFile normalAnswer normalWriteRefusal
-one-plan plan plan′ file file′ x y = record {
-  one-file = λ e. sym (x .twice) ∙ ap (λ (N : Net). planBytes 2 (normalOf N)) (x .net ∙ ap (λ (l : List ℕ). normalOf (netOf l)) e ∙ sym (y .net)) ∙ y .twice;
-  replays = λ e list room. x .replayed list room ∙ ap (λ (l : List ℕ). replayAnswer l list room) e ∙ sym (y .replayed list room);
-  markings = λ e list marking. x .marked list marking ∙ ap (λ (l : List ℕ). replayMarking l list marking) e ∙ sym (y .marked list marking);
-  again = λ room l. rw (x .again, x .twice, le-ltb room (length file) l) refl;
-}
+-- ---- what people conclude
+
+module _ {N N′ : Net} (x : SameNet N N′) where
+  same-light : Light N → Light N′
+  unfolding Light
+  same-light h p t l m =
+      let u = x .places in
+      let v = x .transitions in
+      let w = h p t (omega (arith, u)) (omega (arith, v)) in
+      (omega (arith, x .inputs p t (omega (arith, u)) (omega (arith, v)), w .0), omega (arith, x .outputs p t (omega (arith, u)) (omega (arith, v)), w .1))
+
+pub weighed-alike : (a b : List ℕ) → Weighed a → Weighed b → SameNet (netOf a) (netOf b) → normalRefusal a ≡ normalRefusal b
+weighed-alike a b x y same = by-cases (eqb (normalRefusal a) 0)
+    (λ e. let z = eqb-true (normalRefusal a) 0 e in z ∙ sym (y .light .1 (same-light same (x .light .0 z))))
+    (λ e.
+    let z : normalRefusal a ≢ 0 = λ f. differ (sym e ∙ eq-eqb (normalRefusal a) 0 f) in
+    x .heavy z ∙ sym (y .heavy (λ f. z (x .light .1 (same-light (same-back same) (y .light .0 f))))))
+
+-- a plan's file of edition 2 without note
+module _ (file : List ℕ) (readable : fileRefusal due.Plan file ≡ 0) (no-note : headerOf file .markstart ≡ 0) (edition : headerOf file .edition ≡ 2) where
+  plan-kind : headerOf file .kind ≡ 0
+  unfolding headerOf
+  plan-kind = is-plan (length file) (trailerOf file) (trailer-passes file readable)
+
+  plan-size : length file ≡ 8 * netOf file .places + 8 * length (netOf file .arcs) + 16
+  plan-size =
+      let k = sound-plan file readable .placed in
+      let m : headerOf file .markstart + 8 * headerOf file .places ≡ headerOf file .arcstart = rw (ap (λ (e : ℕ). headerOf file .markstart + placesLength e (headerOf file .places)) edition) at (k .markingsFit) in
+      let o : headerOf file .originstart + 0 + 16 ≡ length file = rw (ap (λ (n : ℕ). headerOf file .originstart + inSlice n (2 * headerOf file .places + 2 * headerOf file .transitions) + 16) plan-kind) at (k .originsFit) in
+      omega (arith, m, k .arcsFit, o, no-note, length-arcsFrom file (headerOf file .arcstart) (headerOf file .arcs))
+
+module _ (plan plan′ file file′ : List ℕ) (x : NormalForm plan file) (y : NormalForm plan′ file′) where
+  size : length file ≡ 8 * netOf plan .places + 8 * length (joined (netOf plan .arcs)) + 16
+  unfolding normalOf
+  size = plan-size file (x .read) (x .no-note) (x .edition) ∙ ap (λ (N : Net). 8 * N .places + 8 * length (N .arcs) + 16) (x .net)
+
+  pub one-plan : OnePlan plan plan′ file file′
+  unfolding normalFile normalAnswer normalWriteRefusal
+  one-plan = record {
+    one-file = λ e. sym (x .twice) ∙ ap (λ (N : Net). planBytes 2 (normalOf N)) (x .net ∙ ap (λ (l : List ℕ). normalOf (netOf l)) e ∙ sym (y .net)) ∙ y .twice;
+    size = size;
+    same = λ e. same-through (x .same) (subst⁻¹ (λ (l : List ℕ). SameNet (netOf l) (netOf plan′)) e (same-back (y .same)));
+    alike = λ e. alike-through (x .fares) (subst⁻¹ (λ (l : List ℕ). FaresAlike (netOf l) (netOf plan′)) e (alike-back (y .fares)));
+    replays = λ e list room. x .replayed list room ∙ ap (λ (l : List ℕ). replayAnswer l list room) e ∙ sym (y .replayed list room);
+    markings = λ e list marking. x .marked list marking ∙ ap (λ (l : List ℕ). replayMarking l list marking) e ∙ sym (y .marked list marking);
+    again = λ room l. rw (x .again, x .twice, le-ltb room (length file) l) refl;
+  }

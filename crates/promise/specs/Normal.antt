@@ -1,5 +1,5 @@
 -- The normal form of a plan file (document 02, A13), as a computation over bytes, and what it is good for.
-use Prim.Native.Nat.{ℕ, zero, suc, _≤_}
+use Prim.Native.Nat.{ℕ, zero, suc, _+_, _*_, _≤_}
 use mathlib.Core.Bool.{Bool, true, false}
 use mathlib.Core.List.{List, [], _∷_}
 use mathlib.Core.Path.{_≡_}
@@ -79,22 +79,31 @@ pub record NormalForm (plan file : List ℕ) : Type 0 where
 -- "Two plans, neither refused, have equal normal bytes exactly when they have the same P, T, markings, caps, in and out"
 pub record OneForm (a b : List ℕ) : Type 0 where
   pub equal : (normalFile a ≡ normalFile b) ↔ SameNet (netOf a) (netOf b)
-  -- "it is still one plan": every firing list fares alike in both
-  pub fares : normalFile a ≡ normalFile b → FaresAlike (netOf a) (netOf b)
 
 -- what the call wrote, by its answer `a` and its buffer afterwards, `exit`: the file is `take (a .length) exit`
 pub record WritesNormal (plan : List ℕ) (a : FileAnswer) (exit : List ℕ) : Type 0 where
+  -- "returns the file's length": the buffer has as many bytes
+  pub long : a .refused ≡ false → length (take (a .length) exit) ≡ a .length
   pub form : a .refused ≡ false → NormalForm plan (take (a .length) exit)
   -- another plan has the same normal bytes exactly when it is the same net
   pub one : a .refused ≡ false → (other buffer : List ℕ) → Bytes other → normalAnswer other (length buffer) .refused ≡ false
       → (take (normalAnswer other (length buffer) .length) (normalBuffer other buffer) ≡ take (a .length) exit) ↔ SameNet (netOf other) (netOf plan)
   -- 40,976 bytes hold any plan's normal form
   pub enough : a .refused ≡ false → a .length ≤ 40976
+  -- "Normalising twice changes nothing": a second call, on what the first wrote, with any buffer that is as long
+  pub again : a .refused ≡ false → (buffer : List ℕ) → a .length ≤ length buffer → normalAnswer (take (a .length) exit) (length buffer) ≡ a
+  pub twice : a .refused ≡ false → (buffer : List ℕ) → a .length ≤ length buffer
+      → take (a .length) (normalBuffer (take (a .length) exit) buffer) ≡ take (a .length) exit
 
--- what people conclude: a plan has one normal form, and two plans with the same one are replayed alike
+-- what people conclude of two plans and the normal forms of both
 pub record OnePlan (plan plan′ file file′ : List ℕ) : Type 0 where
+  -- a plan has one normal form: 8 bytes a place, 8 bytes a joined arc, and the trailer
   pub one-file : plan ≡ plan′ → file ≡ file′
+  pub size : length file ≡ 8 * netOf plan .places + 8 * length (joined (netOf plan .arcs)) + 16
+  -- "it is still one plan": with equal normal forms the nets are the same, every list fares alike, and is replayed alike
+  pub same : file ≡ file′ → SameNet (netOf plan) (netOf plan′)
+  pub alike : file ≡ file′ → FaresAlike (netOf plan) (netOf plan′)
   pub replays : file ≡ file′ → (list : List ℕ) (room : ℕ) → replayAnswer plan list room ≡ replayAnswer plan′ list room
   pub markings : file ≡ file′ → (list marking : List ℕ) → replayMarking plan list marking ≡ replayMarking plan′ list marking
-  -- and the file is taken again, and left as it is
+  -- the file is accepted again, and is its own normal form
   pub again : (room : ℕ) → length file ≤ room → normalAnswer file room ≡ record { refused = false; refusal = 0; length = length file }
