@@ -24,7 +24,8 @@ use Rattle.promise.specs.Normal.{weightsRefusal}
 use Rattle.promise.proofs.Joined.{joined-length, weights-25}
 use Rattle.arcs_groups.specs.Groups.{Stands, GroupEnd, runWeight}
 use Rattle.tables.proofs.Storing.{Storing, storing-all, storing-as, storing-none}
-use Rattle.plan_put.proofs.Laws.{arc-stored, plan-stored}
+use Rattle.slice_put.proofs.Placing.{arc-stored}
+use Rattle.plan_put.proofs.Laws.{plan-stored}
 use Rattle.plan_put.specs.Told.{roomRefusal, Answers}
 use Rattle.plan_put.specs.declared.File.{File}
 use Rattle.plan_put.specs.declared.File.the-variants.{Refused}

@@ -52,7 +52,7 @@ fn write_places(plan: &[u8], h: Header, buffer: &mut [u8])
     while p < h.places {
         let tokens = file::marking(plan, h, p);
         let most = file::cap(plan, h, p);
-        plan_put::put_place(CAPS, p, tokens, most, buffer);
+        slice_put::put_place(CAPS, p, tokens, most, buffer);
         p += 1;
     }
 }

@@ -1,33 +1,16 @@
-// Writes plan files of either edition: a place, the trailer. An arc is put by slice_put:put_arc.
+// The end of a plan file of either edition, and the answer of a call that writes one. Places and arcs are put by slice_put.
 ghost use mathlib.Core.Path.{_≡_};
 ghost use Prim.Native.Nat.{_+_, _*_, _<_, _≤_};
-ghost use lib.Dec.{eqb};
 ghost use lib.ListN.{length};
 ghost use lib.Seq.{sets};
 ghost use Rattle.file_header.specs.Layout.{placesLength};
-ghost use Rattle.file_writing.specs.Writing.{placeBytes, trailerBytes};
-use file_header::CAPS;
+ghost use Rattle.file_writing.specs.Writing.{trailerBytes};
 use file_header::places_length;
-use slice_put::put32;
 
 // What a call that writes a plan answers: the file's length, or a refusal.
 pub enum File {
     Length(u32),
     Refused(u32),
-}
-
-// Place p: its tokens; in edition 2 its cap after them.
-pub fn put_place(edition: usize, p: usize, tokens: usize, most: usize, s: &mut [u8])
-    requires { ⌜ p < 1024 ⌝ }
-    requires { ⌜ placesLength edition (p + 1) ≤ length (now s) ⌝ }
-    ensures { λ _. ⌜ now (s .exit) ≡ sets (now (s .entry)) (placesLength edition p) (placeBytes (eqb edition 2) tokens most) ⌝ }
-{
-    if edition == CAPS {
-        put32(s, 8 * p, tokens);
-        put32(s, 8 * p + 4, most);
-    } else {
-        put32(s, 4 * p, tokens);
-    }
 }
 
 // The trailer after so many places and arcs; the file's length.

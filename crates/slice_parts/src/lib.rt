@@ -1,6 +1,5 @@
 // The parts of the body of a slice file that are not its arcs: places, origins.
 ghost use mathlib.Core.Path.{_≡_};
-ghost use mathlib.Core.Logic.{_≢_};
 ghost use Prim.Native.Nat.{ℕ, _+_, _*_, _<_, _≤_};
 ghost use lib.ListN.{length, getD};
 ghost use lib.Seq.{sets};
@@ -9,44 +8,7 @@ ghost use Rattle.file_header.specs.Layout.{placesLength};
 ghost use Rattle.file.specs.Layout.{netFrom};
 ghost use Rattle.file_writing.specs.Writing.{originsBytes};
 ghost use Rattle.slice_parts.specs.Places.{keptPlaceBytes};
-use file_header::CAPS;
 use file_header::Header;
-
-// Writes the kept places in an edition without caps: 4 bytes each, the marking.
-fn write_markings(plan: &[u8], h: Header, ps: &[u16], buffer: &mut [u8])
-    requires { ⌜ Placed (length (now plan)) h ⌝ }
-    requires { ⌜ h .edition ≢ 2 ⌝ }
-    requires { ⌜ ((i : ℕ) → i < length (now ps) → getD (now ps) i 0 < h .places) ⌝ }
-    requires { ⌜ 4 * length (now ps) ≤ length (now buffer) ⌝ }
-    ensures { λ _. ⌜ now (buffer .exit) ≡ sets (now (buffer .entry)) 0 (keptPlaceBytes (h .edition) (netFrom (now (plan .entry)) h) (now (ps .entry))) ⌝ }
-{
-    let mut i: usize = 0;
-    while i < ps.len() {
-        let p = ps[i] as usize;
-        let tokens = file::marking(plan, h, p);
-        slice_put::put32(buffer, 4 * i, tokens);
-        i += 1;
-    }
-}
-
-// Writes them with caps: 8 bytes each, the marking, then the cap.
-fn write_capped(plan: &[u8], h: Header, ps: &[u16], buffer: &mut [u8])
-    requires { ⌜ Placed (length (now plan)) h ⌝ }
-    requires { ⌜ h .edition ≡ 2 ⌝ }
-    requires { ⌜ ((i : ℕ) → i < length (now ps) → getD (now ps) i 0 < h .places) ⌝ }
-    requires { ⌜ 8 * length (now ps) ≤ length (now buffer) ⌝ }
-    ensures { λ _. ⌜ now (buffer .exit) ≡ sets (now (buffer .entry)) 0 (keptPlaceBytes (h .edition) (netFrom (now (plan .entry)) h) (now (ps .entry))) ⌝ }
-{
-    let mut i: usize = 0;
-    while i < ps.len() {
-        let p = ps[i] as usize;
-        let held = file::marking(plan, h, p);
-        let most = file::cap(plan, h, p);
-        slice_put::put32(buffer, 8 * i, held);
-        slice_put::put32(buffer, 8 * i + 4, most);
-        i += 1;
-    }
-}
 
 // Writes the kept places in the plan's edition.
 pub fn write_places(plan: &[u8], h: Header, ps: &[u16], buffer: &mut [u8])
@@ -55,10 +17,13 @@ pub fn write_places(plan: &[u8], h: Header, ps: &[u16], buffer: &mut [u8])
     requires { ⌜ placesLength (h .edition) (length (now ps)) ≤ length (now buffer) ⌝ }
     ensures { λ _. ⌜ now (buffer .exit) ≡ sets (now (buffer .entry)) 0 (keptPlaceBytes (h .edition) (netFrom (now (plan .entry)) h) (now (ps .entry))) ⌝ }
 {
-    if h.edition == CAPS {
-        write_capped(plan, h, ps, buffer);
-    } else {
-        write_markings(plan, h, ps, buffer);
+    let mut i: usize = 0;
+    while i < ps.len() {
+        let p = ps[i] as usize;
+        let tokens = file::marking(plan, h, p);
+        let most = file::cap(plan, h, p);
+        slice_put::put_place(h.edition, i, tokens, most, buffer);
+        i += 1;
     }
 }
 

@@ -1,10 +1,13 @@
-// Writes numbers, arcs and trailers into a byte slice, low byte first.
+// Writes numbers, places, arcs and trailers into a byte slice, low byte first.
 ghost use mathlib.Core.Path.{_≡_};
 ghost use Prim.Native.Nat.{_+_, _<_, _≤_};
+ghost use lib.Dec.{eqb};
 ghost use lib.ListN.{length};
 ghost use lib.Seq.{sets};
 ghost use Rattle.file_words.specs.Word.{bytes16, bytes32};
-ghost use Rattle.file_writing.specs.Writing.{arcBytes, trailerBytes};
+ghost use Rattle.file_header.specs.Layout.{placesLength};
+ghost use Rattle.file_writing.specs.Writing.{placeBytes, arcBytes, trailerBytes};
+use file_header::CAPS;
 use file_header::tail::LETTERS;
 use net::Arc;
 
@@ -36,6 +39,19 @@ pub fn put_arc(s: &mut [u8], at: usize, a: Arc)
     put16(s, at + 2, a.direction);
     put16(s, at + 4, a.place);
     put16(s, at + 6, a.weight);
+}
+
+// Place p: its tokens; in edition 2 its cap after them.
+pub fn put_place(edition: usize, p: usize, tokens: usize, most: usize, s: &mut [u8])
+    requires { ⌜ placesLength edition (p + 1) ≤ length (now s) ⌝ }
+    ensures { λ _. ⌜ now (s .exit) ≡ sets (now (s .entry)) (placesLength edition p) (placeBytes (eqb edition 2) tokens most) ⌝ }
+{
+    if edition == CAPS {
+        put32(s, 8 * p, tokens);
+        put32(s, 8 * p + 4, most);
+    } else {
+        put32(s, 4 * p, tokens);
+    }
 }
 
 // The trailer of a file of that kind, 0 a plan or 1 a slice, and edition, after a body of `body` bytes. The edition is the byte after the kind.

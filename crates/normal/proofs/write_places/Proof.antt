@@ -7,7 +7,7 @@ use lib.Seq.{sets}
 use Rattle.file.specs.Layout.{netFrom}
 use Rattle.file_writing.specs.Writing.{placeBytes, placesBytes}
 use Rattle.tables.proofs.Storing.{Storing, storing-all, storing-as, storing-none}
-use Rattle.plan_put.proofs.Laws.{placesFrom, places-all, places-end, place-stored}
+use Rattle.slice_put.proofs.Placing.{placesFrom, places-all, places-end, place-stored}
 use Rattle.normal.proofs.write_places.Statement.{statement}
 use Rattle.normal.proofs.write_places.Tie as tie
 
@@ -43,7 +43,7 @@ put-place-requires : tie.Need-put-place-requires Inv-loop μ-loop
 put-place-requires c κs =
     let t = turn-of (c .before .before) in
     let x = head-of t in
-    (omega (arith, t .if1 .taken, call x .pre .0 .placed .places), omega (arith, t .if1 .taken, call x .pre .1, x .loop .inv .1 .long))
+    omega (arith, t .if1 .taken, call x .pre .1, x .loop .inv .1 .long)
 
 add-p : tie.Need-add-p Inv-loop μ-loop
 add-p c = search needs
