@@ -48,11 +48,13 @@
 #define NESFOAL_MAX_LIST_ENTRIES 65535
 
 /* Room that always suffices, whatever the plan and the list, so that 13 is not met: bytes for the slice that a cut writes,
- * 45,072 (8 for a marking and a cap, 8 for an arc, 2 for an origin, 16 for the trailer); entries for a marking, of a replay,
- * of what nesfoal_together leaves or of what nesfoal_range needs; entries for a shadow; entries for the positions of a run cut.
+ * 45,072 (8 for a marking and a cap, 8 for an arc, 2 for an origin, 16 for the trailer), and for a plan, 40,976; entries for a
+ * marking, of a replay, of what nesfoal_together leaves or of what nesfoal_range needs; entries for a shadow; entries for the
+ * positions of a run cut.
  */
 #define NESFOAL_SLICE_ROOM \
     (8 * NESFOAL_MAX_PLACES + 8 * NESFOAL_MAX_ARCS + 2 * NESFOAL_MAX_PLACES + 2 * NESFOAL_MAX_TRANSITIONS + 16)
+#define NESFOAL_PLAN_ROOM (8 * NESFOAL_MAX_PLACES + 8 * NESFOAL_MAX_ARCS + 16)
 #define NESFOAL_MARKING_ROOM NESFOAL_MAX_PLACES
 #define NESFOAL_SHADOW_ROOM NESFOAL_MAX_LIST_ENTRIES
 #define NESFOAL_POSITIONS_ROOM NESFOAL_MAX_LIST_ENTRIES
@@ -72,6 +74,7 @@
 #define NESFOAL_STACK_TOGETHER 1024
 #define NESFOAL_STACK_ARCS 1024
 #define NESFOAL_STACK_RANGE 6144
+#define NESFOAL_STACK_NORMAL 1024
 
 /* What the calls return, but for nesfoal_arcs. In the order of checking: files come first (plan before slice), then
  * criterion, list or transition, marking or upper list, and last the buffer; each file is gone through from 1 to 5, then 16,
@@ -102,7 +105,9 @@ enum {
     NESFOAL_REFUSED_CAP = 16,        /* a place: its marking above its cap, if that is not 0; comes after 5 */
     NESFOAL_REFUSED_CAPPED = 17,     /* plan of a run cut or of a range: some place has a cap; comes after the plan's own */
     NESFOAL_REFUSED_UPPER = 21,      /* upper list: not as many entries as the plan has places, or one below the plan's marking */
-    NESFOAL_LAST_REFUSAL = 21,       /* answers from 1 to this one are refusals */
+    NESFOAL_REFUSED_WEIGHT = 25,     /* plan to be normalised: parallel arcs whose weights sum to more than 65,535; comes after
+                                        the plan's own */
+    NESFOAL_LAST_REFUSAL = 25,       /* answers from 1 to this one are refusals */
 
     NESFOAL_STUCK = 100,     /* of a replay or a run with its shadow: a transition lacks tokens */
     NESFOAL_FULL = 101,      /* of the same: it has them, and would leave a place above its cap */
@@ -262,6 +267,21 @@ uint32_t nesfoal_run_cut(const uint8_t *plan, size_t plan_length,
                          uint16_t *positions, size_t positions_count,
                          uint32_t *length, uint32_t *places, uint32_t *transitions, uint32_t *count,
                          uint32_t *index, uint32_t *place, uint32_t *amount);
+
+/* The normal form of a plan, by which a planner who redraws a net sees that it is still one plan: the plan without note, in
+ * edition 2, each run of parallel arcs joined into one arc with the sum of their weights, everything else in order.
+ * Two plans that are not refused here (13 aside) have the same normal form, byte for byte, exactly where they have the same
+ * numbers of places and transitions, the same marking and cap on each place, and each transition takes the same from each place
+ * and adds the same to it. Places and transitions keep their numbers: a net that is numbered anew is another plan.
+ * The normal form of a normal form is itself. Every list fares alike in a plan and in its normal form: nesfoal_replay gives the same
+ * answer and the same marking. A slice does not go over: rule 104 compares arc by arc, and joined arcs are other arcs.
+ *
+ * Returns 0, with the file's length in *length; or a refusal: that of the plan, 25, and 13 where normal is shorter than the file.
+ * Bytes of normal past the file's length keep their values.
+ */
+uint32_t nesfoal_normal(const uint8_t *plan, size_t plan_length,
+                        uint8_t *normal, size_t normal_length,
+                        uint32_t *length);
 
 /* Where the arcs of a transition stand: in the slice where of_slice is true, else in the plan. Both files are read.
  *

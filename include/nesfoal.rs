@@ -13,6 +13,7 @@ pub const NESFOAL_MAX_LIST_ENTRIES: usize = 65535;
 
 pub const NESFOAL_SLICE_ROOM: usize =
     8 * NESFOAL_MAX_PLACES + 8 * NESFOAL_MAX_ARCS + 2 * NESFOAL_MAX_PLACES + 2 * NESFOAL_MAX_TRANSITIONS + 16;
+pub const NESFOAL_PLAN_ROOM: usize = 8 * NESFOAL_MAX_PLACES + 8 * NESFOAL_MAX_ARCS + 16;
 pub const NESFOAL_MARKING_ROOM: usize = NESFOAL_MAX_PLACES;
 pub const NESFOAL_SHADOW_ROOM: usize = NESFOAL_MAX_LIST_ENTRIES;
 pub const NESFOAL_POSITIONS_ROOM: usize = NESFOAL_MAX_LIST_ENTRIES;
@@ -28,6 +29,7 @@ pub const NESFOAL_STACK_SHADOW: usize = 41984;
 pub const NESFOAL_STACK_TOGETHER: usize = 1024;
 pub const NESFOAL_STACK_ARCS: usize = 1024;
 pub const NESFOAL_STACK_RANGE: usize = 6144;
+pub const NESFOAL_STACK_NORMAL: usize = 1024;
 
 pub const NESFOAL_DONE: u32 = 0;
 pub const NESFOAL_ACCEPTED: u32 = 0;
@@ -49,7 +51,8 @@ pub const NESFOAL_REFUSED_MARKING: u32 = 15;
 pub const NESFOAL_REFUSED_CAP: u32 = 16;
 pub const NESFOAL_REFUSED_CAPPED: u32 = 17;
 pub const NESFOAL_REFUSED_UPPER: u32 = 21;
-pub const NESFOAL_LAST_REFUSAL: u32 = 21;
+pub const NESFOAL_REFUSED_WEIGHT: u32 = 25;
+pub const NESFOAL_LAST_REFUSAL: u32 = 25;
 pub const NESFOAL_STUCK: u32 = 100;
 pub const NESFOAL_FULL: u32 = 101;
 pub const NESFOAL_UNLIMITED: u32 = 100;
@@ -156,6 +159,13 @@ extern "C" {
         upper_len: usize,
         need: *mut u64,
         need_len: usize,
+    ) -> u32;
+    pub fn nesfoal_normal(
+        plan: *const u8,
+        plan_len: usize,
+        normal: *mut u8,
+        normal_len: usize,
+        length: *mut u32,
     ) -> u32;
     pub fn nesfoal_check(
         plan: *const u8,

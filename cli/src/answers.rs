@@ -378,6 +378,18 @@ pub fn written(file: &[u8], slice: &Slice) -> Answer {
     answer!("written", Good, "written {file}: {bytes}, {places}, {transitions}", file, bytes, places, transitions)
 }
 
+pub fn written_plan(file: &[u8], net: &Net) -> Answer {
+    let t = net.trailer;
+    let values = vec![
+        file.into(),
+        count(net.file.len(), "byte"),
+        count(t.places, "place"),
+        count(t.transitions, "transition"),
+        count(t.arcs, "arc"),
+    ];
+    Answer::new("written", Status::Good).and_says("written {file}: {bytes}, {places}, {transitions}, {arcs}", values)
+}
+
 pub fn accepted() -> Answer {
     answer!("accepted", Good, "accepted")
 }

@@ -83,6 +83,7 @@ fn of_bytes(refusal: Refusal, file: &[u8]) -> String {
         Refusal::Arc | Refusal::Order => Net::by_trailer(file).and_then(first_arc),
         Refusal::Origins => Net::by_trailer(file).and_then(first_origin),
         Refusal::Cap => Net::by_trailer(file).and_then(first_over_cap),
+        Refusal::Weight => Net::by_trailer(file).and_then(first_too_heavy),
         _ => None,
     };
     found.unwrap_or_else(|| format!("it breaks rule {} of the files", refusal.number()))
@@ -164,6 +165,22 @@ fn first_over_cap(net: Net) -> Option<String> {
         let (tokens, cap) = (net.tokens(p)?, net.cap(p)?);
         let had = || format!("place {p} has {}; it holds {}", grouped_count(tokens, "token"), grouped(cap));
         (tokens > cap).then(had)
+    })
+}
+
+/// The first parallel arcs whose weights are too much for one arc.
+fn first_too_heavy(net: Net) -> Option<String> {
+    let arcs = net.arcs();
+    arcs.chunk_by(|a, b| key(a) == key(b)).find_map(|parallel| {
+        let sum: u32 = parallel.iter().map(|arc| u32::from(arc.weight)).sum();
+        let arc = parallel[0];
+        let (place, transition) = (arc.place, arc.transition);
+        let between = match arc.adds() {
+            true => format!("from transition {transition} to place {place}"),
+            false => format!("from place {place} to transition {transition}"),
+        };
+        let most = u32::from(u16::MAX);
+        (sum > most).then(|| format!("the arcs {between} weigh {} together; at most {}", grouped(sum), grouped(most)))
     })
 }
 

@@ -48,6 +48,7 @@ refusals! {
     Cap = NESFOAL_REFUSED_CAP,
     Capped = NESFOAL_REFUSED_CAPPED,
     Upper = NESFOAL_REFUSED_UPPER,
+    Weight = NESFOAL_REFUSED_WEIGHT,
 }
 
 impl Refusal {
@@ -293,6 +294,23 @@ pub fn safety(plan: &[u8], criterion: &[u16]) -> Result<Slice, Refusal> {
 
 pub fn branching(plan: &[u8], criterion: &[u16]) -> Result<Slice, Refusal> {
     cut(nesfoal_branching, plan, criterion)
+}
+
+type PlanCall = unsafe extern "C" fn(*const u8, usize, *mut u8, usize, *mut u32) -> u32;
+
+/// The plan file that a call writes.
+fn plan_of(call: PlanCall, from: &[u8]) -> Result<Vec<u8>, Refusal> {
+    let mut bytes = vec![0; NESFOAL_PLAN_ROOM];
+    let mut length = 0;
+    let number = unsafe { call(from.as_ptr(), from.len(), bytes.as_mut_ptr(), bytes.len(), &mut length) };
+    Refusal::or_done(number)?;
+    bytes.truncate(length as usize);
+    Ok(bytes)
+}
+
+/// The normal form of a plan.
+pub fn normal(plan: &[u8]) -> Result<Vec<u8>, Refusal> {
+    plan_of(nesfoal_normal, plan)
 }
 
 /// A list that sticks has its stop beside the refusal.

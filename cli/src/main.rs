@@ -16,6 +16,7 @@ mod library;
 mod net;
 mod numbers;
 mod picture;
+mod plans;
 mod progress;
 mod show;
 mod verbs;

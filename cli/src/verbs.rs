@@ -4,7 +4,7 @@
 use crate::answers::{self, Answer};
 use crate::call::{Call, Done};
 use crate::words::{brief, nearest};
-use crate::{checking, cuts, demo, firing, help, install, picture, show};
+use crate::{checking, cuts, demo, firing, help, install, picture, plans, show};
 use std::ffi::OsStr;
 use std::ops::RangeInclusive;
 use std::os::unix::ffi::OsStrExt;
@@ -366,6 +366,30 @@ Answers:
                                it has its inputs, but would leave that place above its cap (status 1)
     shadow ..                  below each: the slice's numbers, in order
     refused N: ..              a file (1 to 8, 16) or the list (11, 12) is refused
+",
+    },
+    Verb {
+        name: "normal",
+        forms: &[
+            ("PLAN OUT", "writes the normal form: the same for two drawings of one plan"),
+        ],
+        takes: 2..=2,
+        run: plans::normal,
+        text: "\
+The plan without note, in edition 2, parallel arcs joined into one. Two plans have the same normal form,
+byte for byte, exactly where they have the same numbers of places and transitions, the same marking and
+cap on each place, and each transition takes and adds the same. Places and transitions keep their
+numbers: a net that is numbered anew is another plan. Every list fares alike in a plan and its normal
+form. OUT as with safety: an older plan there is replaced with --force alone.
+
+Examples:
+    nesfoal normal plans/small-kerb.plan kerb.normal
+    cmp <(nesfoal normal old.plan -) <(nesfoal normal new.plan -)
+
+Answers:
+    written OUT: N bytes, N places, N transitions, N arcs
+    refused N: ..              the plan is refused (1 to 8, 16), or parallel arcs are together too heavy
+                               for one (25); nothing is written
 ",
     },
     Verb {

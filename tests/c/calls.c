@@ -874,6 +874,26 @@ static void ranges(void)
     expect("range, nothing", nesfoal_range(NULL, 0, NULL, 0, NULL, 0, NULL, 0), NESFOAL_REFUSED_LENGTH);
 }
 
+/* The normal form (02, A13). */
+static void normals(void)
+{
+    uint8_t twice[116], normal[129], again[128];
+    uint32_t length = 9;
+    parallel_kerb(twice);
+    memset(normal, 7, sizeof normal);
+    expect("normal", nesfoal_normal(plan, 108, normal, 129, &length), 0);
+    expect("normal, length", length == 128 && normal[128] == 7, 1);
+    expect("normal, of parallel arcs", nesfoal_normal(twice, 116, again, 128, &length), 0);
+    expect("normal, the same", memcmp(normal, again, 128), 0);
+    expect("normal, of itself", nesfoal_normal(normal, 128, again, 128, &length), 0);
+    expect("normal, of itself, the same", memcmp(normal, again, 128), 0);
+    expect("normal, too little room", nesfoal_normal(plan, 108, again, 127, &length), NESFOAL_REFUSED_BUFFER);
+    expect("normal, too little room, length", length, 0);
+    widen(0, 0);
+    expect("normal, too heavy", nesfoal_normal(widest, sizeof widest, NULL, 0, &length), NESFOAL_REFUSED_WEIGHT);
+    expect("normal, a slice", nesfoal_normal(cut, 78, NULL, 0, &length), NESFOAL_REFUSED_KIND);
+}
+
 int main(void)
 {
     effects();
@@ -893,6 +913,7 @@ int main(void)
     nulls();
     shared();
     ranges();
+    normals();
     printf("%u passed, %u failed\n", passed, failed);
     return failed != 0;
 }
