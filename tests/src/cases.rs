@@ -5,7 +5,7 @@ use crate::range::Extent;
 use crate::replay::{Hindrance, Replayed};
 use crate::run_cut::RunCut;
 use crate::together::Together;
-use crate::{arcs, check, effect, range, replay, run_cut, shadow, together};
+use crate::{arcs, check, effect, normal, range, replay, run_cut, shadow, together};
 use std::fmt::Write;
 
 /// Entries that are lent to a call, standing inside a larger piece of memory.
@@ -430,6 +430,40 @@ impl Case for RangeCase {
             0 => "every".into(),
             100 => "some".into(),
             101 => "none".into(),
+            n => n.to_string(),
+        }
+    }
+}
+
+#[derive(Clone, Debug)]
+pub struct NormalCase {
+    pub plan: Lent<u8>,
+    pub normal: Lent<u8>,
+}
+
+impl Case for NormalCase {
+    fn second(&self) -> Answer {
+        let mut lent = self.normal.clone();
+        let (number, length) = match normal::normal(self.plan.part(), lent.part_mut()) {
+            Ok(length) => (0, length as i64),
+            Err(refusal) => (refusal, 0),
+        };
+        Answer::new(number, [length], vec![Cells::Bytes(lent.cells)])
+    }
+
+    fn show(&self) -> String {
+        show_bytes("plan", &self.plan) + &format!("  normal: {} bytes lent\n", self.normal.len)
+    }
+
+    /// Whether arcs were joined.
+    fn outcome(&self, answer: &Answer) -> String {
+        match answer.number {
+            0 => {
+                let arcs =
+                    crate::read::read(self.plan.part(), None).map_or((0, 0), |net| (net.places(), net.arcs.len()));
+                let joined = answer.outs[0] < (8 * arcs.0 + 8 * arcs.1 + 16) as i128;
+                if joined { "joined" } else { "as-it-was" }.into()
+            }
             n => n.to_string(),
         }
     }

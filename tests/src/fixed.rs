@@ -8,8 +8,10 @@ use crate::published;
 use crate::read::read;
 
 pub mod capped;
+mod normal;
 mod range;
 
+pub use normal::normals;
 pub use range::ranges;
 
 /// A case and the answer that the papers give; `cells` only where the example states them.
@@ -1243,6 +1245,11 @@ mod tests {
     #[test]
     fn range_examples() {
         hold(ranges());
+    }
+
+    #[test]
+    fn normal_examples() {
+        hold(normals());
     }
 
     #[test]

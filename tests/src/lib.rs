@@ -9,6 +9,7 @@ pub mod cut;
 pub mod effect;
 pub mod list;
 pub mod net;
+pub mod normal;
 pub mod range;
 pub mod read;
 pub mod replay;

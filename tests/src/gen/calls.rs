@@ -3,7 +3,8 @@
 use super::*;
 use crate::cases::*;
 use crate::cut::{self, Cut};
-use crate::net::{Kind, Net, MAX_LIST};
+use crate::net::{Kind, Net, MAX_ARCS, MAX_FILE, MAX_LIST, MAX_PLACES, MAX_TRANSITIONS};
+use crate::normal::sums;
 use crate::range::least_marking;
 use crate::read::read;
 use crate::replay::{fire_list, Replayed};
@@ -377,6 +378,138 @@ pub fn range_case(rng: &mut Rng) -> RangeCase {
     RangeCase { plan: lend(rng, &file), list: lend(rng, &list), upper: lend(rng, &upper), need: lend_out(rng, len) }
 }
 
+/// The same net drawn anew: arcs parted, parallel ones permuted or joined, the other edition, another note.
+pub fn redraw(rng: &mut Rng, draft: &Draft) -> Draft {
+    let mut other = draft.clone();
+    for _ in 0..rng.range(0, 4) {
+        if other.arcs.is_empty() {
+            break;
+        }
+        let i = rng.below(other.arcs.len());
+        let arc = other.arcs[i];
+        let twin = other.arcs.get(i + 1).copied().filter(|next| same_ends(&arc, next));
+        match (rng.below(3), twin) {
+            (0, Some(twin)) if u32::from(arc.weight) + u32::from(twin.weight) <= 65_535 => {
+                other.arcs[i].weight += twin.weight;
+                other.arcs.remove(i + 1);
+            }
+            (1, Some(_)) => other.arcs.swap(i, i + 1),
+            _ if arc.weight > 1 && other.arcs.len() < MAX_ARCS => {
+                let part = rng.range(1, usize::from(arc.weight) - 1) as u16;
+                other.arcs[i].weight -= part;
+                other.arcs.insert(i + rng.below(2), DraftArc { weight: part, ..arc });
+            }
+            _ => (),
+        }
+    }
+    other.count();
+    other.note.clear();
+    if !other.has_caps() && rng.percent(50) {
+        other.set_edition(3 - other.edition);
+    }
+    if rng.percent(30) && other.bytes().len() < MAX_FILE - 9 {
+        let n = rng.range(1, 9);
+        other.note = rng.bytes(n);
+    }
+    other
+}
+
+fn same_ends(a: &DraftArc, b: &DraftArc) -> bool {
+    (a.transition, a.direction, a.place) == (b.transition, b.direction, b.place)
+}
+
+/// One thing of the net is another: a weight, an arc, a marking, a cap, a transition or a place.
+fn another_net(rng: &mut Rng, draft: &mut Draft) {
+    let (places, arcs) = (draft.marking.len(), draft.arcs.len());
+    match rng.below(8) {
+        0..=1 if arcs > 0 => {
+            let arc = &mut draft.arcs[rng.below(arcs)];
+            arc.weight = if arc.weight == 65_535 { 1 } else { arc.weight + 1 };
+        }
+        2 if arcs > 0 => {
+            draft.arcs.remove(rng.below(arcs));
+        }
+        3 if arcs > 0 => {
+            let i = rng.below(arcs);
+            draft.arcs[i].direction ^= 1;
+            draft.arcs.sort_by_key(|a| (a.transition, a.direction, a.place));
+        }
+        4 if places > 0 => {
+            let p = rng.below(places);
+            draft.marking[p] ^= 1;
+            if draft.cap(p) > 0 {
+                draft.marking[p] = draft.marking[p].min(draft.cap(p));
+            }
+        }
+        5 if places > 0 && draft.wide => {
+            let p = rng.below(places);
+            draft.caps.resize(places, 0);
+            draft.caps[p] = if draft.caps[p] == 0 { u32::MAX } else { 0 };
+        }
+        6 if usize::from(draft.transitions) < MAX_TRANSITIONS => draft.transitions += 1,
+        _ if places < MAX_PLACES => {
+            draft.marking.push(0);
+            draft.caps.truncate(places);
+        }
+        _ => (),
+    }
+    draft.count();
+}
+
+/// Two drawings: of one net, or of two that differ in one thing.
+pub fn drawn_twice(rng: &mut Rng) -> (Draft, Draft) {
+    let first = plan_with_arcs(rng);
+    let mut second = redraw(rng, &first);
+    if rng.percent(35) {
+        another_net(rng, &mut second);
+        second.note.clear();
+    }
+    (first, second)
+}
+
+/// Parallel arcs between one pair whose weights sum to this.
+fn joined_to(rng: &mut Rng, draft: &mut Draft, sum: u32) {
+    if draft.arcs.is_empty() || draft.arcs.len() + 12 > MAX_ARCS {
+        return;
+    }
+    let i = rng.below(draft.arcs.len());
+    let arc = draft.arcs[i];
+    draft.arcs.retain(|a| !same_ends(a, &arc));
+    let (mut left, mut weights) = (sum, Vec::new());
+    for more in (0..rng.range(2, 6)).rev() {
+        let most = left.saturating_sub(more as u32).min(65_535);
+        let part = if more == 0 { most } else { rng.range(1, most as usize) as u32 };
+        weights.push(part);
+        left -= part;
+    }
+    // What the last one could not take.
+    if left > 0 {
+        weights.push(left);
+    }
+    draft.arcs.extend(weights.into_iter().map(|weight| DraftArc { weight: weight as u16, ..arc }));
+    draft.arcs.sort_by_key(|a| (a.transition, a.direction, a.place));
+    draft.count();
+}
+
+pub fn normal_case(rng: &mut Rng) -> NormalCase {
+    let aim = rng.below(100);
+    let mut draft = if rng.percent(97) { plan_with_arcs(rng) } else { plan(rng) };
+    if (28..60).contains(&aim) {
+        draft.note.clear();
+        let sum = *rng.pick(&[65_534, 65_535, 65_535, 65_536, 65_537, 131_070, 131_072]);
+        joined_to(rng, &mut draft, sum);
+    }
+    let net = net_of(&draft);
+    let mut file = draft.bytes();
+    if aim < 28 {
+        file = bad_file(rng, Some(Kind::Plan));
+    }
+    let needed = 8 * net.places() + 8 * sums(&net).len() + 16;
+    let short = (60..70).contains(&aim) || aim < 60 && rng.percent(10);
+    let len = buffer_length(rng, needed, short);
+    NormalCase { plan: lend(rng, &file), normal: lend_out(rng, len) }
+}
+
 /// Plan, slice and criterion for the checker.
 fn check_parts(rng: &mut Rng) -> (Vec<u8>, Vec<u8>, Vec<u16>) {
     let aim = rng.below(100);
@@ -487,6 +620,7 @@ mod tests {
         share("run_cut", run_cut_case, &[0, 14, 1, 2, 3, 4, 5, 6, 7, 10, 11, 12, 13, 16, 17]);
         share("together", together_case, &[0, 100, 1, 2, 3, 4, 5, 6, 7, 12, 13, 15, 16]);
         share("range", range_case, &[0, 100, 101, 1, 2, 3, 4, 5, 6, 7, 11, 12, 13, 16, 17, 21]);
+        share("normal", normal_case, &[0, 1, 2, 3, 4, 5, 6, 7, 13, 16, 25]);
         let mut checker = vec![0, 1, 2, 3, 4, 5, 6, 7, 8, 10, 16];
         checker.extend(101..=110);
         share("verdict", verdict_case, &checker);
@@ -643,6 +777,21 @@ mod tests {
         };
         assert!(for_none(|n| n == 0) > 1.0, "accepted for no place");
         assert!(for_none(|n| n > 100) > 1.0, "a rule broken for no place");
+    }
+
+    /// Weights that join to just 65,535 and to one more come, both of several arcs.
+    #[test]
+    fn joined_weights_have_their_share() {
+        let (mut most, mut one_more) = (0, 0);
+        for number in 0..CASES {
+            let case = normal_case(&mut Rng::for_case(14, "normal", number));
+            let Ok(net) = read(case.plan.part(), Some(Kind::Plan)) else { continue };
+            let joined: Vec<u64> = sums(&net).into_values().collect();
+            let parallel = joined.len() < net.arcs.len();
+            most += u64::from(parallel && joined.contains(&65_535) && case.second().number == 0);
+            one_more += u64::from(parallel && joined.contains(&65_536) && case.second().number == 25);
+        }
+        assert!(100 * most >= CASES && 100 * one_more >= CASES, "{most} to 65,535, {one_more} to 65,536");
     }
 
     #[test]

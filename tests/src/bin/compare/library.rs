@@ -186,6 +186,14 @@ pub fn range(case: &RangeCase) -> Answer {
     Answer { inputs_kept, ..Answer::new(number, [0; 0], vec![Cells::Longs(need.cells)]) }
 }
 
+#[cfg(feature = "normal")]
+pub fn normal(case: &NormalCase) -> Answer {
+    let (plan, mut normal) = (case.plan.clone(), case.normal.clone());
+    let mut length = UNSET;
+    let number = unsafe { nesfoal_normal(plan.pointer(), plan.len, normal.pointer_mut(), normal.len, &mut length) };
+    Answer { inputs_kept: plan == case.plan, ..Answer::new(number, [length], vec![Cells::Bytes(normal.cells)]) }
+}
+
 #[cfg(feature = "check")]
 pub fn check(case: &CheckCase) -> Answer {
     let (plan, slice, q) = (case.plan.clone(), case.slice.clone(), case.q.clone());

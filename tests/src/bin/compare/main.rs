@@ -15,11 +15,12 @@
     feature = "shadow",
     feature = "together",
     feature = "range",
+    feature = "normal",
     feature = "check"
 )))]
 compile_error!("no call to compare: turn a feature on");
 
-#[cfg(any(feature = "check", feature = "run_cut"))]
+#[cfg(any(feature = "check", feature = "run_cut", feature = "normal"))]
 mod both;
 mod frame;
 mod library;
@@ -36,8 +37,12 @@ mod effect;
 mod fed;
 #[cfg(feature = "check")]
 mod guarantee;
+#[cfg(feature = "normal")]
+mod normal;
 #[cfg(feature = "range")]
 mod range;
+#[cfg(feature = "normal")]
+mod redrawn;
 #[cfg(feature = "replay")]
 mod replay;
 #[cfg(feature = "run_cut")]
@@ -99,6 +104,10 @@ fn comparisons() -> Vec<fn(&Settings) -> bool> {
         |s| frame::compare::<together::Together>(s),
         #[cfg(feature = "range")]
         |s| frame::compare::<range::Range>(s),
+        #[cfg(feature = "normal")]
+        |s| frame::compare::<normal::Normal>(s),
+        #[cfg(feature = "normal")]
+        redrawn::compare,
         #[cfg(feature = "check")]
         |s| frame::compare::<check::Check>(s),
         #[cfg(feature = "check")]

@@ -4,7 +4,8 @@ use nesfoal_tests::cases::*;
 use nesfoal_tests::check::{verdict, Verdict};
 use nesfoal_tests::cut::{cut, Cut, Written};
 use nesfoal_tests::fixed::{self, Fixed};
-use nesfoal_tests::net::{Kind, Refusal, MAX_FILE, MAX_LIST, MAX_PLACES};
+use nesfoal_tests::net::{Direction, Kind, Refusal, MAX_FILE, MAX_LIST, MAX_PLACES};
+use nesfoal_tests::normal::{normal, too_heavy};
 use nesfoal_tests::range::{range, Extent};
 use nesfoal_tests::read::read;
 use nesfoal_tests::replay::{replay, Hindrance, Replayed};
@@ -179,6 +180,18 @@ pub fn all() -> Vec<Verb> {
             spoils: &[("first", |due| replace(due, "shadow 0", "shadow")), EXCESS, ABOVE],
         },
         Verb {
+            name: "normal",
+            outcomes: "written 1 2 3 4 5 6 7 16 25",
+            fixed: || each(fixed::normals(), of_normal),
+            random: |rng| of_normal(&gen::normal_case(rng)),
+            spoils: &[
+                ("letter", another_letter),
+                ("heavy", |due| replace(due, "refused 25", "refused 13")),
+                ("arcs", |due| replace(due, " arc", " bow")),
+                ABOVE,
+            ],
+        },
+        Verb {
             name: "check",
             outcomes: "accepted 1 2 3 4 5 6 7 8 10 16 101 102 103 104 105 106 107 108 109 110",
             fixed: || each(fixed::verdicts(), of_verdict),
@@ -228,7 +241,7 @@ fn counted(count: usize, thing: &str) -> String {
 /// A refusal of a file, a criterion or a list that came with it.
 fn refused(number: Refusal, file: &str) -> Due {
     let what = match number {
-        1..=8 | 16 | 17 => file,
+        1..=8 | 16..=20 | 25 => file,
         10 => "criterion",
         _ => "list",
     };
@@ -420,6 +433,49 @@ fn written(w: &Written, mut buffer: Vec<u8>) -> Due {
     buffer.truncate(w.length);
     let says = format!("written {OUT}: {}\n", counts.join(", "));
     Due { written: Some(buffer), ..Due::new("written", says) }
+}
+
+fn of_normal(case: &NormalCase) -> Asked {
+    let plan = case.plan.part();
+    let mut buffer = vec![0; MAX_FILE];
+    let due = match normal(plan, &mut buffer) {
+        Ok(length) => written_plan(&buffer[..length]),
+        // The first pair in the order of arcs is told.
+        Err(25) => {
+            let heavy = read(plan, Some(Kind::Plan)).ok().and_then(|net| too_heavy(&net)).expect("a pair is too heavy");
+            Due::new(25, format!("refused 25: plan: {}", heavy_pair(heavy)))
+        }
+        Err(n) => refused(n, "plan"),
+    };
+    Asked::new(&["normal", "plan", OUT], &[("plan", &case.plan)], due)
+}
+
+/// `the arcs from place 1 to transition 0 weigh 65,536 together; at most 65,535`.
+fn heavy_pair(((transition, direction, place), sum): ((u16, Direction, u16), u64)) -> String {
+    let between = match direction {
+        Direction::In => format!("from place {place} to transition {transition}"),
+        Direction::Out => format!("from transition {transition} to place {place}"),
+    };
+    format!("the arcs {between} weigh {} together; at most 65,535\n", grouped(sum.into()))
+}
+
+/// A number with commas.
+fn grouped(n: u128) -> String {
+    let digits = n.to_string();
+    let parts: Vec<&str> = digits.as_bytes().rchunks(3).rev().map(|d| std::str::from_utf8(d).unwrap()).collect();
+    parts.join(",")
+}
+
+/// The line of a plan that is written, and the file.
+fn written_plan(file: &[u8]) -> Due {
+    let net = read(file, Some(Kind::Plan)).expect("a plan");
+    let counts = [
+        counted(file.len(), "byte"),
+        counted(net.places(), "place"),
+        counted(net.transitions(), "transition"),
+        counted(net.arcs.len(), "arc"),
+    ];
+    Due { written: Some(file.to_vec()), ..Due::new("written", format!("written {OUT}: {}\n", counts.join(", "))) }
 }
 
 fn of_run(case: &RunCutCase) -> Asked {
