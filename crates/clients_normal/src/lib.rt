@@ -17,13 +17,22 @@ pub enum Same {
     Refused(u32),
 }
 
-// The number of a refusal; 0 where a file was written.
+// The values of an answer.
 fn number(f: File) -> u32
     ensures { λ r. ⌜ r ≡ fileNumbers f .refusal ⌝ }
 {
     match f {
         File::Length(_) => 0,
         File::Refused(n) => n,
+    }
+}
+
+fn length_of(f: File) -> u32
+    ensures { λ r. ⌜ r ≡ fileNumbers f .length ⌝ }
+{
+    match f {
+        File::Length(n) => n,
+        File::Refused(_) => 0,
     }
 }
 
@@ -48,17 +57,22 @@ pub fn one_net(a: &[u8], b: &[u8], one: &mut [u8], two: &mut [u8]) -> Same
     ensures { λ r. ⌜ Tells (now (a .entry)) (now (b .entry)) (length (now (one .entry))) (length (now (two .entry))) r ⌝ }
 {
     let first = call_plans::forms::normal(a, one);
-    let File::Length(n) = first else {
-        return Same::Refused(number(first));
-    };
+    let refusal = number(first);
+    if refusal != 0 {
+        return Same::Refused(refusal);
+    }
     let second = call_plans::forms::normal(b, two);
-    let File::Length(m) = second else {
-        return Same::Refused(number(second));
-    };
+    let other = number(second);
+    if other != 0 {
+        return Same::Refused(other);
+    }
+    let n = length_of(first);
+    let m = length_of(second);
     if n != m {
         return Same::Two;
     }
-    if equal(one, two, n as usize) {
+    let end = n as usize;
+    if equal(one, two, end) {
         return Same::One;
     }
     Same::Two
@@ -69,21 +83,21 @@ pub fn stays(plan: &[u8], one: &mut [u8], two: &mut [u8]) -> bool
     ensures { λ r. ⌜ r ≡ true ⌝ }
 {
     let first = call_plans::forms::normal(plan, one);
-    let File::Length(n) = first else {
-        return true;
-    };
-    let long = n as usize;
-    if two.len() < long {
+    let refusal = number(first);
+    if refusal != 0 {
         return true;
     }
-    let second = call_plans::forms::normal(&one[..long], two);
-    let File::Length(m) = second else {
-        return false;
-    };
+    let n = length_of(first);
+    let end = n as usize;
+    if two.len() < end {
+        return true;
+    }
+    let second = call_plans::forms::normal(&one[..end], two);
+    let m = length_of(second);
     if m != n {
         return false;
     }
-    equal(one, two, long)
+    equal(one, two, end)
 }
 
 // A replay of the normal form, where there is one, is a replay of the plan.
@@ -92,9 +106,10 @@ pub fn replay(plan: &[u8], list: &[u16], buffer: &mut [u8], marking: &mut [u64])
     ensures marking { λ _. ⌜ now (marking .exit) ≡ replayMarking (now (plan .entry)) (now (list .entry)) (now (marking .entry)) ⌝ }
 {
     let first = call_plans::forms::normal(plan, buffer);
-    let File::Length(n) = first else {
+    let refusal = number(first);
+    if refusal != 0 {
         return call_firing::replays::replay(plan, list, marking);
-    };
-    let long = n as usize;
-    call_firing::replays::replay(&buffer[..long], list, marking)
+    }
+    let end = length_of(first) as usize;
+    call_firing::replays::replay(&buffer[..end], list, marking)
 }
