@@ -68,7 +68,7 @@ module _ (plan exit : List ℕ) (room : ℕ) {a : FileAnswer} (e : a ≡ normalA
   module _ (entry : List ℕ) {n : ℕ} {b : FileAnswer} (read : n ≡ a .length) (long : n ≤ length entry)
       (e′ : b ≡ normalAnswer (take n exit) (length entry)) where
     pub again-same : b ≡ a
-    again-same = e′ ∙ ap (λ (k : ℕ). normalAnswer (take k exit) (length entry)) read ∙ w .again passed entry (omega (arith, read, long))
+    again-same = e′ ∙ ap (λ (k : ℕ). normalAnswer (take k exit) (length entry)) read ∙ w .again passed entry (omega (arith, read, long)) .0
 
     pub again-none : b .refusal ≡ 0
     again-none = ap (λ (x : FileAnswer). x .refusal) again-same ∙ none
@@ -78,7 +78,7 @@ module _ (plan exit : List ℕ) (room : ℕ) {a : FileAnswer} (e : a ≡ normalA
 
     pub again-bytes : {exit′ : List ℕ} → exit′ ≡ normalBuffer (take n exit) entry → take n exit ≡ take n exit′
     again-bytes {exit′} f′ =
-        sym (ap (λ (k : ℕ). take k exit′) read ∙ ap (take (a .length)) (f′ ∙ ap (λ (k : ℕ). normalBuffer (take k exit) entry) read) ∙ w .twice passed entry (omega (arith, read, long)) ∙ ap (λ (k : ℕ). take k exit) (sym read))
+        sym (ap (λ (k : ℕ). take k exit′) read ∙ ap (take (a .length)) (f′ ∙ ap (λ (k : ℕ). normalBuffer (take k exit) entry) read) ∙ w .again passed entry (omega (arith, read, long)) .1 ∙ ap (λ (k : ℕ). take k exit) (sym read))
 
 -- ---- two plans
 

@@ -216,9 +216,7 @@ module _ (plan : List ℕ) (bytes : Bytes plan) (none : normalRefusal plan ≡ 0
   normal-form = record {
     read = normal-read;
     net = normal-back;
-    same = subst⁻¹ (SameNet N) normal-back (same-net N);
-    no-note = normal-header .0;
-    edition = normal-header .1;
+    header = normal-header;
     again = again;
     twice = twice;
     fares = subst⁻¹ (FaresAlike N) normal-back (fares-alike N);
@@ -347,8 +345,7 @@ module _ (plan buffer : List ℕ) (bytes : Bytes plan) where
         (subst⁻¹ (λ (l : List ℕ). (normalFile other ≡ l) ↔ SameNet (netOf other) (netOf plan)) (file-written plan buffer e)
         (one-form other plan low bytes (has-form other room f) (has-form plan buffer e) .equal));
     enough = λ e. omega (arith, length-told plan buffer e, normal-room plan bytes (has-form plan buffer e));
-    again = again-answer;
-    twice = again-bytes;
+    again = λ e second room. (again-answer e second room, again-bytes e second room);
   }
 
   -- by the call's own answer and buffer
@@ -387,17 +384,21 @@ module _ (file : List ℕ) (readable : fileRefusal due.Plan file ≡ 0) (no-note
       let o : headerOf file .originstart + 0 + 16 ≡ length file = rw (ap (λ (n : ℕ). headerOf file .originstart + inSlice n (2 * headerOf file .places + 2 * headerOf file .transitions) + 16) plan-kind) at (k .originsFit) in
       omega (arith, m, k .arcsFit, o, no-note, length-arcsFrom file (headerOf file .arcstart) (headerOf file .arcs))
 
+-- a plan and its normal form are the same net
+same-form : {plan file : List ℕ} → NormalForm plan file → SameNet (netOf plan) (netOf file)
+same-form {plan} x = subst⁻¹ (SameNet (netOf plan)) (x .net) (same-net (netOf plan))
+
 module _ (plan plan′ file file′ : List ℕ) (x : NormalForm plan file) (y : NormalForm plan′ file′) where
   size : length file ≡ 8 * netOf plan .places + 8 * length (joined (netOf plan .arcs)) + 16
   unfolding normalOf
-  size = plan-size file (x .read) (x .no-note) (x .edition) ∙ ap (λ (N : Net). 8 * N .places + 8 * length (N .arcs) + 16) (x .net)
+  size = plan-size file (x .read) (x .header .0) (x .header .1) ∙ ap (λ (N : Net). 8 * N .places + 8 * length (N .arcs) + 16) (x .net)
 
   pub one-plan : OnePlan plan plan′ file file′
   unfolding normalFile normalAnswer normalWriteRefusal
   one-plan = record {
     one-file = λ e. sym (x .twice) ∙ ap (λ (N : Net). planBytes 2 (normalOf N)) (x .net ∙ ap (λ (l : List ℕ). normalOf (netOf l)) e ∙ sym (y .net)) ∙ y .twice;
     size = size;
-    same = λ e. same-through (x .same) (subst⁻¹ (λ (l : List ℕ). SameNet (netOf l) (netOf plan′)) e (same-back (y .same)));
+    same = λ e. same-through (same-form x) (subst⁻¹ (λ (l : List ℕ). SameNet (netOf l) (netOf plan′)) e (same-back (same-form y)));
     alike = λ e. alike-through (x .fares) (subst⁻¹ (λ (l : List ℕ). FaresAlike (netOf l) (netOf plan′)) e (alike-back (y .fares)));
     replays = λ e list room. x .replayed list room ∙ ap (λ (l : List ℕ). replayAnswer l list room) e ∙ sym (y .replayed list room);
     markings = λ e list marking. x .marked list marking ∙ ap (λ (l : List ℕ). replayMarking l list marking) e ∙ sym (y .marked list marking);

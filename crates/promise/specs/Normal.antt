@@ -64,10 +64,8 @@ pub record NormalForm (plan file : List ℕ) : Type 0 where
   pub read : fileRefusal due.Plan file ≡ 0
   -- "parallel arcs joined, everything else in order"
   pub net : netOf file ≡ normalOf (netOf plan)
-  pub same : SameNet (netOf plan) (netOf file)
   -- "without note, in edition 2"
-  pub no-note : headerOf file .markstart ≡ 0
-  pub edition : headerOf file .edition ≡ 2
+  pub header : (headerOf file .markstart ≡ 0) × (headerOf file .edition ≡ 2)
   -- "Normalising twice changes nothing"
   pub again : normalRefusal file ≡ 0
   pub twice : normalFile file ≡ file
@@ -91,9 +89,8 @@ pub record WritesNormal (plan : List ℕ) (a : FileAnswer) (exit : List ℕ) : T
   -- 40,976 bytes hold any plan's normal form
   pub enough : a .refused ≡ false → a .length ≤ 40976
   -- "Normalising twice changes nothing": a second call, on what the first wrote, with any buffer that is as long
-  pub again : a .refused ≡ false → (buffer : List ℕ) → a .length ≤ length buffer → normalAnswer (take (a .length) exit) (length buffer) ≡ a
-  pub twice : a .refused ≡ false → (buffer : List ℕ) → a .length ≤ length buffer
-      → take (a .length) (normalBuffer (take (a .length) exit) buffer) ≡ take (a .length) exit
+  pub again : a .refused ≡ false → (buffer : List ℕ) → a .length ≤ length buffer
+      → (normalAnswer (take (a .length) exit) (length buffer) ≡ a) × (take (a .length) (normalBuffer (take (a .length) exit) buffer) ≡ take (a .length) exit)
 
 -- what people conclude of two plans and the normal forms of both
 pub record OnePlan (plan plan′ file file′ : List ℕ) : Type 0 where
