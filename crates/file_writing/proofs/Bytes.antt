@@ -17,11 +17,11 @@ use Rattle.file.specs.Layout.{wordsFrom}
 use Rattle.file_writing.specs.Writing.{placeBytes, placesBytes, arcBytes, arcsBytes, originsBytes}
 
 -- a place by edition: its length, its marking, its cap
-pick-next : (b : Bool) (n : ℕ) → pick b (8 * suc n) (4 * suc n) ≡ pick b 8 4 + pick b (8 * n) (4 * n)
+pub pick-next : (b : Bool) (n : ℕ) → pick b (8 * suc n) (4 * suc n) ≡ pick b 8 4 + pick b (8 * n) (4 * n)
 pick-next true n = omega arith
 pick-next false n = omega arith
 
-length-place : (b : Bool) (m c : ℕ) → length (placeBytes b m c) ≡ pick b 8 4
+pub length-place : (b : Bool) (m c : ℕ) → length (placeBytes b m c) ≡ pick b 8 4
 length-place true m c = omega (arith, length-append (bytes32 m) (bytes32 c), length-32 m, length-32 c)
 length-place false m c = length-32 m
 

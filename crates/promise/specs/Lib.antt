@@ -8,6 +8,8 @@ pub mod Together
 pub mod Rooms
 pub mod Range
 pub mod Normal
+pub mod Starts
+pub mod Transfer
 pub mod Promise
 pub mod Uses
 pub mod Example
@@ -16,3 +18,4 @@ pub mod FullExample
 pub mod OrderExample
 pub mod RangeExample
 pub mod NormalExample
+pub mod StartExample
