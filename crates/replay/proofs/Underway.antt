@@ -10,7 +10,7 @@ use Rattle.file_words.specs.Word.{Bytes}
 use Rattle.file.specs.Layout.{netFrom}
 use Rattle.file.specs.Facts.{Sound}
 use Rattle.file_header.specs.declared.Header.{Header}
-use Rattle.promise.specs.Firing.{replayTold}
+use Rattle.promise.specs.Firing.{ReplayAnswer, replayTold}
 use Rattle.replay_steps.specs.Steps.{held, Ready, Plain, Holds, Listed, Underway}
 use Rattle.replay_steps.proofs.Underway.{known, fired-on, replay-end, replay-short, replay-full}
 use Rattle.replay_firing.specs.Short.{needAt}
@@ -19,12 +19,37 @@ use Rattle.replay_firing.specs.declared.Found.{Found}
 use Rattle.replay_firing.specs.declared.Found.the-variants.{Nowhere, At}
 use Rattle.replay_firing.proofs.Short.{Covered, Weighed, supplied}
 use Rattle.replay.specs.Told.{outcomeNumbers}
-use Rattle.replay.specs.Steps.{Ended}
+use Rattle.replay.specs.Steps.{Ended, Going, EndedFrom}
 use Rattle.replay.specs.declared.Outcome.{Outcome}
 use Rattle.replay.specs.declared.Outcome.the-variants.{Fired, Short, Full}
 
 pub underway-from : {s : List ℕ} {h : Header} {ts m₀ m₁ m : List ℕ} {k : ℕ} → m₁ ≡ m₀ → Underway s h ts m₁ m k → Underway s h ts m₀ m k
 underway-from {s} {h} {ts} {m₀} {m₁} {m} {k} e u = subst (λ (l : List ℕ). Underway s h ts l m k) e u
+
+-- an end, by another name of the replay
+told-by : {A B : Replay} {t : ReplayAnswer} → A ≡ B → t ≡ replayTold (A .answer) → t ≡ replayTold (B .answer)
+told-by e x = x ∙ ap (λ (R : Replay). replayTold (R .answer)) e
+
+holds-by : {A B : Replay} {m₁ m₂ m : List ℕ} → A ≡ B → length m₁ ≡ length m₂ → Holds m₁ m (A .marking) → Holds m₂ m (B .marking)
+holds-by e l x = record { long = x .long ∙ l; at = λ p. x .at p ∙ ap (λ (R : Replay). R .marking p) e }
+
+-- from a first marking on: to a marking that a replay is at, and from there to the end
+module _ {s : List ℕ} {h : Header} {ts m₀ m : List ℕ} {k : ℕ} (u : Underway s h ts m₀ m k) where
+  pub going-from : Going s h ts m k m k
+  going-from = record { initial = m₀; was = u; is = u }
+
+  pub ended-whole : {m′ : List ℕ} {o : Outcome} → EndedFrom s h ts m k m′ o → Ended s h ts m₀ m′ o
+  ended-whole x = (told-by (u .same) (x .answer), holds-by (u .same) (u .long) (x .marking))
+
+module _ {s : List ℕ} {h : Header} {ts m₁ m : List ℕ} {n k : ℕ} (g : Going s h ts m₁ n m k) where
+  pub going-on : {m′ : List ℕ} {k′ : ℕ} → Underway s h ts (g .initial) m′ k′ → Going s h ts m₁ n m′ k′
+  going-on v = record { initial = g .initial; was = g .was; is = v }
+
+  pub ended-rest : {m′ : List ℕ} {o : Outcome} → Ended s h ts (g .initial) m′ o → EndedFrom s h ts m₁ n m′ o
+  ended-rest x = record { answer = told-by (sym (g .was .same)) (x .0); marking = holds-by (sym (g .was .same)) (sym (g .was .long)) (x .1) }
+
+  pub ended-on : {m′ : List ℕ} {o : Outcome} → EndedFrom s h ts m k m′ o → EndedFrom s h ts m₁ n m′ o
+  ended-on x = ended-rest (ended-whole (g .is) x)
 
 -- a replay of which no firing is done: what replays from its marking replays from the first
 module _ {s : List ℕ} {h : Header} {ts m₀ m : List ℕ} {n : ℕ} (u : Underway s h ts m₀ m n) (none : n ≡ 0) where

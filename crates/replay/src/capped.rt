@@ -1,6 +1,6 @@
 // Replay on a net that may have caps: the inputs of each firing are tested first, then the caps.
-ghost use Rattle.replay_steps.specs.Steps.{Ready, Underway};
-ghost use Rattle.replay.specs.Steps.{begun, Ended};
+ghost use Rattle.replay_steps.specs.Steps.{Ready};
+ghost use Rattle.replay.specs.Steps.{Going, EndedFrom};
 use crate::Outcome;
 use file_arcs::arc;
 use file_header::Header;
@@ -20,8 +20,8 @@ pub fn run_capped(
     marking: &mut [u64],
 ) -> Outcome
     requires { ⌜ Ready (now file) h (now table) (now marking) ⌝ }
-    requires { ⌜ Underway (now file) h (now list) (begun (now file) h) (now marking) done ⌝ }
-    ensures { λ r. ⌜ Ended (now (file .entry)) h (now (list .entry)) (begun (now (file .entry)) h) (now (marking .exit)) r ⌝ }
+    requires { ⌜ Going (now file) h (now list) (now marking) done (now marking) done ⌝ }
+    ensures { λ r. ⌜ EndedFrom (now (file .entry)) h (now (list .entry)) (now (marking .entry)) done (now (marking .exit)) r ⌝ }
 {
     let mut k = done;
     'firings: loop {

@@ -11,7 +11,7 @@ ghost use Rattle.promise.specs.Calls.{written};
 ghost use Rattle.promise.specs.Firing.{replayTold, replayOr};
 ghost use Rattle.replay.specs.Told.{outcomeNumbers, heldBack};
 ghost use Rattle.replay_steps.specs.Steps.{Ready, Plain, Underway};
-ghost use Rattle.replay.specs.Steps.{begun, Passed, Ended};
+ghost use Rattle.replay.specs.Steps.{begun, Passed, Going, EndedFrom};
 use crate::capped::run_capped;
 use file_arcs::arc;
 use file_header::Header;
@@ -41,8 +41,8 @@ fn head_start(
     marking: &mut [u64],
 ) -> usize
     requires { ⌜ Ready (now file) h (now table) (now marking) ⌝ }
-    requires { ⌜ Underway (now file) h (now list) (begun (now file) h) (now marking) done ⌝ }
-    ensures { λ r. ⌜ Underway (now (file .entry)) h (now (list .entry)) (begun (now (file .entry)) h) (now (marking .exit)) r ⌝ }
+    requires { ⌜ Going (now file) h (now list) (now marking) done (now marking) done ⌝ }
+    ensures { λ r. ⌜ Going (now (file .entry)) h (now (list .entry)) (now (marking .entry)) done (now (marking .exit)) r ⌝ }
 {
     if done != 0 {
         return done;
@@ -60,8 +60,8 @@ fn run(
     marking: &mut [u64],
 ) -> Outcome
     requires { ⌜ Plain (now file) h (now table) (now marking) ⌝ }
-    requires { ⌜ Underway (now file) h (now list) (begun (now file) h) (now marking) done ⌝ }
-    ensures { λ r. ⌜ Ended (now (file .entry)) h (now (list .entry)) (begun (now (file .entry)) h) (now (marking .exit)) r ⌝ }
+    requires { ⌜ Going (now file) h (now list) (now marking) done (now marking) done ⌝ }
+    ensures { λ r. ⌜ EndedFrom (now (file .entry)) h (now (list .entry)) (now (marking .entry)) done (now (marking .exit)) r ⌝ }
 {
     let mut k = done;
     'firings: loop {
@@ -103,8 +103,8 @@ fn run_either(
     marking: &mut [u64],
 ) -> Outcome
     requires { ⌜ Ready (now file) h (now table) (now marking) ⌝ }
-    requires { ⌜ Underway (now file) h (now list) (begun (now file) h) (now marking) done ⌝ }
-    ensures { λ r. ⌜ Ended (now (file .entry)) h (now (list .entry)) (begun (now (file .entry)) h) (now (marking .exit)) r ⌝ }
+    requires { ⌜ Going (now file) h (now list) (now marking) done (now marking) done ⌝ }
+    ensures { λ r. ⌜ EndedFrom (now (file .entry)) h (now (list .entry)) (now (marking .entry)) done (now (marking .exit)) r ⌝ }
 {
     let k = head_start(file, h, table, list, done, marking);
     if file::has_caps(file, h) {
@@ -152,21 +152,27 @@ fn replay_by(
     marking: &mut [u64],
 ) -> Outcome
     requires { ⌜ Sound (now file) h ⌝ }
-    requires { ⌜ Underway (now file) h (now list) (begun (now file) h) (now marking) done ⌝ }
+    requires { ⌜ length (now marking) ≡ h .places ⌝ }
+    requires { ⌜ Going (now file) h (now list) (now marking) done (now marking) done ⌝ }
     requires { ⌜ 2 * h .transitions < length (now table) ⌝ }
-    ensures { λ r. ⌜ outcomeNumbers r ≡ replayTold (replayOf (netFrom (now (file .entry)) h) (now (list .entry)) .answer) ⌝ }
-    ensures { λ _. ⌜ now (marking .exit) ≡ tokens (netFrom (now (file .entry)) h) (replayOf (netFrom (now (file .entry)) h) (now (list .entry)) .marking) ⌝ }
+    ensures { λ r. ⌜ EndedFrom (now (file .entry)) h (now (list .entry)) (now (marking .entry)) done (now (marking .exit)) r ⌝ }
 {
     arcs_starts::starts(file, h.arcstart, h.arcs, h.transitions, table);
     run_either(file, h, table, list, done, marking)
 }
 
 // The same, with a table that is as large as the net needs it.
-fn replay_rest(file: &[u8], h: Header, list: &[u16], done: usize, marking: &mut [u64]) -> Outcome
+pub fn replay_rest(
+    file: &[u8],
+    h: Header,
+    list: &[u16],
+    done: usize,
+    marking: &mut [u64],
+) -> Outcome
     requires { ⌜ Sound (now file) h ⌝ }
-    requires { ⌜ Underway (now file) h (now list) (begun (now file) h) (now marking) done ⌝ }
-    ensures { λ r. ⌜ outcomeNumbers r ≡ replayTold (replayOf (netFrom (now (file .entry)) h) (now (list .entry)) .answer) ⌝ }
-    ensures { λ _. ⌜ now (marking .exit) ≡ tokens (netFrom (now (file .entry)) h) (replayOf (netFrom (now (file .entry)) h) (now (list .entry)) .marking) ⌝ }
+    requires { ⌜ length (now marking) ≡ h .places ⌝ }
+    requires { ⌜ Going (now file) h (now list) (now marking) done (now marking) done ⌝ }
+    ensures { λ r. ⌜ EndedFrom (now (file .entry)) h (now (list .entry)) (now (marking .entry)) done (now (marking .exit)) r ⌝ }
 {
     if h.transitions <= SMALL {
         let mut table = [0u16; 2 * SMALL + 1];
@@ -194,7 +200,7 @@ fn replay_all(file: &[u8], h: Header, list: &[u16], marking: &mut [u64]) -> Outc
 }
 
 // Checks the list, then the room for the marking: 0, 11, 12 or 13.
-fn held_back(h: Header, list: &[u16], room: usize) -> u32
+pub fn held_back(h: Header, list: &[u16], room: usize) -> u32
     requires { ⌜ h .transitions ≤ 1024 ⌝ }
     ensures { λ r. ⌜ r ≡ heldBack h (now (list .entry)) room ⌝ }
 {

@@ -1,4 +1,4 @@
-use Rattle.replay.proofs.Underway.{listed-still, underway-then}
+use Rattle.replay.proofs.Underway.{going-on, listed-still, underway-then}
 use borrow.Author.Needs.{needs}
 use Rattle.replay.proofs.head_start.Statement.{statement}
 use Rattle.replay.proofs.head_start.Tie as tie
@@ -11,7 +11,7 @@ ahead-requires : tie.Need-ahead-requires
 ahead-requires c κs =
     let none = c .before in
     let s = none .before .before .before .before .before in
-    (s .pre .0, listed-still (s .pre .1) (none .if1 .left))
+    (s .pre .0, listed-still (s .pre .1 .is) (none .if1 .left))
 
 same-length : tie.Need-same-length
 same-length c = search needs
@@ -21,7 +21,7 @@ returns-2 c =
     let ahead = c .before .before in
     let none = ahead .before .before in
     let s = none .before .before .before .before .before in
-    underway-then (s .pre .1) (none .if1 .left) (ahead .ahead .ensures)
+    going-on (s .pre .1) (underway-then (s .pre .1 .is) (none .if1 .left) (ahead .ahead .ensures))
 
 pub head-start-spec : {M : Type 1} → statement M
 head-start-spec = tie.close (tie.spec returns ahead-requires same-length returns-2)

@@ -10,7 +10,7 @@ replay-by-requires : tie.Need-replay-by-requires
 replay-by-requires c κs =
     let t = c .before .before in
     let s = t .before .before .before .before .before in
-    (s .pre .0, (s .pre .1, omega (arith, t .if1 .taken)))
+    (s .pre .0, (s .pre .1 .0, (s .pre .1 .1, omega (arith, t .if1 .taken))))
 
 same-length : tie.Need-same-length
 same-length c = search needs
@@ -25,7 +25,7 @@ replay-by-requires-2 : tie.Need-replay-by-requires-2
 replay-by-requires-2 c κs =
     let t = c .before .before in
     let s = t .before .before .before .before .before .before .before in
-    (s .pre .0, (s .pre .1, omega (arith, t .if2 .taken)))
+    (s .pre .0, (s .pre .1 .0, (s .pre .1 .1, omega (arith, t .if2 .taken))))
 
 same-length-2 : tie.Need-same-length-2
 same-length-2 c = search needs
@@ -40,7 +40,7 @@ replay-by-requires-3 : tie.Need-replay-by-requires-3
 replay-by-requires-3 c κs =
     let t = c .before .before in
     let s = t .before .before .before .before .before .before .before in
-    (s .pre .0, (s .pre .1, omega (arith, s .pre .0 .placed .transitions)))
+    (s .pre .0, (s .pre .1 .0, (s .pre .1 .1, omega (arith, s .pre .0 .placed .transitions))))
 
 same-length-3 : tie.Need-same-length-3
 same-length-3 c = search needs

@@ -1,14 +1,13 @@
--- Outer loop: from the marking after k firings the rest of the list replays as the whole list does from the start (`Underway`).
+-- Outer loop: from the marking after k firings the rest of the list replays as the list does from the marking of the call (`Going`).
 -- Inner loop: every place has enough for the input arcs passed (`Covered`).
 use Prim.Native.Nat.{_*_, _+_, _-_}
 use native.Mathlib.Omega.{arith}
 use lib.ListN.{length, getD}
-use Rattle.replay_steps.specs.Steps.{Underway}
 use Rattle.replay_steps.proofs.Underway.{Tabulated, tabulated, split-by}
 use Rattle.replay_firing.proofs.Firing.{arcs-fit}
 use Rattle.replay_firing.proofs.Short.{Covered, Weighed, covered-none, weigh, known}
-use Rattle.replay.specs.Steps.{begun}
-use Rattle.replay.proofs.Underway.{ready-on, long-still, ended-fired, ended-short, firable, fired-plain}
+use Rattle.replay.specs.Steps.{Going}
+use Rattle.replay.proofs.Underway.{going-on, ended-rest, ready-on, long-still, ended-fired, ended-short, firable, fired-plain}
 use borrow.Author.Needs.{needs}
 use Rattle.replay.proofs.run.Statement.{statement}
 use Rattle.replay.proofs.run.Tie as tie
@@ -20,7 +19,7 @@ abbrev μ-loop : tie.MeasureT-loop
 μ-loop file h table list done marking k t from middle j₀ last₀ need₀ j last need = h .arcs - j
 
 abbrev Inv-firings : tie.InvT-firings
-Inv-firings file h table list done marking₀ k₀ marking k = Underway file h list (begun file h) marking k
+Inv-firings file h table list done marking₀ k₀ marking k = Going file h list marking₀ done marking k
 
 abbrev μ-firings : tie.MeasureT-firings
 μ-firings file h table list done marking₀ k₀ marking k = length list - k
@@ -41,7 +40,7 @@ firing c = c .before .before .before .before .before
 
 -- the transition listed at k, in the table
 listed : (c : tie.After-shared-slice-known4 Inv-loop μ-loop Inv-firings μ-firings) → let s = call (c .before .before) in Tabulated (s .args .h) (s .args .table .now) (s .args .list .now) (c .before .before .firings .k)
-listed c = tabulated (c .before .before .firings .inv) (c .before .if1 .left) (call (c .before .before) .pre .0 .ready)
+listed c = tabulated (c .before .before .firings .inv .is) (c .before .if1 .left) (call (c .before .before) .pre .0 .ready)
 
 -- the place of input arc j, and what the arcs up to it take from there
 weighed : (c : tie.After-add-up Inv-loop μ-loop Inv-firings μ-firings) → let x = c .before .before .before .before in let f = firing x in let s = call f in
@@ -118,14 +117,14 @@ mul-count c = omega (arith, c .before .arc .ensures .1 .place)
 slice-read-count : tie.Need-slice-read-count Inv-loop μ-loop Inv-firings μ-firings
 slice-read-count c =
     let f = firing (c .before .before .before .before .before) in
-    omega (arith, weighed (c .before) .place, f .firings .inv .long, call f .pre .0 .ready .places)
+    omega (arith, weighed (c .before) .place, long-still (f .firings .inv .was) (f .firings .inv .is), call f .pre .0 .ready .places)
 
 -- ---- a place that is short
 
 cast-index : tie.Need-cast-index Inv-loop μ-loop Inv-firings μ-firings
 cast-index c =
     let x = c .before .before .before .before .before .before in
-    omega (arith, x .before .before .before .before .if1 .left, firing x .firings .inv .listed .short)
+    omega (arith, x .before .before .before .before .if1 .left, firing x .firings .inv .is .listed .short)
 
 cast-place : tie.Need-cast-place Inv-loop μ-loop Inv-firings μ-firings
 cast-place c = omega (arith, c .before .before .before .arc .ensures .1 .place)
@@ -154,12 +153,12 @@ fire-requires : tie.Need-fire-requires Inv-loop μ-loop Inv-firings μ-firings
 fire-requires c κs =
     let x = c .before .before in
     let f = firing x in
-    (ready-on (call f .pre .1) (f .firings .inv) (call f .pre .0 .ready), firable (f .firings .inv) (x .before .before .before .before .if1 .left) (x .loop .inv) (c .before .loop-test .left))
+    (ready-on (f .firings .inv .was) (f .firings .inv .is) (call f .pre .0 .ready), firable (f .firings .inv .is) (x .before .before .before .before .if1 .left) (x .loop .inv) (c .before .loop-test .left))
 
 add-k : tie.Need-add-k Inv-loop μ-loop Inv-firings μ-firings
 add-k c =
     let x = c .before .before .before .before .before in
-    omega (arith, x .before .before .before .before .if1 .left, firing x .firings .inv .listed .short)
+    omega (arith, x .before .before .before .before .if1 .left, firing x .firings .inv .is .listed .short)
 
 firings-less : tie.Need-firings-less Inv-loop μ-loop Inv-firings μ-firings
 firings-less c =
@@ -170,25 +169,26 @@ firings-again : tie.Need-firings-again Inv-loop μ-loop Inv-firings μ-firings
 firings-again c =
     let x = c .before .before .before .before .before in
     let f = firing x in
-    fired-plain (f .firings .inv) (x .before .before .before .before .if1 .left) (x .loop .inv) (c .before .before .before .before .loop-test .left) (call f .pre .0) (c .before .before .fire .ensures)
+    going-on (f .firings .inv) (fired-plain (f .firings .inv .is) (x .before .before .before .before .if1 .left) (x .loop .inv) (c .before .before .before .before .loop-test .left) (call f .pre .0) (c .before .before .fire .ensures))
 
 -- ---- the ends
 
 same-length : tie.Need-same-length Inv-loop μ-loop Inv-firings μ-firings
-same-length c = let f = c .before in long-still (call f .pre .1) (f .firings .inv)
+same-length c = let i = c .before .firings .inv in long-still (i .was) (i .is)
 
 returns : tie.Need-returns Inv-loop μ-loop Inv-firings μ-firings
-returns c = ended-fired (c .before .firings .inv) (c .if1 .taken)
+returns c = let i = c .before .firings .inv in ended-rest i (ended-fired (i .is) (c .if1 .taken))
 
 same-length-2 : tie.Need-same-length-2 Inv-loop μ-loop Inv-firings μ-firings
 same-length-2 c =
-    let f = firing (c .before .before .before .before .before .before .before) in
-    long-still (call f .pre .1) (f .firings .inv)
+    let i = firing (c .before .before .before .before .before .before .before) .firings .inv in
+    long-still (i .was) (i .is)
 
 returns-2 : tie.Need-returns-2 Inv-loop μ-loop Inv-firings μ-firings
 returns-2 c =
     let x = c .before .before .before .before .before .before .before in
-    ended-short (firing x .firings .inv) (x .before .before .before .before .if1 .left) (weighed (c .before .before .before)) (c .before .if2 .taken) (c .missing .ensures)
+    let i = firing x .firings .inv in
+    ended-rest i (ended-short (i .is) (x .before .before .before .before .if1 .left) (weighed (c .before .before .before)) (c .before .if2 .taken) (c .missing .ensures))
 
 pub run-spec : {M : Type 1} → statement M
 run-spec =

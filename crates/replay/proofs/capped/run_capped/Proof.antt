@@ -1,15 +1,13 @@
--- Outer loop: from the marking after k firings the rest of the list replays as the whole list does from the start (`Underway`).
+-- Outer loop: from the marking after k firings the rest of the list replays as the list does from the marking of the call (`Going`).
 -- Inner loop: every place has enough for the input arcs passed (`Covered`). Both as in `run`; what follows is the firing within the caps (`Filled`).
 use Prim.Native.Nat.{_*_, _+_, _-_, _<_}
-use mathlib.Core.Path.{sym, _∙_}
 use native.Mathlib.Omega.{arith}
 use lib.ListN.{length, getD}
-use Rattle.replay_steps.specs.Steps.{Underway}
 use Rattle.replay_steps.proofs.Underway.{Tabulated, tabulated, split-by}
 use Rattle.replay_firing.proofs.Firing.{arcs-fit}
 use Rattle.replay_firing.proofs.Short.{Covered, Weighed, covered-none, weigh, known}
-use Rattle.replay.specs.Steps.{begun}
-use Rattle.replay.proofs.Underway.{ready-on, long-still, ended-fired, ended-short, ended-full, firable, fired-capped}
+use Rattle.replay.specs.Steps.{Going}
+use Rattle.replay.proofs.Underway.{going-on, ended-rest, ready-on, long-still, ended-fired, ended-short, ended-full, firable, fired-capped}
 use borrow.Author.Needs.{needs}
 use Rattle.replay.proofs.capped.run_capped.Statement.{statement}
 use Rattle.replay.proofs.capped.run_capped.Tie as tie
@@ -21,7 +19,7 @@ abbrev μ-loop : tie.MeasureT-loop
 μ-loop file h table list done marking k t from middle j₀ last₀ need₀ j last need = h .arcs - j
 
 abbrev Inv-firings : tie.InvT-firings
-Inv-firings file h table list done marking₀ k₀ marking k = Underway file h list (begun file h) marking k
+Inv-firings file h table list done marking₀ k₀ marking k = Going file h list marking₀ done marking k
 
 abbrev μ-firings : tie.MeasureT-firings
 μ-firings file h table list done marking₀ k₀ marking k = length list - k
@@ -50,7 +48,7 @@ listed-at c = c .before .before .before .before .if1 .left
 
 -- the transition listed at k, in the table
 listed : (c : tie.After-shared-slice-known4 Inv-loop μ-loop Inv-firings μ-firings) → let s = call (c .before .before) in Tabulated (s .args .h) (s .args .table .now) (s .args .list .now) (c .before .before .firings .k)
-listed c = tabulated (c .before .before .firings .inv) (c .before .if1 .left) (call (c .before .before) .pre .0)
+listed c = tabulated (c .before .before .firings .inv .is) (c .before .if1 .left) (call (c .before .before) .pre .0)
 
 -- the place of input arc j, and what the arcs up to it take from there
 weighed : (c : tie.After-add-up Inv-loop μ-loop Inv-firings μ-firings) → let x = c .before .before .before .before in let f = firing x in let s = call f in
@@ -127,14 +125,14 @@ mul-count c = omega (arith, c .before .arc .ensures .1 .place)
 slice-read-count : tie.Need-slice-read-count Inv-loop μ-loop Inv-firings μ-firings
 slice-read-count c =
     let f = firing (c .before .before .before .before .before) in
-    omega (arith, weighed (c .before) .place, f .firings .inv .long, call f .pre .0 .places)
+    omega (arith, weighed (c .before) .place, long-still (f .firings .inv .was) (f .firings .inv .is), call f .pre .0 .places)
 
 -- ---- a place that is short
 
 cast-index : tie.Need-cast-index Inv-loop μ-loop Inv-firings μ-firings
 cast-index c =
     let x = c .before .before .before .before .before .before in
-    omega (arith, listed-at x, firing x .firings .inv .listed .short)
+    omega (arith, listed-at x, firing x .firings .inv .is .listed .short)
 
 cast-place : tie.Need-cast-place Inv-loop μ-loop Inv-firings μ-firings
 cast-place c = omega (arith, c .before .before .before .arc .ensures .1 .place)
@@ -163,7 +161,7 @@ fire-capped-requires : tie.Need-fire-capped-requires Inv-loop μ-loop Inv-firing
 fire-capped-requires c κs =
     let x = c .before .before in
     let f = firing x in
-    (ready-on (call f .pre .1) (f .firings .inv) (call f .pre .0), firable (f .firings .inv) (listed-at x) (x .loop .inv) (c .before .loop-test .left))
+    (ready-on (f .firings .inv .was) (f .firings .inv .is) (call f .pre .0), firable (f .firings .inv .is) (listed-at x) (x .loop .inv) (c .before .loop-test .left))
 
 enum-known-full : tie.Need-enum-known-full Inv-loop μ-loop Inv-firings μ-firings
 enum-known-full c = search needs
@@ -173,7 +171,7 @@ enum-known-full c = search needs
 cast-index-2 : tie.Need-cast-index-2 Inv-loop μ-loop Inv-firings μ-firings
 cast-index-2 c =
     let x = inputs (c .before .before .before .before .before) in
-    omega (arith, listed-at x, firing x .firings .inv .listed .short)
+    omega (arith, listed-at x, firing x .firings .inv .is .listed .short)
 
 -- ---- one that leaves none
 
@@ -183,7 +181,7 @@ enum-told c = search needs
 add-k : tie.Need-add-k Inv-loop μ-loop Inv-firings μ-firings
 add-k c =
     let x = inputs (c .before .before .before .before) in
-    omega (arith, listed-at x, firing x .firings .inv .listed .short)
+    omega (arith, listed-at x, firing x .firings .inv .is .listed .short)
 
 firings-less : tie.Need-firings-less Inv-loop μ-loop Inv-firings μ-firings
 firings-less c = omega (arith, listed-at (inputs (c .before .before .before .before)))
@@ -194,34 +192,37 @@ firings-again c =
     let x = inputs done in
     let f = firing x in
     let ready = call f .pre .0 in
-    fired-capped (f .firings .inv) (listed-at x) (done .fire-capped .ensures) (c .enum-told .given .1) (ready .sound) (ready .bytes)
+    let i = f .firings .inv in
+    going-on i (fired-capped (i .is) (listed-at x) (done .fire-capped .ensures) (c .enum-told .given .1) (ready .sound) (ready .bytes))
 
 -- ---- the ends
 
 same-length : tie.Need-same-length Inv-loop μ-loop Inv-firings μ-firings
-same-length c = let f = c .before in long-still (call f .pre .1) (f .firings .inv)
+same-length c = let i = c .before .firings .inv in long-still (i .was) (i .is)
 
 returns : tie.Need-returns Inv-loop μ-loop Inv-firings μ-firings
-returns c = ended-fired (c .before .firings .inv) (c .if1 .taken)
+returns c = let i = c .before .firings .inv in ended-rest i (ended-fired (i .is) (c .if1 .taken))
 
 same-length-2 : tie.Need-same-length-2 Inv-loop μ-loop Inv-firings μ-firings
 same-length-2 c =
-    let f = firing (c .before .before .before .before .before .before .before) in
-    long-still (call f .pre .1) (f .firings .inv)
+    let i = firing (c .before .before .before .before .before .before .before) .firings .inv in
+    long-still (i .was) (i .is)
 
 returns-2 : tie.Need-returns-2 Inv-loop μ-loop Inv-firings μ-firings
 returns-2 c =
     let x = c .before .before .before .before .before .before .before in
-    ended-short (firing x .firings .inv) (listed-at x) (weighed (c .before .before .before)) (c .before .if2 .taken) (c .missing .ensures)
+    let i = firing x .firings .inv in
+    ended-rest i (ended-short (i .is) (listed-at x) (weighed (c .before .before .before)) (c .before .if2 .taken) (c .missing .ensures))
 
 returns-3 : tie.Need-returns-3 Inv-loop μ-loop Inv-firings μ-firings
 returns-3 c =
     let done = c .before .before .before .before .before in
     let x = inputs done in
-    ended-full (firing x .firings .inv) (listed-at x) (done .fire-capped .ensures) (c .before .full .given .1)
+    let i = firing x .firings .inv in
+    ended-rest i (ended-full (i .is) (listed-at x) (done .fire-capped .ensures) (c .before .full .given .1))
 
 same-length-3 : tie.Need-same-length-3 Inv-loop μ-loop Inv-firings μ-firings
-same-length-3 c = returns-3 c .1 .long ∙ sym (call (firing (inputs (c .before .before .before .before .before))) .pre .1 .long)
+same-length-3 c = returns-3 c .marking .long
 
 pub run-capped-spec : {M : Type 1} → statement M
 run-capped-spec =
