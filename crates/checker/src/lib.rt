@@ -90,7 +90,13 @@ fn in_doubt(
 }
 
 // Rules 4 to 10, of places and transitions that the plan knows: one pass, then the rules that it leaves in doubt.
-fn others_outcome(plan: &[u8], hp: Header, slice: &[u8], hs: Header, criterion: &[u16]) -> Outcome
+pub fn others_outcome(
+    plan: &[u8],
+    hp: Header,
+    slice: &[u8],
+    hs: Header,
+    criterion: &[u16],
+) -> Outcome
     requires { ⌜ Judged (now plan) hp (now slice) hs (now criterion) ⌝ }
     requires { ⌜ KnownIn hp (sliceFrom (now slice) hs) ⌝ }
     ensures { λ r. ⌜ outcomeNumbers r ≡ told (verdictFrom 4 (rulesFrom4 (netFrom (now (plan .entry)) hp) (sliceFrom (now (slice .entry)) hs) (now (criterion .entry)))) ⌝ }

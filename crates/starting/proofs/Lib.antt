@@ -1,0 +1,4 @@
+pub mod Within
+pub mod Markings
+pub mod Replayed
+pub mod Places
