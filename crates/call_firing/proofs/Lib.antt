@@ -5,3 +5,4 @@ pub mod Followed
 pub mod Taken
 pub mod Ranged
 pub mod Apart
+pub mod Begun

@@ -1,2 +1,3 @@
-// The public calls that write plan files. No call asks anything of its caller: bad input is refused with its number.
+// The public calls about plans: those that write plan files, and the change of plan. No call asks anything of its caller: bad input is refused with its number.
 pub mod forms;
+pub mod transfers;
