@@ -12,6 +12,8 @@ use Rattle.net.specs.Slice.{Slice}
 use Rattle.net.specs.Range.{Extent, every, partly, never, extent}
 use Rattle.file.specs.Layout.{netOf}
 use Rattle.promise.specs.Calls.{CutAnswer, cutAnswer, cutOf, writeRefusal, safetyFile, safetyAnswer}
+use Rattle.promise.specs.Starts.{started, fromRefusal, cutUnless, safetyFromAnswer}
+use Rattle.file_header.specs.declared.Due.the-variants as due
 use Rattle.promise.specs.Promise.{WritesSmallest}
 use Rattle.promise.specs.Normal.{normalFile, normalWriteRefusal, FileAnswer, fileAnswer, normalAnswer, WritesNormal}
 use Rattle.promise.specs.RunCut.{RunAnswer, RunsBack}
@@ -52,6 +54,22 @@ unfolding normalAnswer
 normal-for-c plan room {exit} e w er en =
     let same = (λ i. fileRead (er i) (en i)) ∙ file-as-read (normalWriteRefusal plan room) (length (normalFile plan)) ∙ sym e in
     subst⁻¹ (λ (x : FileAnswer). WritesNormal plan x exit) same w
+
+-- from a start: the refusal of plan or start, or the answer
+unless-read : (n : ℕ) (a : CutAnswer) → cutRead (a .refusal) (a .length) (a .places) (a .transitions) ≡ a → let b = cutUnless n a in cutRead (b .refusal) (b .length) (b .places) (b .transitions) ≡ b
+unless-read zero a e = e
+unless-read (suc n) a e = refl
+
+from-as-read : (plan start Q : List ℕ) (room : ℕ) → let a = safetyFromAnswer plan start Q room in cutRead (a .refusal) (a .length) (a .places) (a .transitions) ≡ a
+unfolding safetyFromAnswer
+from-as-read plan start Q room = unless-read (fromRefusal due.Plan plan start) (safetyAnswer (started plan start) Q room) (safety-as-read (started plan start) Q room)
+
+pub safety-from-for-c : (plan start Q : List ℕ) (room : ℕ) {exit : List ℕ} {a : CutAnswer} {r n p t : ℕ} → a ≡ safetyFromAnswer plan start Q room → WritesSmallest (started plan start) Q a exit
+    → r ≡ safetyFromAnswer plan start Q room .refusal → n ≡ safetyFromAnswer plan start Q room .length → p ≡ safetyFromAnswer plan start Q room .places → t ≡ safetyFromAnswer plan start Q room .transitions
+    → WritesSmallest (started plan start) Q (cutRead r n p t) exit
+safety-from-for-c plan start Q room {exit} e w er en ep et =
+    let same = (λ i. cutRead (er i) (en i) (ep i) (et i)) ∙ from-as-read plan start Q room ∙ sym e in
+    subst⁻¹ (λ (x : CutAnswer). WritesSmallest (started plan start) Q x exit) same w
 
 -- the run cut's promise speaks of the numbers alone
 run-as-read : (plan Q list : List ℕ) (a : RunAnswer) (exit positions : List ℕ) → RunsBack plan Q list a exit positions

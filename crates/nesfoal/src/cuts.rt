@@ -2,6 +2,7 @@
 ghost use mathlib.Core.Path.{_≡_};
 ghost use lib.ListN.{length};
 ghost use Rattle.promise.specs.Calls.{safetyAnswer, safetyBuffer, branchingAnswer, branchingBuffer};
+ghost use Rattle.promise.specs.Starts.{started, safetyFromAnswer, safetyFromBuffer, branchingFromAnswer, branchingFromBuffer};
 ghost use Rattle.promise.specs.Promise.{WritesSmallest};
 ghost use Rattle.slice.specs.Kept.{cutNumbers};
 ghost use Rattle.nesfoal.specs.Cuts.{cutRead};
@@ -85,6 +86,55 @@ pub extern "C" fn nesfoal_branching(
     ensures transitions { λ _. ⌜ now (transitions .exit) ≡ branchingAnswer (now (plan .entry)) (now (criterion .entry)) (length (now (buffer .entry))) .transitions ⌝ }
 {
     let c = call_cuts::cuts::branching(plan, criterion, buffer);
+    *long = length_of(c);
+    *places = places_of(c);
+    *transitions = transitions_of(c);
+    refusal(c)
+}
+
+// The safety cut from a lent marking.
+#[no_mangle]
+pub extern "C" fn nesfoal_safety_from(
+    plan: &[u8],
+    start: &[u64],
+    criterion: &[u16],
+    buffer: &mut [u8],
+    long: &mut u32,
+    places: &mut u32,
+    transitions: &mut u32,
+) -> u32
+    ensures answer { λ r. ⌜ r ≡ safetyFromAnswer (now (plan .entry)) (now (start .entry)) (now (criterion .entry)) (length (now (buffer .entry))) .refusal ⌝ }
+    ensures buffer { λ _. ⌜ now (buffer .exit) ≡ safetyFromBuffer (now (plan .entry)) (now (start .entry)) (now (criterion .entry)) (now (buffer .entry)) ⌝ }
+    ensures long { λ _. ⌜ now (long .exit) ≡ safetyFromAnswer (now (plan .entry)) (now (start .entry)) (now (criterion .entry)) (length (now (buffer .entry))) .length ⌝ }
+    ensures places { λ _. ⌜ now (places .exit) ≡ safetyFromAnswer (now (plan .entry)) (now (start .entry)) (now (criterion .entry)) (length (now (buffer .entry))) .places ⌝ }
+    ensures transitions { λ _. ⌜ now (transitions .exit) ≡ safetyFromAnswer (now (plan .entry)) (now (start .entry)) (now (criterion .entry)) (length (now (buffer .entry))) .transitions ⌝ }
+    ensures smallest { λ r. ⌜ WritesSmallest (started (now (plan .entry)) (now (start .entry))) (now (criterion .entry)) (cutRead r (now (long .exit)) (now (places .exit)) (now (transitions .exit))) (now (buffer .exit)) ⌝ }
+{
+    let c = call_cuts::starts::safety_from(plan, start, criterion, buffer);
+    *long = length_of(c);
+    *places = places_of(c);
+    *transitions = transitions_of(c);
+    refusal(c)
+}
+
+// The branching cut from a lent marking.
+#[no_mangle]
+pub extern "C" fn nesfoal_branching_from(
+    plan: &[u8],
+    start: &[u64],
+    criterion: &[u16],
+    buffer: &mut [u8],
+    long: &mut u32,
+    places: &mut u32,
+    transitions: &mut u32,
+) -> u32
+    ensures answer { λ r. ⌜ r ≡ branchingFromAnswer (now (plan .entry)) (now (start .entry)) (now (criterion .entry)) (length (now (buffer .entry))) .refusal ⌝ }
+    ensures buffer { λ _. ⌜ now (buffer .exit) ≡ branchingFromBuffer (now (plan .entry)) (now (start .entry)) (now (criterion .entry)) (now (buffer .entry)) ⌝ }
+    ensures long { λ _. ⌜ now (long .exit) ≡ branchingFromAnswer (now (plan .entry)) (now (start .entry)) (now (criterion .entry)) (length (now (buffer .entry))) .length ⌝ }
+    ensures places { λ _. ⌜ now (places .exit) ≡ branchingFromAnswer (now (plan .entry)) (now (start .entry)) (now (criterion .entry)) (length (now (buffer .entry))) .places ⌝ }
+    ensures transitions { λ _. ⌜ now (transitions .exit) ≡ branchingFromAnswer (now (plan .entry)) (now (start .entry)) (now (criterion .entry)) (length (now (buffer .entry))) .transitions ⌝ }
+{
+    let c = call_cuts::starts::branching_from(plan, start, criterion, buffer);
     *long = length_of(c);
     *places = places_of(c);
     *transitions = transitions_of(c);

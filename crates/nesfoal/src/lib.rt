@@ -9,4 +9,5 @@ pub mod replays;
 pub mod runs;
 pub mod shadows;
 pub mod takings;
+pub mod transfers;
 pub mod verdicts;

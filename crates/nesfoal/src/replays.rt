@@ -2,6 +2,7 @@
 ghost use mathlib.Core.Path.{_≡_};
 ghost use lib.ListN.{length};
 ghost use Rattle.promise.specs.Firing.{replayAnswer, replayMarking};
+ghost use Rattle.promise.specs.Starts.{replayFromAnswer, replayFromMarking};
 ghost use Rattle.replay.specs.Told.{outcomeNumbers};
 ghost use Rattle.nesfoal.specs.Replays.{replayCode};
 use replay::Outcome;
@@ -72,6 +73,30 @@ pub extern "C" fn nesfoal_replay(
     ensures amount { λ _. ⌜ now (amount .exit) ≡ replayAnswer (now (file .entry)) (now (list .entry)) (length (now (marking .entry))) .amount ⌝ }
 {
     let o = call_firing::replays::replay(file, list, marking);
+    *index = index_of(o);
+    *place = place_of(o);
+    *amount = amount_of(o);
+    code(o)
+}
+
+// The same from a lent marking.
+#[no_mangle]
+pub extern "C" fn nesfoal_replay_from(
+    file: &[u8],
+    start: &[u64],
+    list: &[u16],
+    marking: &mut [u64],
+    index: &mut u32,
+    place: &mut u32,
+    amount: &mut u32,
+) -> u32
+    ensures answer { λ r. ⌜ r ≡ replayCode (replayFromAnswer (now (file .entry)) (now (start .entry)) (now (list .entry)) (length (now (marking .entry)))) ⌝ }
+    ensures marking { λ _. ⌜ now (marking .exit) ≡ replayFromMarking (now (file .entry)) (now (start .entry)) (now (list .entry)) (now (marking .entry)) ⌝ }
+    ensures index { λ _. ⌜ now (index .exit) ≡ replayFromAnswer (now (file .entry)) (now (start .entry)) (now (list .entry)) (length (now (marking .entry))) .index ⌝ }
+    ensures place { λ _. ⌜ now (place .exit) ≡ replayFromAnswer (now (file .entry)) (now (start .entry)) (now (list .entry)) (length (now (marking .entry))) .place ⌝ }
+    ensures amount { λ _. ⌜ now (amount .exit) ≡ replayFromAnswer (now (file .entry)) (now (start .entry)) (now (list .entry)) (length (now (marking .entry))) .amount ⌝ }
+{
+    let o = call_firing::starts::replay_from(file, start, list, marking);
     *index = index_of(o);
     *place = place_of(o);
     *amount = amount_of(o);

@@ -4,6 +4,8 @@ ghost use Rattle.net.specs.Guarantee.{Guarantee};
 ghost use Rattle.file.specs.Layout.{netOf, sliceOf};
 ghost use Rattle.file.specs.Criterion.{criterionOf};
 ghost use Rattle.promise.specs.Calls.{checked, checkedBytes};
+ghost use Rattle.promise.specs.Together.{standing};
+ghost use Rattle.promise.specs.Starts.{startingAt, checkedFrom};
 
 // Check, the criterion as 2 bytes a place, low byte first: 0 accepted, 1 to 10 or 16 a refusal, 100 plus the rule otherwise.
 #[no_mangle]
@@ -22,6 +24,24 @@ pub extern "C" fn nesfoal_verdict(plan: &[u8], slice: &[u8], q: &[u16], to: &mut
     ensures guarantee { λ r. ⌜ (r ≡ 0 → Guarantee (netOf (now (plan .entry))) (sliceOf (now (slice .entry))) (now (q .entry))) ⌝ }
 {
     let v = call_check::verdicts::check(plan, slice, q);
+    *to = checker::number(v);
+    checker::code(v)
+}
+
+// Check from a lent marking, against which rule 3 compares.
+#[no_mangle]
+pub extern "C" fn nesfoal_verdict_from(
+    plan: &[u8],
+    slice: &[u8],
+    start: &[u64],
+    q: &[u16],
+    to: &mut u32,
+) -> u32
+    ensures answer { λ r. ⌜ r ≡ checkedFrom (now (plan .entry)) (now (slice .entry)) (now (start .entry)) (now (q .entry)) .code ⌝ }
+    ensures number { λ _. ⌜ now (to .exit) ≡ checkedFrom (now (plan .entry)) (now (slice .entry)) (now (start .entry)) (now (q .entry)) .number ⌝ }
+    ensures guarantee { λ r. ⌜ (r ≡ 0 → Guarantee (startingAt (standing (now (start .entry))) (netOf (now (plan .entry)))) (sliceOf (now (slice .entry))) (now (q .entry))) ⌝ }
+{
+    let v = call_check::starts::check_from(plan, slice, start, q);
     *to = checker::number(v);
     checker::code(v)
 }

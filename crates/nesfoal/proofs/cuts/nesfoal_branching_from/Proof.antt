@@ -1,0 +1,51 @@
+use borrow.Author.Needs.{needs}
+use mathlib.Core.Path.{_∙_, ap}
+use Rattle.promise.specs.Calls.{CutAnswer}
+use Rattle.nesfoal.proofs.cuts.nesfoal_branching_from.Statement.{statement}
+use Rattle.nesfoal.proofs.cuts.nesfoal_branching_from.Tie as tie
+
+branching-from-requires : tie.Need-branching-from-requires
+branching-from-requires c κs = search needs
+
+length-of-requires : tie.Need-length-of-requires
+length-of-requires c κs = search needs
+
+places-of-requires : tie.Need-places-of-requires
+places-of-requires c κs = search needs
+
+transitions-of-requires : tie.Need-transitions-of-requires
+transitions-of-requires c κs = search needs
+
+refusal-requires : tie.Need-refusal-requires
+refusal-requires c κs = search needs
+
+same-length : tie.Need-same-length
+same-length c = search needs
+
+returns : tie.Need-returns
+returns c =
+    let e = c .before .before .before .before .before .before .branching-from .ensures .0 in (
+      c .refusal .ensures ∙ ap (λ (a : CutAnswer). a .refusal) e,
+      (
+        c .before .before .before .before .before .before .branching-from .ensures .1,
+        (
+          c .before .before .before .length-of .ensures ∙ ap (λ (a : CutAnswer). a .length) e,
+          (
+            c .before .before .places-of .ensures ∙ ap (λ (a : CutAnswer). a .places) e,
+            c .before .transitions-of .ensures ∙ ap (λ (a : CutAnswer). a .transitions) e,
+          ),
+        ),
+      ),
+    )
+
+pub nesfoal-branching-from-spec : {M : Type 1} → statement M
+nesfoal-branching-from-spec =
+    tie.close
+    (tie.spec
+    branching-from-requires
+    length-of-requires
+    places-of-requires
+    transitions-of-requires
+    refusal-requires
+    same-length
+    returns)
