@@ -4,7 +4,7 @@ use mathlib.Core.Bool.{Bool, true, false}
 use mathlib.Core.List.{List, []}
 use mathlib.Core.Path.{_≡_, refl, sym, ap, subst⁻¹, _∙_}
 use native.Mathlib.Omega.{arith}
-use lib.ListN.{length}
+use lib.ListN.{length, take}
 use Rattle.file_words.specs.Word.{Bytes}
 use Rattle.file_words.specs.Refusal.{orElse}
 use Rattle.file_words.proofs.Laws.{orElse-0}
@@ -18,8 +18,16 @@ use Rattle.promise.specs.Calls.{CutAnswer, cutAnswer, cutRefusal, writeR
 use Rattle.promise.specs.Firing.{ReplayAnswer, replayOr, replayRefusal, replayAnswer, replayMarking}
 use Rattle.promise.specs.Exactness.{WritesExact}
 use Rattle.promise.specs.Promise.{Demand3, WritesSmallest, Replays}
+use Rattle.net.specs.Net.{Net}
+use Rattle.net.specs.Slice.{Accepted}
+use Rattle.net.specs.Guarantee.{Contains}
+use Rattle.file.specs.Layout.{sliceOf}
+use Rattle.promise.specs.Together.{standing}
+use Rattle.promise.specs.Starts.{startingAt}
+use mathlib.Core.Logic.{_↔_}
+use mathlib.Core.Path.{subst}
 use Rattle.promise.specs.Starts.{started, startRefusal, fromRefusal, cutUnless, replayUnless, checkUnless, leftUnless, replayFromAnswer, replayFromMarking, safetyFromAnswer, safetyFromBuffer, branchingFromAnswer, branchingFromBuffer, checkFromRefusal, checkedFrom, AcceptsFrom, ownStart, OtherMarking, OwnStart}
-use Rattle.promise.proofs.Demands.{demand-3-by, writes-smallest}
+use Rattle.promise.proofs.Demands.{judges, demand-3-by, writes-smallest}
 use Rattle.promise.proofs.Exactness.{writes-exact}
 use Rattle.promise.proofs.Replays.{replays, differ}
 use Rattle.promise.proofs.Started.{started-header, started-bytes, started-readable, started-net, started-places, started-transitions, own-passes, own-started}
@@ -189,3 +197,32 @@ module _ (file : List ℕ) (b : Bytes file) where
     branching-buffer = λ Q buffer. branching-buffer-own Q buffer (fileRefusal due.Plan file) refl;
     check = λ slice Q. check-own slice Q (fileRefusal due.Plan file) refl;
   }
+
+-- the check from a start accepts exactly where the ten rules hold of the plan that starts there: rule 3 compares against the start
+pub judges-from : (plan start slice Q : List ℕ) → Bytes plan → fromRefusal due.Plan plan start ≡ 0
+    → AcceptsFrom plan start slice Q ↔ (checkRefusal (started plan start) slice Q ≡ 0) × Accepted (startingAt (standing start) (netOf plan)) (sliceOf slice) Q
+judges-from plan start slice Q b e =
+    let o = other-marking due.Plan plan start b e in
+    let same : checkedFrom plan slice start Q .code ≡ checked (started plan start) slice Q .code = ap (λ (c : Checked). c .code) (o .check (from-read due.Plan plan start e) slice Q) in
+    let j = judges (started plan start) slice Q .accepts in (
+      λ a. let x = j .0 (sym same ∙ a) in (x .0, subst (λ (N : Net). Accepted N (sliceOf slice) Q) (o .net) (x .1)),
+      λ y. same ∙ j .1 (y .0, subst⁻¹ (λ (N : Net). Accepted N (sliceOf slice) Q) (o .net) (y .1)),
+    )
+
+-- what safety_from wrote is accepted by check_from, and every slice that check_from accepts contains it
+module _ (plan start Q buffer : List ℕ) (b : Bytes plan) (z : safetyFromAnswer plan start Q (length buffer) .refusal ≡ 0) where
+  abbrev ours : List ℕ
+  ours = take (safetyFromAnswer plan start Q (length buffer) .length) (safetyFromBuffer plan start Q buffer)
+
+  begun : fromRefusal due.Plan plan start ≡ 0
+  unfolding safetyFromAnswer
+  begun = cut-by (fromRefusal due.Plan plan start) (safetyAnswer (started plan start) Q (length buffer)) z
+
+  same-code : (S : List ℕ) → checkedFrom plan S start Q .code ≡ checked (started plan start) S Q .code
+  same-code S = ap (λ (c : Checked). c .code) (other-marking due.Plan plan start b begun .check (from-read due.Plan plan start begun) S Q)
+
+  pub accepted-from : AcceptsFrom plan start ours Q
+  accepted-from = same-code ours ∙ at-safety plan start Q buffer b .accepted z
+
+  pub smallest-from : (other : List ℕ) → AcceptsFrom plan start other Q → Contains (sliceOf other) (sliceOf ours)
+  smallest-from other a = at-safety plan start Q buffer b .smallest z other (sym (same-code other) ∙ a)

@@ -20,8 +20,8 @@ use Rattle.file.proofs.Opening.{sound}
 use Rattle.file_header.specs.declared.Due.the-variants as due
 use Rattle.promise.specs.Calls.{written}
 use Rattle.promise.specs.Together.{standing}
-use Rattle.promise.specs.Starts.{tooMany, overfull, startRefusal}
-use Rattle.promise.specs.Transfer.{carriedTo, noPlace, tableWrong, strands, carryRefusal, transferAnswer, transferMarking, total, Carried}
+use Rattle.promise.specs.Starts.{tooMany, overfull, startRefusal, fromRefusal}
+use Rattle.promise.specs.Transfer.{carriedTo, noPlace, tableWrong, strands, carryRefusal, transferAnswer, transferMarking, total, Carried, CarriedOn}
 use Rattle.promise.proofs.Demands.{take-file}
 use Rattle.promise.proofs.Started.{none-over, over-none}
 
@@ -131,3 +131,11 @@ module _ (old new running table marking : List ℕ) (e : transferAnswer old new 
     total = ap total front ∙ same-total;
     ready = ap (startRefusal N) front ∙ ready-there;
   }
+
+pub carried-on : (new running table exit exit′ : List ℕ) → fileRefusal due.Plan new ≡ 0 → Carried new running table exit → Carried new running table exit′ → CarriedOn new exit exit′
+unfolding fromRefusal
+carried-on new running table exit exit′ r x y = record {
+  same = λ q l. x .sums q l ∙ sym (y .sums q l);
+  totals = x .total ∙ sym (y .total);
+  begins = rw (r, x .ready);
+}

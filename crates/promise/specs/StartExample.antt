@@ -48,6 +48,12 @@ pub record FromThere : Type 0 where
   pub sticks : replayFromAnswer smallPlan (0 ∷ 1 ∷ 1 ∷ 3 ∷ 0 ∷ []) (1 ∷ 0 ∷ []) 6 ≡ record { refused = false; refusal = 0; stuck = true; full = false; index = 1; place = 0; amount = 1 }
   -- 22 and 24 after the file, before the list
   pub short-start : replayFromAnswer smallPlan (0 ∷ []) (9 ∷ []) 0 .refusal ≡ 22
+  -- the length before the entries
+  pub short-and-large : replayFromAnswer smallPlan (4294967296 ∷ []) [] 0 .refusal ≡ 22
+  pub largest-start : replayFromAnswer smallPlan (0 ∷ 0 ∷ 0 ∷ 0 ∷ 4294967295 ∷ []) [] 5 .refusal ≡ 0
+  -- the file before the start, the plan before the slice
+  pub file-first : replayFromAnswer [] [] [] 0 .refusal ≡ 1
+  pub plan-first : checkedFrom onePlaceCut [] [] [] .code ≡ 3
   pub large-start : replayFromAnswer smallPlan (0 ∷ 0 ∷ 0 ∷ 0 ∷ 4294967296 ∷ []) (9 ∷ []) 0 .refusal ≡ 24
   pub above-cap : replayFromAnswer threePlaces (0 ∷ 0 ∷ 4 ∷ []) [] 3 .refusal ≡ 24
   pub lent-kept : replayFromMarking smallPlan (0 ∷ []) [] (9 ∷ []) ≡ 9 ∷ []

@@ -12,7 +12,7 @@ use Rattle.file.specs.Layout.{netOf}
 use Rattle.file.specs.Refusal.{fileRefusal}
 use Rattle.file_header.specs.declared.Due.the-variants as due
 use Rattle.promise.specs.Calls.{written}
-use Rattle.promise.specs.Starts.{overfull, startRefusal}
+use Rattle.promise.specs.Starts.{overfull, startRefusal, fromRefusal}
 
 -- "Each new place gets the sum of what maps to it": to place q, by "a table giving for each old place its new place"
 unfoldable pub carriedTo : ℕ → List ℕ → List ℕ → ℕ
@@ -62,3 +62,9 @@ pub record Carried (new running table exit : List ℕ) : Type 0 where
   pub total : total (take (netOf new .places) exit) ≡ total running
   -- the calls that start there refuse it by neither 22 nor 24
   pub ready : startRefusal (netOf new) (take (netOf new .places) exit) ≡ 0
+
+-- what people conclude: no other marking is carried, and the calls from a start take it
+pub record CarriedOn (new exit exit′ : List ℕ) : Type 0 where
+  pub same : (q : ℕ) → q < netOf new .places → getD exit q 0 ≡ getD exit′ q 0
+  pub totals : total (take (netOf new .places) exit) ≡ total (take (netOf new .places) exit′)
+  pub begins : fromRefusal due.Plan new (take (netOf new .places) exit) ≡ 0
