@@ -19,7 +19,7 @@ use Rattle.file.specs.Facts.{Opened}
 use Rattle.file_header.specs.declared.Due.the-variants as due
 use Rattle.file_header.specs.declared.Header.{Header}
 use Rattle.file_words.proofs.Laws.{orElse-stop}
-use Rattle.promise.specs.Calls.{CutAnswer, cutAnswer, cutOf, cutRefusal, writeRefusal, written, safetyFile, safetyAnswer, safetyBuffer, branchingFile, branchingAnswer, branchingBuffer}
+use Rattle.promise.specs.Calls.{CutAnswer, cutAnswer, cutOf, cutRefusal, writeRefusal, written, safetyFile, safetyAnswer, safetyBuffer, branchingFile, branchingAnswer, branchingBuffer, Accepts}
 use Rattle.promise.specs.Promise.{WritesSmallest}
 use Rattle.promise.proofs.Demands.{writes-smallest}
 use Rattle.sets.specs.declared.KeptSets.{KeptSets}
@@ -120,6 +120,6 @@ module _ (plan Q : List ℕ) (h : Header) (o : Opened due.Plan plan h) where
 -- the three promises of the safety cut, from the first two
 pub safety-all : (plan Q entry : List ℕ) {exit : List ℕ} {a : CutAnswer} → ((i : ℕ) → byteAt plan i < 256)
     → (a ≡ safetyAnswer plan Q (length entry)) × (exit ≡ safetyBuffer plan Q entry)
-    → (a ≡ safetyAnswer plan Q (length entry)) × ((exit ≡ safetyBuffer plan Q entry) × WritesSmallest plan Q a exit)
+    → (a ≡ safetyAnswer plan Q (length entry)) × ((exit ≡ safetyBuffer plan Q entry) × WritesSmallest (λ S. Accepts plan S Q) a exit)
 unfolding Bytes
 safety-all plan Q entry b (e, f) = (e, (f, writes-smallest plan Q entry b e f))

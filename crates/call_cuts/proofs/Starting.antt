@@ -11,9 +11,10 @@ use Rattle.file.specs.Facts.{Opened}
 use Rattle.file_header.specs.declared.Due.the-variants as due
 use Rattle.file_header.specs.declared.Header.{Header}
 use Rattle.promise.specs.Calls.{CutAnswer, cutRefusal, safetyAnswer, safetyBuffer, branchingAnswer, branchingBuffer}
-use Rattle.promise.specs.Starts.{startedFrom, started, fromRefusal, cutUnless, leftUnless, safetyFromAnswer, safetyFromBuffer, branchingFromAnswer, branchingFromBuffer}
+use Rattle.promise.specs.Exactness.{WritesExact}
+use Rattle.promise.specs.Starts.{netAt, startedFrom, started, fromRefusal, cutUnless, leftUnless, safetyFromAnswer, safetyFromBuffer, branchingFromAnswer, branchingFromBuffer, AcceptsFrom}
 use Rattle.promise.specs.Promise.{WritesSmallest}
-use Rattle.promise.proofs.Starts.{writes-smallest-from}
+use Rattle.promise.proofs.Starts.{writes-smallest-from, writes-exact-from}
 use Rattle.inputs_starts.specs.Startable.{Startable}
 use Rattle.inputs_starts.proofs.Calls.{by-start, same-file}
 use Rattle.sets.specs.declared.KeptSets.{KeptSets}
@@ -69,12 +70,12 @@ from-on k plan h start Q entry r p =
 -- the promises of the two cuts, from what either cut answers
 pub safety-promised : (plan start Q entry : List ℕ) {exit : List ℕ} {a : CutAnswer} → ((i : ℕ) → byteAt plan i < 256)
     → (a ≡ cutUnless (fromRefusal due.Plan plan start) (safetyAnswer (started plan start) Q (length entry))) × (exit ≡ leftUnless (fromRefusal due.Plan plan start) (safetyBuffer (started plan start) Q entry) entry)
-    → (a ≡ safetyFromAnswer plan start Q (length entry)) × ((exit ≡ safetyFromBuffer plan start Q entry) × WritesSmallest (started plan start) Q a exit)
+    → (a ≡ safetyFromAnswer plan start Q (length entry)) × ((exit ≡ safetyFromBuffer plan start Q entry) × WritesSmallest (λ S. AcceptsFrom plan start S Q) a exit)
 unfolding Bytes safetyFromAnswer safetyFromBuffer
 safety-promised plan start Q entry b (e, f) = (e, (f, writes-smallest-from plan start Q entry b e f))
 
-pub branching-promised : (plan start Q entry : List ℕ) {exit : List ℕ} {a : CutAnswer}
+pub branching-promised : (plan start Q entry : List ℕ) {exit : List ℕ} {a : CutAnswer} → ((i : ℕ) → byteAt plan i < 256)
     → (a ≡ cutUnless (fromRefusal due.Plan plan start) (branchingAnswer (started plan start) Q (length entry))) × (exit ≡ leftUnless (fromRefusal due.Plan plan start) (branchingBuffer (started plan start) Q entry) entry)
-    → (a ≡ branchingFromAnswer plan start Q (length entry)) × (exit ≡ branchingFromBuffer plan start Q entry)
-unfolding branchingFromAnswer branchingFromBuffer
-branching-promised plan start Q entry (e, f) = (e, f)
+    → (a ≡ branchingFromAnswer plan start Q (length entry)) × ((exit ≡ branchingFromBuffer plan start Q entry) × WritesExact (λ S. AcceptsFrom plan start S Q) (netAt plan start) a exit)
+unfolding Bytes branchingFromAnswer branchingFromBuffer
+branching-promised plan start Q entry b (e, f) = (e, (f, writes-exact-from plan start Q entry b e f))

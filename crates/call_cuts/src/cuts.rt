@@ -1,7 +1,7 @@
 // The two static cuts of a plan.
 ghost use mathlib.Core.Path.{_≡_};
 ghost use lib.ListN.{length};
-ghost use Rattle.promise.specs.Calls.{safetyAnswer, safetyBuffer, branchingAnswer, branchingBuffer};
+ghost use Rattle.promise.specs.Calls.{safetyAnswer, safetyBuffer, branchingAnswer, branchingBuffer, Accepts};
 ghost use Rattle.promise.specs.Promise.{WritesSmallest};
 ghost use Rattle.slice.specs.Kept.{cutNumbers};
 use cut::Kind;
@@ -13,7 +13,7 @@ use slice::Cut;
 pub fn safety(plan: &[u8], criterion: &[u16], buffer: &mut [u8]) -> Cut
     ensures answer { λ r. ⌜ cutNumbers r ≡ safetyAnswer (now (plan .entry)) (now (criterion .entry)) (length (now (buffer .entry))) ⌝ }
     ensures buffer { λ r. ⌜ now (buffer .exit) ≡ safetyBuffer (now (plan .entry)) (now (criterion .entry)) (now (buffer .entry)) ⌝ }
-    ensures smallest { λ r. ⌜ WritesSmallest (now (plan .entry)) (now (criterion .entry)) (cutNumbers r) (now (buffer .exit)) ⌝ }
+    ensures smallest { λ r. ⌜ WritesSmallest (λ S. Accepts (now (plan .entry)) S (now (criterion .entry))) (cutNumbers r) (now (buffer .exit)) ⌝ }
 {
     let whole = file::read(plan, Due::Plan);
     let Reading::Whole(h) = whole else {

@@ -2,7 +2,8 @@
 ghost use mathlib.Core.Path.{_≡_};
 ghost use lib.ListN.{length};
 ghost use Rattle.file_header.specs.declared.Due.the-variants.{Plan};
-ghost use Rattle.promise.specs.Starts.{started, fromRefusal, cutUnless, leftUnless, safetyFromAnswer, safetyFromBuffer, branchingFromAnswer, branchingFromBuffer};
+ghost use Rattle.promise.specs.Exactness.{WritesExact};
+ghost use Rattle.promise.specs.Starts.{netAt, started, fromRefusal, cutUnless, leftUnless, safetyFromAnswer, safetyFromBuffer, branchingFromAnswer, branchingFromBuffer, AcceptsFrom};
 ghost use Rattle.promise.specs.Promise.{WritesSmallest};
 ghost use Rattle.slice.specs.Kept.{cutNumbers};
 ghost use Rattle.call_cuts.specs.Kinds.{answerBy, bufferBy};
@@ -35,15 +36,16 @@ fn cut_from(plan: &[u8], start: &[u64], criterion: &[u16], kind: Kind, buffer: &
 pub fn safety_from(plan: &[u8], start: &[u64], criterion: &[u16], buffer: &mut [u8]) -> Cut
     ensures answer { λ r. ⌜ cutNumbers r ≡ safetyFromAnswer (now (plan .entry)) (now (start .entry)) (now (criterion .entry)) (length (now (buffer .entry))) ⌝ }
     ensures buffer { λ r. ⌜ now (buffer .exit) ≡ safetyFromBuffer (now (plan .entry)) (now (start .entry)) (now (criterion .entry)) (now (buffer .entry)) ⌝ }
-    ensures smallest { λ r. ⌜ WritesSmallest (started (now (plan .entry)) (now (start .entry))) (now (criterion .entry)) (cutNumbers r) (now (buffer .exit)) ⌝ }
+    ensures smallest { λ r. ⌜ WritesSmallest (λ S. AcceptsFrom (now (plan .entry)) (now (start .entry)) S (now (criterion .entry))) (cutNumbers r) (now (buffer .exit)) ⌝ }
 {
     cut_from(plan, start, criterion, Kind::Safety, buffer)
 }
 
-// The branching cut.
+// The branching cut: writes a slice that is exact on all its places, the smallest of those that the check from the start accepts and that keep whatever changes a kept place.
 pub fn branching_from(plan: &[u8], start: &[u64], criterion: &[u16], buffer: &mut [u8]) -> Cut
     ensures answer { λ r. ⌜ cutNumbers r ≡ branchingFromAnswer (now (plan .entry)) (now (start .entry)) (now (criterion .entry)) (length (now (buffer .entry))) ⌝ }
     ensures buffer { λ r. ⌜ now (buffer .exit) ≡ branchingFromBuffer (now (plan .entry)) (now (start .entry)) (now (criterion .entry)) (now (buffer .entry)) ⌝ }
+    ensures exact { λ r. ⌜ WritesExact (λ S. AcceptsFrom (now (plan .entry)) (now (start .entry)) S (now (criterion .entry))) (netAt (now (plan .entry)) (now (start .entry))) (cutNumbers r) (now (buffer .exit)) ⌝ }
 {
     cut_from(plan, start, criterion, Kind::Branching, buffer)
 }

@@ -25,7 +25,7 @@ module _ (plan Q exit : List ℕ) {end n code : ℕ} {v : Checked} (same : end �
   answers-0 : Accepts plan (take n exit) Q → code ≡ 0
   answers-0 a = read ∙ ap (λ (x : Checked). x .code) told ∙ ap (λ (k : ℕ). checked plan (take k exit) Q .code) same ∙ a
 
-pub safety-accepted : (plan Q exit : List ℕ) (room : ℕ) {a : CutAnswer} {refusal end code : ℕ} {v : Checked} → a ≡ safetyAnswer plan Q room → WritesSmallest plan Q a exit
+pub safety-accepted : (plan Q exit : List ℕ) (room : ℕ) {a : CutAnswer} {refusal end code : ℕ} {v : Checked} → a ≡ safetyAnswer plan Q room → WritesSmallest (λ S. Accepts plan S Q) a exit
     → refusal ≡ a .refusal → refusal ≡ 0 → end ≡ a .length → v ≡ checked plan (take end exit) Q → code ≡ v .code → code ≡ safetyAnswer plan Q room .refusal
 safety-accepted plan Q exit room {a} e w r z same told read =
     let none : a .refusal ≡ 0 = sym r ∙ z in
@@ -53,7 +53,7 @@ module _ (plan Q : List ℕ) (room : ℕ) where
   some-transitions = counts-some (writeRefusal plan Q room (safetyFile plan Q)) (length (safetyFile plan Q)) (cutOf safety plan Q) .1
 
 -- a slice with fewer is not accepted
-module _ (plan Q exit slice : List ℕ) (room : ℕ) {a : CutAnswer} (e : a ≡ safetyAnswer plan Q room) (w : WritesSmallest plan Q a exit) where
+module _ (plan Q exit slice : List ℕ) (room : ℕ) {a : CutAnswer} (e : a ≡ safetyAnswer plan Q room) (w : WritesSmallest (λ S. Accepts plan S Q) a exit) where
   pub fewer-places : sliceOf slice .net .places < a .places → ¬ Accepts plan slice Q
   fewer-places l ok =
       let none : a .refusal ≡ 0 = ap (λ (x : CutAnswer). x .refusal) e ∙ some-places plan Q room (omega (arith, l, ap (λ (x : CutAnswer). x .places) e)) in

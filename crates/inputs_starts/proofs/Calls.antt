@@ -19,7 +19,7 @@ use Rattle.inputs_starts.specs.Startable.{Startable}
 -- the file in which the start stands can be read as the file can
 pub opened-from : {d : Due} {s : List ℕ} {h : Header} {start : List ℕ} → Startable d s h start → ((i : ℕ) → byteAt s i < 256) → Opened d (startedFrom s h start) h
 unfolding Bytes
-opened-from {d} {s} {h} {start} r b = started-opened d s h start b (r .opened) (r .passes) refl
+opened-from {d} {s} {h} {start} r b = started-opened d s h start b (r .opened) (r .passes)
 
 pub entries : {d : Due} {s : List ℕ} {h : Header} {start : List ℕ} → Startable d s h start → length start ≡ h .places
 entries {d} {s} {h} {start} r = start-length (netFrom s h) start (r .passes)

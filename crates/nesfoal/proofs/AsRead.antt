@@ -1,4 +1,4 @@
--- The promises of the safety cut, of the normal form, of the run cut and of a range, as a C program reads the answer.
+-- The promises of the static cuts, of the normal form, of the run cut and of a range, as a C program reads the answer.
 use Prim.Native.Nat.{ℕ, zero, suc, _≤_}
 use mathlib.Core.Path.{_≡_, refl, sym, ap, subst, subst⁻¹, _∙_}
 use mathlib.Core.Bool.{not, _||_}
@@ -6,13 +6,14 @@ use mathlib.Core.List.{List}
 use native.Mathlib.Omega.{arith}
 use lib.ListN.{length}
 use borrow.Author.Tests.{ne-eqb}
-use Rattle.net.specs.Net.{counted}
-use Rattle.net.specs.Cut.{safety}
+use Rattle.net.specs.Net.{counted, Net}
+use Rattle.net.specs.Cut.{safety, branching}
 use Rattle.net.specs.Slice.{Slice}
 use Rattle.net.specs.Range.{Extent, every, partly, never, extent}
 use Rattle.file.specs.Layout.{netOf}
-use Rattle.promise.specs.Calls.{CutAnswer, cutAnswer, cutOf, writeRefusal, safetyFile, safetyAnswer}
-use Rattle.promise.specs.Starts.{started, fromRefusal, cutUnless, safetyFromAnswer}
+use Rattle.promise.specs.Calls.{CutAnswer, cutAnswer, cutOf, writeRefusal, safetyFile, safetyAnswer, branchingFile, branchingAnswer}
+use Rattle.promise.specs.Starts.{started, fromRefusal, cutUnless, safetyFromAnswer, branchingFromAnswer}
+use Rattle.promise.specs.Exactness.{WritesExact}
 use Rattle.file_header.specs.declared.Due.the-variants as due
 use Rattle.promise.specs.Promise.{WritesSmallest}
 use Rattle.promise.specs.Normal.{normalFile, normalWriteRefusal, FileAnswer, fileAnswer, normalAnswer, WritesNormal}
@@ -36,12 +37,12 @@ unfolding safetyAnswer
 safety-as-read plan Q room = as-read (writeRefusal plan Q room (safetyFile plan Q)) (length (safetyFile plan Q)) (cutOf safety plan Q)
 
 -- and so it has the promise
-pub safety-for-c : (plan Q : List ℕ) (room : ℕ) {exit : List ℕ} {a : CutAnswer} {r n p t : ℕ} → a ≡ safetyAnswer plan Q room → WritesSmallest plan Q a exit
+pub safety-for-c : (accepts : List ℕ → Type 0) (plan Q : List ℕ) (room : ℕ) {exit : List ℕ} {a : CutAnswer} {r n p t : ℕ} → a ≡ safetyAnswer plan Q room → WritesSmallest accepts a exit
     → r ≡ safetyAnswer plan Q room .refusal → n ≡ safetyAnswer plan Q room .length → p ≡ safetyAnswer plan Q room .places → t ≡ safetyAnswer plan Q room .transitions
-    → WritesSmallest plan Q (cutRead r n p t) exit
-safety-for-c plan Q room {exit} e w er en ep et =
+    → WritesSmallest accepts (cutRead r n p t) exit
+safety-for-c accepts plan Q room {exit} e w er en ep et =
     let same = (λ i. cutRead (er i) (en i) (ep i) (et i)) ∙ safety-as-read plan Q room ∙ sym e in
-    subst⁻¹ (λ (x : CutAnswer). WritesSmallest plan Q x exit) same w
+    subst⁻¹ (λ (x : CutAnswer). WritesSmallest accepts x exit) same w
 
 -- the same of the normal form
 file-as-read : (n len : ℕ) → let a = fileAnswer n len in fileRead (a .refusal) (a .length) ≡ a
@@ -64,12 +65,27 @@ from-as-read : (plan start Q : List ℕ) (room : ℕ) → let a = safetyFromAnsw
 unfolding safetyFromAnswer
 from-as-read plan start Q room = unless-read (fromRefusal due.Plan plan start) (safetyAnswer (started plan start) Q room) (safety-as-read (started plan start) Q room)
 
-pub safety-from-for-c : (plan start Q : List ℕ) (room : ℕ) {exit : List ℕ} {a : CutAnswer} {r n p t : ℕ} → a ≡ safetyFromAnswer plan start Q room → WritesSmallest (started plan start) Q a exit
+branching-as-read : (plan Q : List ℕ) (room : ℕ) → let a = branchingAnswer plan Q room in cutRead (a .refusal) (a .length) (a .places) (a .transitions) ≡ a
+unfolding branchingAnswer
+branching-as-read plan Q room = as-read (writeRefusal plan Q room (branchingFile plan Q)) (length (branchingFile plan Q)) (cutOf branching plan Q)
+
+branching-from-as-read : (plan start Q : List ℕ) (room : ℕ) → let a = branchingFromAnswer plan start Q room in cutRead (a .refusal) (a .length) (a .places) (a .transitions) ≡ a
+unfolding branchingFromAnswer
+branching-from-as-read plan start Q room = unless-read (fromRefusal due.Plan plan start) (branchingAnswer (started plan start) Q room) (branching-as-read (started plan start) Q room)
+
+pub safety-from-for-c : (accepts : List ℕ → Type 0) (plan start Q : List ℕ) (room : ℕ) {exit : List ℕ} {a : CutAnswer} {r n p t : ℕ} → a ≡ safetyFromAnswer plan start Q room → WritesSmallest accepts a exit
     → r ≡ safetyFromAnswer plan start Q room .refusal → n ≡ safetyFromAnswer plan start Q room .length → p ≡ safetyFromAnswer plan start Q room .places → t ≡ safetyFromAnswer plan start Q room .transitions
-    → WritesSmallest (started plan start) Q (cutRead r n p t) exit
-safety-from-for-c plan start Q room {exit} e w er en ep et =
+    → WritesSmallest accepts (cutRead r n p t) exit
+safety-from-for-c accepts plan start Q room {exit} e w er en ep et =
     let same = (λ i. cutRead (er i) (en i) (ep i) (et i)) ∙ from-as-read plan start Q room ∙ sym e in
-    subst⁻¹ (λ (x : CutAnswer). WritesSmallest (started plan start) Q x exit) same w
+    subst⁻¹ (λ (x : CutAnswer). WritesSmallest accepts x exit) same w
+
+pub branching-from-for-c : (accepts : List ℕ → Type 0) (N : Net) (plan start Q : List ℕ) (room : ℕ) {exit : List ℕ} {a : CutAnswer} {r n p t : ℕ} → a ≡ branchingFromAnswer plan start Q room → WritesExact accepts N a exit
+    → r ≡ branchingFromAnswer plan start Q room .refusal → n ≡ branchingFromAnswer plan start Q room .length → p ≡ branchingFromAnswer plan start Q room .places → t ≡ branchingFromAnswer plan start Q room .transitions
+    → WritesExact accepts N (cutRead r n p t) exit
+branching-from-for-c accepts N plan start Q room {exit} e w er en ep et =
+    let same = (λ i. cutRead (er i) (en i) (ep i) (et i)) ∙ branching-from-as-read plan start Q room ∙ sym e in
+    subst⁻¹ (λ (x : CutAnswer). WritesExact accepts N x exit) same w
 
 -- the run cut's promise speaks of the numbers alone
 run-as-read : (plan Q list : List ℕ) (a : RunAnswer) (exit positions : List ℕ) → RunsBack plan Q list a exit positions

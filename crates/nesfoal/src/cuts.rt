@@ -1,8 +1,9 @@
 // The two static cuts of a plan.
 ghost use mathlib.Core.Path.{_≡_};
 ghost use lib.ListN.{length};
-ghost use Rattle.promise.specs.Calls.{safetyAnswer, safetyBuffer, branchingAnswer, branchingBuffer};
-ghost use Rattle.promise.specs.Starts.{started, safetyFromAnswer, safetyFromBuffer, branchingFromAnswer, branchingFromBuffer};
+ghost use Rattle.promise.specs.Calls.{safetyAnswer, safetyBuffer, branchingAnswer, branchingBuffer, Accepts};
+ghost use Rattle.promise.specs.Exactness.{WritesExact};
+ghost use Rattle.promise.specs.Starts.{netAt, safetyFromAnswer, safetyFromBuffer, branchingFromAnswer, branchingFromBuffer, AcceptsFrom};
 ghost use Rattle.promise.specs.Promise.{WritesSmallest};
 ghost use Rattle.slice.specs.Kept.{cutNumbers};
 ghost use Rattle.nesfoal.specs.Cuts.{cutRead};
@@ -60,7 +61,7 @@ pub extern "C" fn nesfoal_safety(
     ensures long { λ _. ⌜ now (long .exit) ≡ safetyAnswer (now (plan .entry)) (now (criterion .entry)) (length (now (buffer .entry))) .length ⌝ }
     ensures places { λ _. ⌜ now (places .exit) ≡ safetyAnswer (now (plan .entry)) (now (criterion .entry)) (length (now (buffer .entry))) .places ⌝ }
     ensures transitions { λ _. ⌜ now (transitions .exit) ≡ safetyAnswer (now (plan .entry)) (now (criterion .entry)) (length (now (buffer .entry))) .transitions ⌝ }
-    ensures smallest { λ r. ⌜ WritesSmallest (now (plan .entry)) (now (criterion .entry)) (cutRead r (now (long .exit)) (now (places .exit)) (now (transitions .exit))) (now (buffer .exit)) ⌝ }
+    ensures smallest { λ r. ⌜ WritesSmallest (λ S. Accepts (now (plan .entry)) S (now (criterion .entry))) (cutRead r (now (long .exit)) (now (places .exit)) (now (transitions .exit))) (now (buffer .exit)) ⌝ }
 {
     let c = call_cuts::cuts::safety(plan, criterion, buffer);
     *long = length_of(c);
@@ -108,7 +109,7 @@ pub extern "C" fn nesfoal_safety_from(
     ensures long { λ _. ⌜ now (long .exit) ≡ safetyFromAnswer (now (plan .entry)) (now (start .entry)) (now (criterion .entry)) (length (now (buffer .entry))) .length ⌝ }
     ensures places { λ _. ⌜ now (places .exit) ≡ safetyFromAnswer (now (plan .entry)) (now (start .entry)) (now (criterion .entry)) (length (now (buffer .entry))) .places ⌝ }
     ensures transitions { λ _. ⌜ now (transitions .exit) ≡ safetyFromAnswer (now (plan .entry)) (now (start .entry)) (now (criterion .entry)) (length (now (buffer .entry))) .transitions ⌝ }
-    ensures smallest { λ r. ⌜ WritesSmallest (started (now (plan .entry)) (now (start .entry))) (now (criterion .entry)) (cutRead r (now (long .exit)) (now (places .exit)) (now (transitions .exit))) (now (buffer .exit)) ⌝ }
+    ensures smallest { λ r. ⌜ WritesSmallest (λ S. AcceptsFrom (now (plan .entry)) (now (start .entry)) S (now (criterion .entry))) (cutRead r (now (long .exit)) (now (places .exit)) (now (transitions .exit))) (now (buffer .exit)) ⌝ }
 {
     let c = call_cuts::starts::safety_from(plan, start, criterion, buffer);
     *long = length_of(c);
@@ -133,6 +134,7 @@ pub extern "C" fn nesfoal_branching_from(
     ensures long { λ _. ⌜ now (long .exit) ≡ branchingFromAnswer (now (plan .entry)) (now (start .entry)) (now (criterion .entry)) (length (now (buffer .entry))) .length ⌝ }
     ensures places { λ _. ⌜ now (places .exit) ≡ branchingFromAnswer (now (plan .entry)) (now (start .entry)) (now (criterion .entry)) (length (now (buffer .entry))) .places ⌝ }
     ensures transitions { λ _. ⌜ now (transitions .exit) ≡ branchingFromAnswer (now (plan .entry)) (now (start .entry)) (now (criterion .entry)) (length (now (buffer .entry))) .transitions ⌝ }
+    ensures exact { λ r. ⌜ WritesExact (λ S. AcceptsFrom (now (plan .entry)) (now (start .entry)) S (now (criterion .entry))) (netAt (now (plan .entry)) (now (start .entry))) (cutRead r (now (long .exit)) (now (places .exit)) (now (transitions .exit))) (now (buffer .exit)) ⌝ }
 {
     let c = call_cuts::starts::branching_from(plan, start, criterion, buffer);
     *long = length_of(c);

@@ -11,7 +11,6 @@ use lib.Dec.{T, eqb, ltb}
 use borrow.Author.Tests.{ltb-true, ltb-false, lt-ltb, le-ltb, eqb-true, eq-eqb, ne-eqb, not-false}
 use Rattle.net.specs.Numbers.{any, selected}
 use Rattle.net.specs.Net.{Net, capped, WithinCaps, tokens}
-use Rattle.net.specs.Slice.{Slice}
 use Rattle.net.specs.declared.Arc.{Arc}
 use Rattle.net.proofs.Numbers.{by-cases, holds, fails, is-true, is-false, any-has, any-finds, below-has, below-passes}
 use Rattle.net.proofs.Markings.{below-at, below-off, below-is, length-tokens, getD-tokens}
@@ -26,7 +25,7 @@ use Rattle.file_header.specs.Refusal.{trailerRefusal}
 use Rattle.file_header.specs.declared.Due.{Due}
 use Rattle.file_header.specs.declared.Header.{Header}
 use Rattle.file_header.specs.declared.Trailer.{Trailer}
-use Rattle.file.specs.Layout.{wordsFrom, markingAt, capAt, netFrom, netOf, sliceFrom, sliceOf}
+use Rattle.file.specs.Layout.{markingAt, capAt, netFrom, netOf}
 use Rattle.file.specs.Refusal.{lengthWrong, originsRefusal, linksRefusal, bodyRefusal, fileRefusal}
 use Rattle.file.specs.Facts.{Sound, Opened}
 use Rattle.file.proofs.Opening.{sound, kind-due}
@@ -59,11 +58,6 @@ module _ (s s′ : List ℕ) (a : ℕ) (same : (i : ℕ) → a ≤ i → byteAt 
   unfolding arcsFrom
   same-arcs i zero l = refl
   same-arcs i (suc n) l = let h = same-arc i l in let t = same-arcs (i + 8) n (omega arith) in λ x. h x ∷ t x
-
-  same-words : (i n : ℕ) → a ≤ i → wordsFrom s′ i n ≡ wordsFrom s i n
-  unfolding wordsFrom
-  same-words i zero l = refl
-  same-words i (suc n) l = let h = same-16 i l in let t = same-words (i + 2) n (omega arith) in λ x. h x ∷ t x
 
   same-arcs-refusal : (P T′ i least n : ℕ) → a ≤ i → arcsRefusal s′ P T′ i least n ≡ arcsRefusal s P T′ i least n
   unfolding arcsRefusal
@@ -196,12 +190,6 @@ module _ (d : Due) (s : List ℕ) (bytes : Bytes s) (e : fileRefusal d s ≡ 0) 
   header-same : headerOf s′ ≡ h
   unfolding headerOf
   header-same = let n = same-length in let t = trailer-same in λ i. headerFrom (n i) (t i)
-
-  places-same : wordsFrom s′ (h .originstart) (h .places) ≡ wordsFrom s (h .originstart) (h .places)
-  places-same = same-words s s′ (h .arcstart) after-same (h .originstart) (h .places) (fits .1)
-
-  transitions-same : wordsFrom s′ (h .originstart + 2 * h .places) (h .transitions) ≡ wordsFrom s (h .originstart + 2 * h .places) (h .transitions)
-  transitions-same = same-words s s′ (h .arcstart) after-same (h .originstart + 2 * h .places) (h .transitions) (omega (arith, fits .1))
 
   links-same : linksRefusal s′ h ≡ linksRefusal s h
   unfolding linksRefusal originsRefusal
@@ -354,10 +342,6 @@ module _ (d : Due) (s : List ℕ) (bytes : Bytes s) (e : fileRefusal d s ≡ 0) 
   within-start : (p : ℕ) → p < headerOf s .places → 0 < netOf s .cap p → standing start p ≤ netOf s .cap p
   within-start p l = start-fits (netOf s) start ok p l .1
 
-  pub started-length : length (started s start) ≡ length s
-  unfolding startedFrom
-  started-length = same-length d s bytes e (standing start)
-
   pub started-header : headerOf (started s start) ≡ headerOf s
   unfolding startedFrom
   started-header = header-same d s bytes e (standing start)
@@ -379,14 +363,6 @@ module _ (d : Due) (s : List ℕ) (bytes : Bytes s) (e : fileRefusal d s ≡ 0) 
 
   pub started-net : netOf (started s start) ≡ startingAt (standing start) (netOf s)
   started-net = ap (netFrom (started s start)) started-header ∙ started-from
-
-  pub started-places : sliceOf (started s start) .placeOrigins ≡ sliceOf s .placeOrigins
-  unfolding startedFrom
-  started-places = ap (λ (g : Header). wordsFrom (startedFrom s (headerOf s) start) (g .originstart) (g .places)) started-header ∙ places-same d s bytes e (standing start)
-
-  pub started-transitions : sliceOf (started s start) .transitionOrigins ≡ sliceOf s .transitionOrigins
-  unfolding startedFrom
-  started-transitions = ap (λ (g : Header). wordsFrom (startedFrom s (headerOf s) start) (g .originstart + 2 * g .places) (g .transitions)) started-header ∙ transitions-same d s bytes e (standing start)
 
 -- the file's own marking is a start, and the file with it is the file
 module _ (d : Due) (s : List ℕ) (bytes : Bytes s) (e : fileRefusal d s ≡ 0) where
@@ -421,13 +397,12 @@ module _ (d : Due) (s : List ℕ) (bytes : Bytes s) (e : fileRefusal d s ≡ 0) 
   unfolding startedFrom
   own-started = own-same d s bytes e (standing (ownStart s)) (λ p l. own-entry p l ∙ below-at (headerOf s .places) (markingAt s (headerOf s)) p l)
 
--- for a caller who has read the file and put the start into a copy of it
-pub started-opened : (d : Due) (s : List ℕ) (h : Header) (start : List ℕ) {c : List ℕ} → Bytes s → Opened d s h → startRefusal (netFrom s h) start ≡ 0 → c ≡ startedFrom s h start → Opened d c h
-started-opened d s h start b o ok e =
-    subst⁻¹ (λ (x : List ℕ). Opened d x h) e
-    (subst⁻¹ (λ (g : Header). startRefusal (netFrom s g) start ≡ 0 → Opened d (startedFrom s g start) g) (o .same) (λ ok′. record {
+-- for a caller who has read the file: the file from the start has its header
+pub started-opened : (d : Due) (s : List ℕ) (h : Header) (start : List ℕ) → Bytes s → Opened d s h → startRefusal (netFrom s h) start ≡ 0 → Opened d (startedFrom s h start) h
+started-opened d s h start b o ok =
+    subst⁻¹ (λ (g : Header). startRefusal (netFrom s g) start ≡ 0 → Opened d (startedFrom s g start) g) (o .same) (λ ok′. record {
       same = sym (started-header d s b (o .read) start ok′);
       read = started-readable d s b (o .read) start ok′ d (o .read);
       kind = kind-due d s (o .read);
       good = started-sound d s b (o .read) start ok′;
-    }) ok)
+    }) ok

@@ -46,15 +46,14 @@ pub record FromThere : Type 0 where
   pub fires : replayFromAnswer smallPlan (0 ∷ 1 ∷ 1 ∷ 3 ∷ 0 ∷ []) (1 ∷ 2 ∷ []) 6 ≡ record { refused = false; refusal = 0; stuck = false; full = false; index = 0; place = 0; amount = 0 }
   pub ends : replayFromMarking smallPlan (0 ∷ 1 ∷ 1 ∷ 3 ∷ 0 ∷ []) (1 ∷ 2 ∷ []) (9 ∷ 9 ∷ 9 ∷ 9 ∷ 9 ∷ 7 ∷ []) ≡ 0 ∷ 2 ∷ 0 ∷ 2 ∷ 1 ∷ 7 ∷ []
   pub sticks : replayFromAnswer smallPlan (0 ∷ 1 ∷ 1 ∷ 3 ∷ 0 ∷ []) (1 ∷ 0 ∷ []) 6 ≡ record { refused = false; refusal = 0; stuck = true; full = false; index = 1; place = 0; amount = 1 }
-  -- 22 and 24 after the file, before the list
+  -- in order: the file, 22, 24, the list, the room
+  pub file-first : replayFromAnswer [] (0 ∷ []) [] 0 .refusal ≡ 1
   pub short-start : replayFromAnswer smallPlan (0 ∷ []) (9 ∷ []) 0 .refusal ≡ 22
-  -- the length before the entries
   pub short-and-large : replayFromAnswer smallPlan (4294967296 ∷ []) [] 0 .refusal ≡ 22
-  pub largest-start : replayFromAnswer smallPlan (0 ∷ 0 ∷ 0 ∷ 0 ∷ 4294967295 ∷ []) [] 5 .refusal ≡ 0
-  -- the file before the start, the plan before the slice
-  pub file-first : replayFromAnswer [] [] [] 0 .refusal ≡ 1
-  pub plan-first : checkedFrom onePlaceCut [] [] [] .code ≡ 3
   pub large-start : replayFromAnswer smallPlan (0 ∷ 0 ∷ 0 ∷ 0 ∷ 4294967296 ∷ []) (9 ∷ []) 0 .refusal ≡ 24
+  pub then-list : replayFromAnswer smallPlan (0 ∷ 0 ∷ 0 ∷ 0 ∷ 0 ∷ []) (9 ∷ []) 0 .refusal ≡ 12
+  pub then-room : replayFromAnswer smallPlan (0 ∷ 0 ∷ 0 ∷ 0 ∷ 0 ∷ []) [] 4 .refusal ≡ 13
+  pub largest-start : replayFromAnswer smallPlan (0 ∷ 0 ∷ 0 ∷ 0 ∷ 4294967295 ∷ []) [] 5 .refusal ≡ 0
   pub above-cap : replayFromAnswer threePlaces (0 ∷ 0 ∷ 4 ∷ []) [] 3 .refusal ≡ 24
   pub lent-kept : replayFromMarking smallPlan (0 ∷ []) [] (9 ∷ []) ≡ 9 ∷ []
   -- a slice may be replayed from a start, by its own places
@@ -65,9 +64,41 @@ pub record FromThere : Type 0 where
   pub marked : take 12 (safetyFile (started smallPlan (1 ∷ 0 ∷ 1 ∷ 0 ∷ 0 ∷ [])) (2 ∷ [])) ≡ 1 ∷ 0 ∷ 0 ∷ 0 ∷ 0 ∷ 0 ∷ 0 ∷ 0 ∷ 1 ∷ 0 ∷ 0 ∷ 0 ∷ []
   pub accepted : checkedFrom smallPlan (safetyFile (started smallPlan (1 ∷ 0 ∷ 1 ∷ 0 ∷ 0 ∷ [])) (2 ∷ [])) (1 ∷ 0 ∷ 1 ∷ 0 ∷ 0 ∷ []) (2 ∷ []) .code ≡ 0
   pub other-start : checkedFrom smallPlan (safetyFile smallPlan (2 ∷ [])) (1 ∷ 0 ∷ 1 ∷ 0 ∷ 0 ∷ []) (2 ∷ []) ≡ record { refused = false; code = 103; number = 0 }
-  -- the slice is read before the start, the start before Q
+  -- the cuts in order: the plan, 22, 24, Q, the room
+  pub cut-plan : safetyFromAnswer onePlaceCut [] (9 ∷ []) 0 .refusal ≡ 3
+  pub cut-short : safetyFromAnswer smallPlan (4294967296 ∷ []) (9 ∷ []) 0 .refusal ≡ 22
+  pub cut-large : safetyFromAnswer smallPlan (0 ∷ 0 ∷ 0 ∷ 0 ∷ 4294967296 ∷ []) (9 ∷ []) 0 .refusal ≡ 24
+  pub cut-criterion : safetyFromAnswer smallPlan (1 ∷ 0 ∷ 1 ∷ 0 ∷ 0 ∷ []) (9 ∷ []) 0 .refusal ≡ 10
+  pub cut-room : safetyFromAnswer smallPlan (1 ∷ 0 ∷ 1 ∷ 0 ∷ 0 ∷ []) (2 ∷ []) 77 .refusal ≡ 13
+  pub branching-plan : branchingFromAnswer onePlaceCut [] (9 ∷ []) 0 .refusal ≡ 3
+  pub branching-short : branchingFromAnswer smallPlan (4294967296 ∷ []) (9 ∷ []) 0 .refusal ≡ 22
+  pub branching-large : branchingFromAnswer smallPlan (0 ∷ 0 ∷ 0 ∷ 0 ∷ 4294967296 ∷ []) (9 ∷ []) 0 .refusal ≡ 24
+  pub branching-criterion : branchingFromAnswer smallPlan (1 ∷ 0 ∷ 1 ∷ 0 ∷ 0 ∷ []) (9 ∷ []) 0 .refusal ≡ 10
+  pub branching-room : branchingFromAnswer smallPlan (1 ∷ 0 ∷ 1 ∷ 0 ∷ 0 ∷ []) (2 ∷ []) 87 .refusal ≡ 13
+  -- the check in order: the plan, the slice, 22, 24, Q
+  pub plan-first : checkedFrom onePlaceCut [] [] [] .code ≡ 3
   pub slice-first : checkedFrom smallPlan smallPlan [] (9 ∷ []) .code ≡ 3
-  pub start-next : checkedFrom smallPlan onePlaceCut [] (9 ∷ []) .code ≡ 22
+  pub start-next : checkedFrom smallPlan onePlaceCut (4294967296 ∷ []) (9 ∷ []) .code ≡ 22
+  pub start-large : checkedFrom smallPlan onePlaceCut (0 ∷ 0 ∷ 0 ∷ 0 ∷ 4294967296 ∷ []) (9 ∷ []) .code ≡ 24
   pub then-criterion : checkedFrom smallPlan onePlaceCut (0 ∷ 0 ∷ 0 ∷ 0 ∷ 0 ∷ []) (9 ∷ []) .code ≡ 10
   -- the plan's P and not the slice's
   pub slices-length : checkedFrom smallPlan onePlaceCut (3 ∷ []) (0 ∷ []) .code ≡ 22
+
+-- from the three places to the small plan, with six entries lent for its five places; on from there; and the cut where that ends
+abbrev pub carried : List ℕ
+carried = transferMarking threePlaces smallPlan (1 ∷ 1 ∷ 3 ∷ []) (0 ∷ 2 ∷ 3 ∷ []) (9 ∷ 9 ∷ 9 ∷ 9 ∷ 9 ∷ 9 ∷ [])
+
+abbrev pub firedOn : List ℕ
+firedOn = replayFromMarking smallPlan (take 5 carried) (1 ∷ 0 ∷ []) (9 ∷ 9 ∷ 9 ∷ 9 ∷ 9 ∷ [])
+
+abbrev pub cutOn : List ℕ
+cutOn = safetyFile (started smallPlan firedOn) (2 ∷ [])
+
+pub record AllTheWay : Type 0 where
+  pub carries : carried ≡ 1 ∷ 0 ∷ 1 ∷ 3 ∷ 0 ∷ 9 ∷ []
+  pub fires : firedOn ≡ 0 ∷ 0 ∷ 1 ∷ 4 ∷ 0 ∷ []
+  pub accepted : checkedFrom smallPlan cutOn firedOn (2 ∷ []) .code ≡ 0
+  -- not from where the firings began
+  pub moved-on : checkedFrom smallPlan cutOn (take 5 carried) (2 ∷ []) ≡ record { refused = false; code = 103; number = 0 }
+  -- only the first P entries of the lent list are a start
+  pub all-entries : replayFromAnswer smallPlan carried [] 5 .refusal ≡ 22

@@ -1,18 +1,23 @@
 -- Calls that start from a lent marking (document 02, A12), as computations over bytes: each answers what the plain call answers for the file in which that marking stands.
 -- Refusal 24 lets only those markings pass that a file can hold, so there is such a file, and every promise about a file is one about a start.
-use Prim.Native.Nat.{ℕ, zero, suc}
+use Prim.Native.Nat.{ℕ, zero, suc, _+_}
 use mathlib.Core.Bool.{Bool, true, false, not, _||_}
 use mathlib.Core.List.{List, _++_}
 use mathlib.Core.Path.{_≡_}
+use mathlib.Core.Logic.{_↔_}
 use lib.ListN.{length, take, drop}
 use lib.Dec.{eqb, ltb}
 use Rattle.net.specs.Numbers.{any, selected}
 use Rattle.net.specs.Net.{Marking, Net, tokens}
+use Rattle.net.specs.Cut.{safety, branching}
+use Rattle.net.specs.Slice.{cut, Accepted}
+use Rattle.net.specs.Checker.{rules, FirstBroken}
 use Rattle.file_words.specs.Word.{Bytes}
 use Rattle.file_words.specs.Refusal.{refuse, orElse, overCap}
 use Rattle.file_header.specs.Layout.{headerOf}
 use Rattle.file.specs.Layout.{netFrom, netOf, sliceOf}
 use Rattle.file.specs.Refusal.{fileRefusal}
+use Rattle.file.specs.Criterion.{criterionRefusal}
 use Rattle.file_writing.specs.Writing.{placesBytes}
 use Rattle.file_header.specs.declared.Due.{Due}
 use Rattle.file_header.specs.declared.Due.the-variants as due
@@ -25,6 +30,10 @@ use Rattle.promise.specs.Together.{standing}
 abbrev pub startingAt : Marking → Net → Net
 startingAt M N = record { places = N .places; transitions = N .transitions; marking = M; cap = N .cap; arcs = N .arcs }
 
+-- the net of a file, from a start
+abbrev pub netAt : List ℕ → List ℕ → Net
+netAt file start = startingAt (standing start) (netOf file)
+
 -- the file in which the numbers of the list stand for the markings; no other byte changes
 unfoldable pub startedFrom : List ℕ → Header → List ℕ → List ℕ
 startedFrom s h start = take (h .markstart) s ++ placesBytes (h .edition) (standing start) (netFrom s h .cap) 0 (h .places) ++ drop (h .arcstart) s
@@ -36,7 +45,7 @@ started file start = startedFrom file (headerOf file) start
 abbrev pub tooMany : ℕ → ℕ → Bool
 tooMany tokens cap = ltb 4294967295 tokens || overCap tokens cap
 
--- so on some place of the net
+-- some place of the net has too many
 unfoldable pub overfull : Net → Marking → Bool
 overfull N M = any (λ p. tooMany (M p) (N .cap p)) (selected (λ p. true) 0 (N .places))
 
@@ -104,12 +113,10 @@ ownStart file = tokens (netOf file) (netOf file .marking)
 
 -- nothing but the marking is another: of a file that can be read and a start that is not refused
 pub record OtherMarking (file start : List ℕ) : Type 0 where
-  pub net : netOf (started file start) ≡ startingAt (standing start) (netOf file)
+  pub net : netOf (started file start) ≡ netAt file start
   pub header : headerOf (started file start) ≡ headerOf file
-  pub placeOrigins : sliceOf (started file start) .placeOrigins ≡ sliceOf file .placeOrigins
-  pub transitionOrigins : sliceOf (started file start) .transitionOrigins ≡ sliceOf file .transitionOrigins
   pub bytes : Bytes (started file start)
-  -- it can be read as what the file can be read as
+  -- it can be read as the kind of file that the file can be read as
   pub read : (d : Due) → fileRefusal d file ≡ 0 → fileRefusal d (started file start) ≡ 0
   -- the checks from the start are those of the plan that has it
   pub check : fileRefusal due.Plan file ≡ 0 → (slice Q : List ℕ) → checkedFrom file slice start Q ≡ checked (started file start) slice Q
@@ -123,3 +130,24 @@ pub record OwnStart (file : List ℕ) : Type 0 where
   pub branching : (Q : List ℕ) (room : ℕ) → branchingFromAnswer file (ownStart file) Q room ≡ branchingAnswer file Q room
   pub branching-buffer : (Q buffer : List ℕ) → branchingFromBuffer file (ownStart file) Q buffer ≡ branchingBuffer file Q buffer
   pub check : (slice Q : List ℕ) → checkedFrom file slice (ownStart file) Q ≡ checked file slice Q
+
+-- the check from a start and the ten rules: rule 3 compares with the start
+pub record JudgesFrom (plan start slice Q : List ℕ) : Type 0 where
+  pub accepts : AcceptsFrom plan start slice Q ↔ (checkFromRefusal plan slice start ≡ 0) × (criterionRefusal (netOf plan .places) Q ≡ 0) × Accepted (netAt plan start) (sliceOf slice) Q
+  pub broken : (k : ℕ) → checkedFrom plan slice start Q .code ≡ 100 + k → FirstBroken 1 (rules (netAt plan start) (sliceOf slice) Q) k (checkedFrom plan slice start Q .number)
+
+-- the file that a cut from a start wrote: the buffer's first bytes, up to the length returned
+abbrev pub ourCutFrom : List ℕ → List ℕ → List ℕ → List ℕ → List ℕ
+ourCutFrom plan start Q buffer = take (safetyFromAnswer plan start Q (length buffer) .length) (safetyFromBuffer plan start Q buffer)
+
+abbrev pub ourBranchingFrom : List ℕ → List ℕ → List ℕ → List ℕ → List ℕ
+ourBranchingFrom plan start Q buffer = take (branchingFromAnswer plan start Q (length buffer) .length) (branchingFromBuffer plan start Q buffer)
+
+-- "A written slice file reads back as the net that was written": what the cuts from a start wrote, where they are not refused
+pub record ReadsBackFrom (plan start Q buffer : List ℕ) : Type 0 where
+  pub safety-read : safetyFromAnswer plan start Q (length buffer) .refusal ≡ 0 → fileRefusal due.Slice (ourCutFrom plan start Q buffer) ≡ 0
+  pub safety-same : safetyFromAnswer plan start Q (length buffer) .refusal ≡ 0 → sliceOf (ourCutFrom plan start Q buffer) ≡ cut (netAt plan start) (safety (netAt plan start) Q)
+  pub safety-edition : safetyFromAnswer plan start Q (length buffer) .refusal ≡ 0 → headerOf (ourCutFrom plan start Q buffer) .edition ≡ headerOf plan .edition
+  pub branching-read : branchingFromAnswer plan start Q (length buffer) .refusal ≡ 0 → fileRefusal due.Slice (ourBranchingFrom plan start Q buffer) ≡ 0
+  pub branching-same : branchingFromAnswer plan start Q (length buffer) .refusal ≡ 0 → sliceOf (ourBranchingFrom plan start Q buffer) ≡ cut (netAt plan start) (branching (netAt plan start) Q)
+  pub branching-edition : branchingFromAnswer plan start Q (length buffer) .refusal ≡ 0 → headerOf (ourBranchingFrom plan start Q buffer) .edition ≡ headerOf plan .edition

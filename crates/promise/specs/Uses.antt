@@ -59,7 +59,7 @@ pub record Endless (N : Net) (W : ℕ → Set) (P′ T′ done : Set) : Type 0 w
 pub record Uses : Type 0 where
   pub leads-on : (file list lent : List ℕ) → replayRefusal file list (length lent) ≡ 0 → LeadsOn file list lent
   -- a cut, then the check of what it wrote, or of any other slice
-  pub counted : (plan Q : List ℕ) (a : CutAnswer) (exit : List ℕ) → WritesSmallest plan Q a exit → a .refusal ≡ 0 → NoneSmaller (λ S. Accepts plan S Q) a (take (a .length) exit)
+  pub counted : (plan Q : List ℕ) (a : CutAnswer) (exit : List ℕ) → WritesSmallest (λ S. Accepts plan S Q) a exit → a .refusal ≡ 0 → NoneSmaller (λ S. Accepts plan S Q) a (take (a .length) exit)
   -- from the two C calls alone: Q as bytes
   pub two-calls : (plan q buffer : List ℕ) → Bytes plan → length q % 2 ≡ 0 → Wrote plan (criterionOf q) buffer
       → NoneSmaller (λ S. checkedBytes plan S q ≡ 0) (safetyAnswer plan (criterionOf q) (length buffer)) (ourCut plan (criterionOf q) buffer)

@@ -1,3 +1,4 @@
+use native.Mathlib.Omega.{arith}
 use Rattle.call_cuts.proofs.Starting.{branching-promised}
 use borrow.Author.Needs.{needs}
 use Rattle.call_cuts.proofs.starts.branching_from.Statement.{statement}
@@ -11,8 +12,9 @@ same-length c = search needs
 
 returns : tie.Need-returns
 returns c =
-    let a = c .before .before .before .before .before .before .before .before .args in
-    branching-promised (a .plan .now) (a .start .now) (a .criterion .now) (a .buffer .now) (c .before .before .cut-from .ensures)
+    let known = c .before .before .before .before .before .before .before in
+    let a = known .before .args in
+    branching-promised (a .plan .now) (a .start .now) (a .criterion .now) (a .buffer .now) (λ i. omega (arith, known .shared-slice-known .given i)) (c .before .before .cut-from .ensures)
 
 pub branching-from-spec : {M : Type 1} → statement M
 branching-from-spec = tie.close (tie.spec cut-from-requires same-length returns)

@@ -1,6 +1,7 @@
 use borrow.Author.Needs.{needs}
 use mathlib.Core.Path.{_∙_, ap}
 use Rattle.promise.specs.Calls.{CutAnswer}
+use Rattle.nesfoal.proofs.AsRead.{branching-from-for-c}
 use Rattle.nesfoal.proofs.cuts.nesfoal_branching_from.Statement.{statement}
 use Rattle.nesfoal.proofs.cuts.nesfoal_branching_from.Tie as tie
 
@@ -24,19 +25,13 @@ same-length c = search needs
 
 returns : tie.Need-returns
 returns c =
-    let e = c .before .before .before .before .before .before .branching-from .ensures .0 in (
-      c .refusal .ensures ∙ ap (λ (a : CutAnswer). a .refusal) e,
-      (
-        c .before .before .before .before .before .before .branching-from .ensures .1,
-        (
-          c .before .before .before .length-of .ensures ∙ ap (λ (a : CutAnswer). a .length) e,
-          (
-            c .before .before .places-of .ensures ∙ ap (λ (a : CutAnswer). a .places) e,
-            c .before .transitions-of .ensures ∙ ap (λ (a : CutAnswer). a .transitions) e,
-          ),
-        ),
-      ),
-    )
+    let s = c .before .before .before .before .before .before .branching-from .ensures in
+    let e = s .0 in
+    let r = c .refusal .ensures ∙ ap (λ (a : CutAnswer). a .refusal) e in
+    let n = c .before .before .before .length-of .ensures ∙ ap (λ (a : CutAnswer). a .length) e in
+    let p = c .before .before .places-of .ensures ∙ ap (λ (a : CutAnswer). a .places) e in
+    let t = c .before .transitions-of .ensures ∙ ap (λ (a : CutAnswer). a .transitions) e in
+    (r, (s .1 .0, (n, (p, (t, branching-from-for-c _ _ _ _ _ _ e (s .1 .1) r n p t)))))
 
 pub nesfoal-branching-from-spec : {M : Type 1} → statement M
 nesfoal-branching-from-spec =

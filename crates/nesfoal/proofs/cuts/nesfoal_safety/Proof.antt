@@ -31,7 +31,7 @@ returns c =
     let n = c .before .before .before .length-of .ensures ∙ ap (λ (a : CutAnswer). a .length) e in
     let p = c .before .before .places-of .ensures ∙ ap (λ (a : CutAnswer). a .places) e in
     let t = c .before .transitions-of .ensures ∙ ap (λ (a : CutAnswer). a .transitions) e in
-    (r, (s .1 .0, (n, (p, (t, safety-for-c _ _ _ e (s .1 .1) r n p t)))))
+    (r, (s .1 .0, (n, (p, (t, safety-for-c _ _ _ _ e (s .1 .1) r n p t)))))
 
 pub nesfoal-safety-spec : {M : Type 1} → statement M
 nesfoal-safety-spec =
