@@ -4,8 +4,7 @@ ghost use Rattle.net.specs.Guarantee.{Guarantee};
 ghost use Rattle.file.specs.Layout.{netOf, sliceOf};
 ghost use Rattle.file.specs.Criterion.{criterionOf};
 ghost use Rattle.promise.specs.Calls.{checked, checkedBytes};
-ghost use Rattle.promise.specs.Together.{standing};
-ghost use Rattle.promise.specs.Starts.{startingAt, checkedFrom};
+ghost use Rattle.promise.specs.Starts.{netAt, checkedFrom};
 
 // Check, the criterion as 2 bytes a place, low byte first: 0 accepted, 1 to 10 or 16 a refusal, 100 plus the rule otherwise.
 #[no_mangle]
@@ -39,7 +38,7 @@ pub extern "C" fn nesfoal_verdict_from(
 ) -> u32
     ensures answer { λ r. ⌜ r ≡ checkedFrom (now (plan .entry)) (now (slice .entry)) (now (start .entry)) (now (q .entry)) .code ⌝ }
     ensures number { λ _. ⌜ now (to .exit) ≡ checkedFrom (now (plan .entry)) (now (slice .entry)) (now (start .entry)) (now (q .entry)) .number ⌝ }
-    ensures guarantee { λ r. ⌜ (r ≡ 0 → Guarantee (startingAt (standing (now (start .entry))) (netOf (now (plan .entry)))) (sliceOf (now (slice .entry))) (now (q .entry))) ⌝ }
+    ensures guarantee { λ r. ⌜ (r ≡ 0 → Guarantee (netAt (now (plan .entry)) (now (start .entry))) (sliceOf (now (slice .entry))) (now (q .entry))) ⌝ }
 {
     let v = call_check::starts::check_from(plan, slice, start, q);
     *to = checker::number(v);

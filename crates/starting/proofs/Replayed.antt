@@ -43,7 +43,7 @@ module _ (M : Marking) (N : Net) where
   from-same [] i m = refl
   from-same (t ∷ ts) i m = by-test i m (testFiring N t m) (from-same ts (suc i) (fire N t m))
 
-  from-start : (ts : List ℕ) → replay (startingAt M N) ts ≡ replayFrom N 0 M ts
+  pub from-start : (ts : List ℕ) → replay (startingAt M N) ts ≡ replayFrom N 0 M ts
   unfolding replay
   from-start ts = from-same ts 0 M
 
