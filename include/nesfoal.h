@@ -49,8 +49,8 @@
 
 /* Room that always suffices, whatever the plan and the list, so that 13 is not met: bytes for the slice that a cut writes,
  * 45,072 (8 for a marking and a cap, 8 for an arc, 2 for an origin, 16 for the trailer), and for a plan, 40,976; entries for a
- * marking, of a replay, of what nesfoal_together leaves or of what nesfoal_range needs; entries for a shadow; entries for the
- * positions of a run cut.
+ * marking, of a replay, of what nesfoal_together leaves, of what nesfoal_range needs or of a transfer; entries for a shadow;
+ * entries for the positions of a run cut.
  */
 #define NESFOAL_SLICE_ROOM \
     (8 * NESFOAL_MAX_PLACES + 8 * NESFOAL_MAX_ARCS + 2 * NESFOAL_MAX_PLACES + 2 * NESFOAL_MAX_TRANSITIONS + 16)
@@ -58,6 +58,9 @@
 #define NESFOAL_MARKING_ROOM NESFOAL_MAX_PLACES
 #define NESFOAL_SHADOW_ROOM NESFOAL_MAX_LIST_ENTRIES
 #define NESFOAL_POSITIONS_ROOM NESFOAL_MAX_LIST_ENTRIES
+
+/* The entry of nesfoal_transfer's table for an old place that has no new one. */
+#define NESFOAL_NO_PLACE 65535
 
 /* The stack that a call takes at most, in bytes, below the arguments that are handed over on it. Measured for this archive on
  * x86-64: the tests make every call on a stack of just so many. The memcpy and memset of the C library count with it, once they are
@@ -75,11 +78,16 @@
 #define NESFOAL_STACK_ARCS 1024
 #define NESFOAL_STACK_RANGE 6144
 #define NESFOAL_STACK_NORMAL 1024
+#define NESFOAL_STACK_TRANSFER 9728
+#define NESFOAL_STACK_REPLAY_FROM 30720
+#define NESFOAL_STACK_SAFETY_FROM 27648
+#define NESFOAL_STACK_BRANCHING_FROM 27648
+#define NESFOAL_STACK_VERDICT_FROM 23552
 
-/* What the calls return, but for nesfoal_arcs. In the order of checking: files come first (plan before slice), then
- * criterion, list or transition, marking or upper list, and last the buffer; each file is gone through from 1 to 5, then 16,
- * then its arcs one by one, 6 before 7, then 8. So a plan is refused with 1 to 7 or 16, a slice with 1 to 8 or 16: 'of the
- * file' below.
+/* What the calls return, but for nesfoal_arcs. In the order of checking: files come first (plan before slice, old plan before
+ * new), then the marking that a call starts from, criterion, list or transition, marking or upper list, and last the buffer;
+ * each file is gone through from 1 to 5, then 16, then its arcs one by one, 6 before 7, then 8. So a plan is refused with 1 to
+ * 7 or 16, a slice with 1 to 8 or 16: 'of the file' below.
  */
 enum {
     NESFOAL_DONE = 0,
@@ -105,6 +113,11 @@ enum {
     NESFOAL_REFUSED_CAP = 16,        /* a place: its marking above its cap, if that is not 0; comes after 5 */
     NESFOAL_REFUSED_CAPPED = 17,     /* plan of a run cut or of a range: some place has a cap; comes after the plan's own */
     NESFOAL_REFUSED_UPPER = 21,      /* upper list: not as many entries as the plan has places, or one below the plan's marking */
+    NESFOAL_REFUSED_ENTRIES = 22,    /* start, running marking or table: not as many entries as places; or an entry of the table
+                                        that is neither a place of the new plan nor NESFOAL_NO_PLACE */
+    NESFOAL_REFUSED_STRANDED = 23,   /* table: a place that has tokens has no new place */
+    NESFOAL_REFUSED_TOKENS = 24,     /* start, or what a new place gets: above 4,294,967,295, or above the place's cap, if that
+                                        is not 0 */
     NESFOAL_REFUSED_WEIGHT = 25,     /* plan to be normalised: parallel arcs whose weights sum to more than 65,535; comes after
                                         the plan's own */
     NESFOAL_LAST_REFUSAL = 25,       /* answers from 1 to this one are refusals */
@@ -267,6 +280,55 @@ uint32_t nesfoal_run_cut(const uint8_t *plan, size_t plan_length,
                          uint16_t *positions, size_t positions_count,
                          uint32_t *length, uint32_t *places, uint32_t *transitions, uint32_t *count,
                          uint32_t *index, uint32_t *place, uint32_t *amount);
+
+/* Change of plan with buses on the road: carries a running marking of an old plan over to a new one. Each new place gets the sum
+ * of the tokens of the old places that the table sends there, 0 where it sends none; so the total is unchanged. Neither plan's own
+ * marking plays a part, nor do the old plan's caps.
+ *
+ * running: the tokens of each old place, any numbers. table: for each old place the new place, or NESFOAL_NO_PLACE.
+ * Returns 0; or a refusal: that of the old plan, that of the new plan, 22 where running or table has not as many entries as the old
+ * plan has places, or an entry of table is neither a place of the new plan nor NESFOAL_NO_PLACE, 23 where a place with tokens has no
+ * new place, 24 where a new place would get more than 4,294,967,295 tokens or more than its cap, and 13 where marking has fewer
+ * entries than the new plan has places; each for all places before the next.
+ * The first entries of marking, one for each new place, become the sums; later entries keep their values. The calls below take
+ * them as a start for the new plan.
+ */
+uint32_t nesfoal_transfer(const uint8_t *old_plan, size_t old_plan_length,
+                          const uint8_t *new_plan, size_t new_plan_length,
+                          const uint64_t *running, size_t running_count,
+                          const uint16_t *table, size_t table_count,
+                          uint64_t *marking, size_t marking_count);
+
+/* A replay, the two static cuts and a check that start from a lent marking in place of the file's own. Each answers, and writes, what
+ * the call without _from does for the file in which start stands for the marking; from the file's own marking they are the same.
+ * So the cuts write start's tokens into the slice, rule 103 compares the slice's marking with start, and what is promised of an
+ * accepted slice and of either cut is promised for the lists that fire from start.
+ * nesfoal_check, nesfoal_shadow and nesfoal_run_cut stay with the plan's own marking.
+ *
+ * start: the tokens of each place of the file that is replayed, or of the plan; each at most 4,294,967,295 and at most its
+ * place's cap, if that is not 0.
+ * Refusals are those of the call without _from, with 22 and then 24 for start after the files, before criterion or list.
+ */
+uint32_t nesfoal_replay_from(const uint8_t *file, size_t file_length,
+                             const uint64_t *start, size_t start_count,
+                             const uint16_t *list, size_t list_count,
+                             uint64_t *marking, size_t marking_count,
+                             uint32_t *index, uint32_t *place, uint32_t *amount);
+uint32_t nesfoal_safety_from(const uint8_t *plan, size_t plan_length,
+                             const uint64_t *start, size_t start_count,
+                             const uint16_t *criterion, size_t criterion_count,
+                             uint8_t *slice, size_t slice_length,
+                             uint32_t *length, uint32_t *places, uint32_t *transitions);
+uint32_t nesfoal_branching_from(const uint8_t *plan, size_t plan_length,
+                                const uint64_t *start, size_t start_count,
+                                const uint16_t *criterion, size_t criterion_count,
+                                uint8_t *slice, size_t slice_length,
+                                uint32_t *length, uint32_t *places, uint32_t *transitions);
+uint32_t nesfoal_verdict_from(const uint8_t *plan, size_t plan_length,
+                              const uint8_t *slice, size_t slice_length,
+                              const uint64_t *start, size_t start_count,
+                              const uint16_t *criterion, size_t criterion_count,
+                              uint32_t *number);
 
 /* The normal form of a plan, by which a planner who redraws a net sees that it is still one plan: the plan without note, in
  * edition 2, each run of parallel arcs joined into one arc with the sum of their weights, everything else in order.

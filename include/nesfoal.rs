@@ -18,6 +18,8 @@ pub const NESFOAL_MARKING_ROOM: usize = NESFOAL_MAX_PLACES;
 pub const NESFOAL_SHADOW_ROOM: usize = NESFOAL_MAX_LIST_ENTRIES;
 pub const NESFOAL_POSITIONS_ROOM: usize = NESFOAL_MAX_LIST_ENTRIES;
 
+pub const NESFOAL_NO_PLACE: u16 = 65535;
+
 pub const NESFOAL_STACK_CHECK: usize = 25600;
 pub const NESFOAL_STACK_VERDICT: usize = 23552;
 pub const NESFOAL_STACK_EFFECT: usize = 1024;
@@ -30,6 +32,11 @@ pub const NESFOAL_STACK_TOGETHER: usize = 1024;
 pub const NESFOAL_STACK_ARCS: usize = 1024;
 pub const NESFOAL_STACK_RANGE: usize = 6144;
 pub const NESFOAL_STACK_NORMAL: usize = 1024;
+pub const NESFOAL_STACK_TRANSFER: usize = 9728;
+pub const NESFOAL_STACK_REPLAY_FROM: usize = 30720;
+pub const NESFOAL_STACK_SAFETY_FROM: usize = 27648;
+pub const NESFOAL_STACK_BRANCHING_FROM: usize = 27648;
+pub const NESFOAL_STACK_VERDICT_FROM: usize = 23552;
 
 pub const NESFOAL_DONE: u32 = 0;
 pub const NESFOAL_ACCEPTED: u32 = 0;
@@ -51,6 +58,9 @@ pub const NESFOAL_REFUSED_MARKING: u32 = 15;
 pub const NESFOAL_REFUSED_CAP: u32 = 16;
 pub const NESFOAL_REFUSED_CAPPED: u32 = 17;
 pub const NESFOAL_REFUSED_UPPER: u32 = 21;
+pub const NESFOAL_REFUSED_ENTRIES: u32 = 22;
+pub const NESFOAL_REFUSED_STRANDED: u32 = 23;
+pub const NESFOAL_REFUSED_TOKENS: u32 = 24;
 pub const NESFOAL_REFUSED_WEIGHT: u32 = 25;
 pub const NESFOAL_LAST_REFUSAL: u32 = 25;
 pub const NESFOAL_STUCK: u32 = 100;
@@ -166,6 +176,68 @@ extern "C" {
         normal: *mut u8,
         normal_len: usize,
         length: *mut u32,
+    ) -> u32;
+    pub fn nesfoal_transfer(
+        old_plan: *const u8,
+        old_plan_len: usize,
+        new_plan: *const u8,
+        new_plan_len: usize,
+        running: *const u64,
+        running_len: usize,
+        table: *const u16,
+        table_len: usize,
+        marking: *mut u64,
+        marking_len: usize,
+    ) -> u32;
+    pub fn nesfoal_replay_from(
+        file: *const u8,
+        file_len: usize,
+        start: *const u64,
+        start_len: usize,
+        list: *const u16,
+        list_len: usize,
+        marking: *mut u64,
+        marking_len: usize,
+        index: *mut u32,
+        place: *mut u32,
+        amount: *mut u32,
+    ) -> u32;
+    pub fn nesfoal_safety_from(
+        plan: *const u8,
+        plan_len: usize,
+        start: *const u64,
+        start_len: usize,
+        q: *const u16,
+        q_len: usize,
+        slice: *mut u8,
+        slice_len: usize,
+        length: *mut u32,
+        places: *mut u32,
+        transitions: *mut u32,
+    ) -> u32;
+    pub fn nesfoal_branching_from(
+        plan: *const u8,
+        plan_len: usize,
+        start: *const u64,
+        start_len: usize,
+        q: *const u16,
+        q_len: usize,
+        slice: *mut u8,
+        slice_len: usize,
+        length: *mut u32,
+        places: *mut u32,
+        transitions: *mut u32,
+    ) -> u32;
+    pub fn nesfoal_verdict_from(
+        plan: *const u8,
+        plan_len: usize,
+        slice: *const u8,
+        slice_len: usize,
+        start: *const u64,
+        start_len: usize,
+        q: *const u16,
+        q_len: usize,
+        number: *mut u32,
     ) -> u32;
     pub fn nesfoal_check(
         plan: *const u8,

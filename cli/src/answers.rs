@@ -369,6 +369,11 @@ pub fn range(extent: Extent, scarce: Option<Scarce>, needed: &[u64]) -> Answer {
     answer.and_says("; needed{needed}", vec![needed.into()])
 }
 
+pub fn carried(marking: &[u64]) -> Answer {
+    let tokens = Value::Count(marking.iter().sum(), "token");
+    answer!("carried", Good, "carried {tokens}, ending{marking}", tokens, marking)
+}
+
 pub fn written(file: &[u8], slice: &Slice) -> Answer {
     let [bytes, places, transitions] = [
         count(slice.bytes.len(), "byte"),
@@ -413,6 +418,12 @@ const TRANSITION: Value = Value::Either("transition", "transition");
 pub fn broken(rule: u32, number: u32) -> Answer {
     let (by, reason) = RULES[rule as usize - 1].clone();
     answer!("broken", Bad, "rule {rule} broken by {by} {number}: {reason}", rule, by, number, reason)
+}
+
+/// Rule 3 of a check from a lent marking.
+pub fn broken_from(number: u32) -> Answer {
+    let reason = "its marking is not the one given, or its cap is not the plan's";
+    answer!("broken", Bad, "rule {rule} broken by {by} {number}: {reason}", 3, PLACE, number, reason)
 }
 
 /// The first line of `show`: counts, and the note where it is text.

@@ -2,7 +2,7 @@
 
 use crate::answers::{self, quote, Answer, Status};
 use crate::files::{self, File, Input, Named, Out};
-use crate::numbers::{self, Entry, Kind};
+use crate::numbers::{self, Entry, Kind, LIST, MARKING};
 use crate::verbs::Verb;
 use crate::words::{brief, Command};
 use std::ffi::{OsStr, OsString};
@@ -53,6 +53,14 @@ impl<'a> Call<'a> {
     /// The list that the words from i on are.
     pub fn list_from<T: Entry>(&mut self, i: usize, kind: &Kind<T>) -> Result<Vec<T>, Answer> {
         self.list(i..self.words.len(), kind)
+    }
+
+    /// The list that the words of a range are, and the marking after `from`, where that stands among them.
+    pub fn list_and_start(&mut self, range: Range<usize>) -> Result<(Vec<u16>, Option<Vec<u64>>), Answer> {
+        let from = self.find(range.start, "from").filter(|&from| from < range.end);
+        let list = self.list(range.start..from.unwrap_or(range.end), &LIST)?;
+        let marking = from.map(|from| self.list(from + 1..range.end, &MARKING)).transpose()?;
+        Ok((list, marking))
     }
 
     /// Where a word stands that parts one list from the next: the first such word from i on.

@@ -4,30 +4,30 @@ use crate::answers::{self, Answer};
 use crate::call::{Call, Done};
 use crate::diagnose::Asked;
 use crate::files::{self, Out};
-use crate::library::{self, Refusal, Slice};
+use crate::library::{self, Refusal, Slice, Start};
 use crate::net::places;
 use crate::numbers::LIST;
 use crate::progress::Progress;
 use std::os::unix::ffi::OsStrExt;
 
-type Cut = fn(&[u8], &[u16]) -> Result<Slice, Refusal>;
+type Cut = fn(&[u8], Start, &[u16]) -> Result<Slice, Refusal>;
 
-/// safety PLAN OUT [Q..]
+/// safety PLAN OUT [Q..] [from MARKING..]
 pub fn safety(call: &mut Call) -> Done {
     cut(call, library::safety)
 }
 
-/// branching PLAN OUT [Q..]
+/// branching PLAN OUT [Q..] [from MARKING..]
 pub fn branching(call: &mut Call) -> Done {
     cut(call, library::branching)
 }
 
 fn cut(call: &mut Call, cut: Cut) -> Done {
     call.has_out()?;
-    let criterion = call.list_from(2, &LIST)?;
-    let plan = call.file(0)?;
-    let asked = Asked { files: &[&plan], criterion: &criterion, ..Asked::default() };
-    let slice = asked.granted(cut(&plan.bytes, &criterion))?;
+    let (criterion, start) = call.list_and_start(2..call.words.len())?;
+    let (plan, start) = (call.file(0)?, start.as_deref());
+    let asked = Asked { files: &[&plan], start, criterion: &criterion, ..Asked::default() };
+    let slice = asked.granted(cut(&plan.bytes, start, &criterion))?;
     let answer = answers::written(call.write("slice", &slice.bytes, "plan")?, &slice);
     call.tell(answer)
 }
@@ -62,7 +62,7 @@ pub fn branching_each(call: &mut Call) -> Done {
 fn each(call: &mut Call, cut: Cut) -> Done {
     let plan = call.file(0)?;
     let asked = Asked { files: &[&plan], ..Asked::default() };
-    asked.granted(cut(&plan.bytes, &[]))?; // refused for the plan's sake alone
+    asked.granted(cut(&plan.bytes, None, &[]))?; // refused for the plan's sake alone
     let name = call.words[1].as_bytes();
     let folder = files::path(name);
     if !folder.is_dir() {
@@ -81,7 +81,7 @@ fn each(call: &mut Call, cut: Cut) -> Done {
     let mut progress = Progress::new(outs.len(), "place");
     for (p, out) in outs.iter().enumerate() {
         progress.show(p);
-        let slice = asked.granted(cut(&plan.bytes, &[p as u16]))?;
+        let slice = asked.granted(cut(&plan.bytes, None, &[p as u16]))?;
         out.write(&slice.bytes)?;
         progress.hide();
         call.tell(answers::written(out.name(), &slice))?;

@@ -3,20 +3,25 @@
 
 use crate::answers::{self, counted, grouped, grouped_count, Answer};
 use crate::files::File;
-use crate::library::{self, Refusal, MAX_ARCS, MAX_FILE_BYTES, MAX_LIST_ENTRIES, MAX_PLACES, MAX_TRANSITIONS};
+use crate::library::{
+    self, Refusal, Start, MAX_ARCS, MAX_FILE_BYTES, MAX_LIST_ENTRIES, MAX_PLACES, MAX_TRANSITIONS, NO_PLACE,
+};
 use crate::net::{places, transitions, Arc, Net, Trailer};
 
 /// What a call was asked about.
 #[derive(Clone, Copy, Default)]
 pub struct Asked<'a> {
-    /// The plan and then the slice, or one file.
+    /// The plan and then the slice, the old plan and then the new, or one file.
     pub files: &'a [&'a File],
+    pub start: Start<'a>,
     pub criterion: &'a [u16],
     pub list: &'a [u16],
     /// How many numbers the marking has.
     pub marking: usize,
     /// Where a range was asked for, its upper end.
     pub upper: Option<&'a [u32]>,
+    /// Where a transfer was asked for, its table and the running marking.
+    pub transfer: Option<(&'a [u16], &'a [u64])>,
     /// Where a place or a transition was asked for by itself.
     pub place: Option<u32>,
     pub transition: Option<u32>,
@@ -47,6 +52,10 @@ impl Asked<'_> {
             Refusal::Buffer => of_call("buffer: shorter than what is written".into()),
             Refusal::Stuck => of_call("list: stuck".into()),
             Refusal::Marking => of_call(format!("marking: {}", not_for_each(self.marking, p))),
+            Refusal::Entries | Refusal::Stranded | Refusal::Tokens => of_call(match (self.transfer, self.start) {
+                (Some((table, running)), _) => carried_wrong(refusal, self.files, table, running),
+                (None, start) => start_wrong(refusal, start.unwrap_or(&[]), &file.bytes),
+            }),
             Refusal::Upper => of_call(format!("upper list: {}", upper(self.upper.unwrap_or(&[]), &file.bytes))),
             Refusal::Capped if self.upper.is_some() => {
                 of_file("a plan with caps; there more tokens can block a firing, and no marking is the least".into())
@@ -197,13 +206,17 @@ fn criterion(q: &[u16], places: usize) -> String {
     "it is refused".into()
 }
 
-/// A list that has not one number for each place. Where it has more than there can be places, one more was read.
+/// A list that has not one number for each place.
 fn not_for_each(count: usize, places: usize) -> String {
-    let numbers = match count {
+    format!("{}; P is {places}", how_many(count))
+}
+
+/// How many numbers a list has that should have one for each place. Where it has more than there can be places, one more was read.
+fn how_many(count: usize) -> String {
+    match count {
         ..=MAX_PLACES => counted(count as u64, "number"),
         _ => format!("more than {} numbers", grouped(MAX_PLACES)),
-    };
-    format!("{numbers}; P is {places}")
+    }
 }
 
 /// The first entry of an upper list that is below the plan's marking, where there is one for each place.
@@ -216,6 +229,61 @@ fn upper(upper: &[u32], plan: &[u8]) -> String {
         Some((p, (tokens, most))) => format!("entry {p} is {most}: below the plan's {tokens}"),
         None => not_for_each(upper.len(), places(plan)),
     }
+}
+
+/// Why a file cannot start from a marking.
+fn start_wrong(refusal: Refusal, start: &[u64], file: &[u8]) -> String {
+    let found = match refusal {
+        Refusal::Entries => Some(not_for_each(start.len(), places(file))),
+        _ => first_too_many(start.iter().map(|&tokens| tokens.into()), "has", file),
+    };
+    format!("marking: {}", found.unwrap_or_else(|| "it is refused".into()))
+}
+
+/// The first place that would have more tokens than a file can say, or than it holds.
+fn first_too_many(tokens: impl Iterator<Item = u128>, verb: &str, file: &[u8]) -> Option<String> {
+    let net = Net::by_trailer(file)?;
+    tokens.enumerate().find_map(|(p, tokens)| {
+        let limit = match net.cap(p) {
+            Some(cap) if tokens > cap.into() => format!("it holds {}", grouped(cap)),
+            _ if tokens > u32::MAX.into() => format!("at most {}", grouped(u32::MAX)),
+            _ => return None,
+        };
+        Some(format!("place {p} {verb} {}; {limit}", grouped_count(tokens, "token")))
+    })
+}
+
+/// Why a running marking cannot be carried from the old plan to the new one.
+fn carried_wrong(refusal: Refusal, files: &[&File], table: &[u16], running: &[u64]) -> String {
+    let [old, new] = files else { panic!("a transfer is asked about two files") };
+    let (old_places, new_places) = (places(&old.bytes), places(&new.bytes));
+    let of_length = |name: &str, count: usize| {
+        format!("{name}: {}; the old plan has {}", how_many(count), counted(old_places as u64, "place"))
+    };
+    let found = match refusal {
+        Refusal::Entries if running.len() != old_places => Some(of_length("marking", running.len())),
+        Refusal::Entries if table.len() != old_places => Some(of_length("table", table.len())),
+        Refusal::Entries => {
+            let wrong = table.iter().position(|&to| to != NO_PLACE && usize::from(to) >= new_places);
+            let new_has = counted(new_places as u64, "place");
+            wrong.map(|i| format!("table: entry {i} is {}: no such place; the new plan has {new_has}", table[i]))
+        }
+        Refusal::Stranded => {
+            let stranded = (0..old_places).find(|&p| running[p] > 0 && table[p] == NO_PLACE);
+            stranded
+                .map(|p| format!("table: entry {p} is none, and place {p} has {}", grouped_count(running[p], "token")))
+        }
+        _ => {
+            let mut sums = vec![0u128; new_places];
+            for (&to, &tokens) in table.iter().zip(running) {
+                if let Some(sum) = sums.get_mut(usize::from(to)) {
+                    *sum += u128::from(tokens);
+                }
+            }
+            first_too_many(sums.into_iter(), "gets", &new.bytes).map(|why| format!("new plan: {why}"))
+        }
+    };
+    found.unwrap_or_else(|| "table: it is refused".into())
 }
 
 /// The first entry of a list that is no transition.
@@ -247,7 +315,7 @@ mod tests {
     #[test]
     fn every_refusal_has_its_reason() {
         let plan = std::fs::read(concat!(env!("CARGO_MANIFEST_DIR"), "/../plans/full-kerb.plan")).unwrap();
-        let slice = library::safety(&plan, &[2]).ok().unwrap().bytes;
+        let slice = library::safety(&plan, None, &[2]).ok().unwrap().bytes;
         let mut random = numbers_from(1);
         let mut met = std::collections::BTreeMap::new();
         for round in 0..40_000 {
@@ -280,7 +348,8 @@ mod tests {
         }
         assert_eq!(met.keys().copied().collect::<Vec<_>>(), [1, 2, 3, 4, 5, 6, 7, 8, 16]);
     }
-    /// Upper lists at random: each that is refused has a sentence of its own.
+
+    /// Tables, markings and upper lists at random: each that is refused has a sentence of its own.
     #[test]
     fn every_entry_has_its_reason() {
         let plan = |name: &str| {
@@ -300,13 +369,21 @@ mod tests {
             *met.entry(refusal.number()).or_insert(0) += 1;
         };
         for _ in 0..20_000 {
-            let file = &files[random(3)];
-            let length = places(&file.bytes) + usize::from(random(8) == 0);
+            let (old, new) = (&files[random(3)], &files[random(3)]);
+            let length = places(&old.bytes) + usize::from(random(8) == 0);
+            let most = if random(4) == 0 { 7 } else { 4 };
+            let large = [0, 1, 1, 2, 4_294_967_295, 4_294_967_296, u64::MAX];
+            let tokens: Vec<u64> = (0..length).map(|_| large[random(most)]).collect();
+            let table: Vec<u16> = (0..length).map(|_| [0, 1, 2, 2, 4, NO_PLACE][random(6)]).collect();
             let upper: Vec<u32> = (0..length).map(|_| random(4) as u32).collect();
 
-            let asked = Asked { files: &[file], upper: Some(&upper), ..Asked::default() };
-            refused(asked, library::range(&file.bytes, &[], &upper).err());
+            let asked = Asked { files: &[old, new], transfer: Some((&table, &tokens)), ..Asked::default() };
+            refused(asked, library::transfer(&old.bytes, &new.bytes, &tokens, &table, 0).err());
+            let asked = Asked { files: &[old], start: Some(&tokens), ..Asked::default() };
+            refused(asked, library::safety(&old.bytes, Some(&tokens), &[]).err());
+            let asked = Asked { files: &[old], upper: Some(&upper), ..Asked::default() };
+            refused(asked, library::range(&old.bytes, &[], &upper).err());
         }
-        assert_eq!(met.keys().copied().collect::<Vec<_>>(), [17, 21]);
+        assert_eq!(met.keys().copied().collect::<Vec<_>>(), [17, 21, 22, 23, 24]);
     }
 }

@@ -29,7 +29,7 @@ pub fn arcs(call: &mut Call) -> Done {
     if run.is_empty() {
         // a file that is refused, a number that is unknown, or a transition without arcs
         let asked = Asked { files: &[&plan, &slice], ..Asked::default() };
-        asked.granted(library::verdict(&plan.bytes, &slice.bytes, &[]))?;
+        asked.granted(library::verdict(&plan.bytes, &slice.bytes, None, &[]))?;
         let count = transitions(if side == Side::Plan { &plan.bytes } else { &slice.bytes });
         if transition as usize >= count {
             return Err(no_such(answers::side_named(side), "transition", transition, count as u64));
@@ -48,12 +48,12 @@ fn fired(firing: Firing, list: &[u16], marking: &[u64]) -> Answer {
     }
 }
 
-/// replay FILE LIST
+/// replay FILE LIST [from MARKING..]
 pub fn replay(call: &mut Call) -> Done {
-    let list = call.list_from(1, &LIST)?;
-    let file = call.file(0)?;
-    let asked = Asked { files: &[&file], list: &list, ..Asked::default() };
-    let (firing, marking) = asked.granted(library::replay(&file.bytes, &list, places(&file.bytes)))?;
+    let (list, start) = call.list_and_start(1..call.words.len())?;
+    let (file, start) = (call.file(0)?, start.as_deref());
+    let asked = Asked { files: &[&file], start, list: &list, ..Asked::default() };
+    let (firing, marking) = asked.granted(library::replay(&file.bytes, start, &list, places(&file.bytes)))?;
     call.tell(fired(firing, &list, &marking))
 }
 
@@ -68,7 +68,7 @@ pub fn shadow(call: &mut Call) -> Done {
 
 /// The plan's own marking, which is the one after no firing; empty where the plan is refused.
 fn own_marking(plan: &[u8]) -> Vec<u64> {
-    library::replay(plan, &[], places(plan)).map_or(Vec::new(), |(_, marking)| marking)
+    library::replay(plan, None, &[], places(plan)).map_or(Vec::new(), |(_, marking)| marking)
 }
 
 /// together PLAN TRANSITION [MARKING..]: without a marking from the plan's own.

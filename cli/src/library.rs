@@ -14,7 +14,7 @@ use std::sync::atomic::{AtomicU8, Ordering};
 pub use nesfoal::{
     NESFOAL_MAX_ARCS as MAX_ARCS, NESFOAL_MAX_FILE_BYTES as MAX_FILE_BYTES,
     NESFOAL_MAX_LIST_ENTRIES as MAX_LIST_ENTRIES, NESFOAL_MAX_PLACES as MAX_PLACES,
-    NESFOAL_MAX_TRANSITIONS as MAX_TRANSITIONS, NESFOAL_VERSION as VERSION,
+    NESFOAL_MAX_TRANSITIONS as MAX_TRANSITIONS, NESFOAL_NO_PLACE as NO_PLACE, NESFOAL_VERSION as VERSION,
 };
 
 macro_rules! refusals {
@@ -48,6 +48,9 @@ refusals! {
     Cap = NESFOAL_REFUSED_CAP,
     Capped = NESFOAL_REFUSED_CAPPED,
     Upper = NESFOAL_REFUSED_UPPER,
+    Entries = NESFOAL_REFUSED_ENTRIES,
+    Stranded = NESFOAL_REFUSED_STRANDED,
+    Tokens = NESFOAL_REFUSED_TOKENS,
     Weight = NESFOAL_REFUSED_WEIGHT,
 }
 
@@ -116,7 +119,7 @@ pub fn refusal_of_file(file: &[u8]) -> Option<Refusal> {
 
 /// Is a plan refused? For the empty criterion the cut is refused for the plan's sake alone.
 pub fn refusal_of_plan(plan: &[u8]) -> Option<Refusal> {
-    safety(plan, &[]).err()
+    safety(plan, None, &[]).err()
 }
 
 /// Whose arcs.
@@ -144,22 +147,40 @@ pub fn arcs<'a>(plan: &'a [u8], slice: &'a [u8], side: Side, transition: u32) ->
     &file[start as usize..][..length as usize]
 }
 
+/// The marking that a call starts from, where that is not the file's own.
+pub type Start<'a> = Option<&'a [u64]>;
+
 /// A list fired, and the marking after it, or before the firing that does not happen: an entry for each of `places`.
-pub fn replay(file: &[u8], list: &[u16], places: usize) -> Result<(Firing, Vec<u64>), Refusal> {
+pub fn replay(file: &[u8], start: Start, list: &[u16], places: usize) -> Result<(Firing, Vec<u64>), Refusal> {
     let mut marking = vec![0; NESFOAL_MARKING_ROOM];
     let (mut index, mut place, mut amount) = (0, 0, 0);
     let number = unsafe {
-        nesfoal_replay(
-            file.as_ptr(),
-            file.len(),
-            list.as_ptr(),
-            list.len(),
-            marking.as_mut_ptr(),
-            marking.len(),
-            &mut index,
-            &mut place,
-            &mut amount,
-        )
+        match start {
+            None => nesfoal_replay(
+                file.as_ptr(),
+                file.len(),
+                list.as_ptr(),
+                list.len(),
+                marking.as_mut_ptr(),
+                marking.len(),
+                &mut index,
+                &mut place,
+                &mut amount,
+            ),
+            Some(start) => nesfoal_replay_from(
+                file.as_ptr(),
+                file.len(),
+                start.as_ptr(),
+                start.len(),
+                list.as_ptr(),
+                list.len(),
+                marking.as_mut_ptr(),
+                marking.len(),
+                &mut index,
+                &mut place,
+                &mut amount,
+            ),
+        }
     };
     marking.truncate(places);
     Ok((Firing::of(number, Stop { index, place, amount })?, marking))
@@ -266,34 +287,62 @@ pub struct Slice {
 
 type CutCall =
     unsafe extern "C" fn(*const u8, usize, *const u16, usize, *mut u8, usize, *mut u32, *mut u32, *mut u32) -> u32;
+type CutFromCall = unsafe extern "C" fn(
+    *const u8,
+    usize,
+    *const u64,
+    usize,
+    *const u16,
+    usize,
+    *mut u8,
+    usize,
+    *mut u32,
+    *mut u32,
+    *mut u32,
+) -> u32;
 
-fn cut(call: CutCall, plan: &[u8], criterion: &[u16]) -> Result<Slice, Refusal> {
+fn cut(plain: CutCall, from: CutFromCall, plan: &[u8], start: Start, criterion: &[u16]) -> Result<Slice, Refusal> {
     let mut bytes = vec![0; NESFOAL_SLICE_ROOM];
     let (mut length, mut places, mut transitions) = (0, 0, 0);
     let number = unsafe {
-        call(
-            plan.as_ptr(),
-            plan.len(),
-            criterion.as_ptr(),
-            criterion.len(),
-            bytes.as_mut_ptr(),
-            bytes.len(),
-            &mut length,
-            &mut places,
-            &mut transitions,
-        )
+        match start {
+            None => plain(
+                plan.as_ptr(),
+                plan.len(),
+                criterion.as_ptr(),
+                criterion.len(),
+                bytes.as_mut_ptr(),
+                bytes.len(),
+                &mut length,
+                &mut places,
+                &mut transitions,
+            ),
+            Some(start) => from(
+                plan.as_ptr(),
+                plan.len(),
+                start.as_ptr(),
+                start.len(),
+                criterion.as_ptr(),
+                criterion.len(),
+                bytes.as_mut_ptr(),
+                bytes.len(),
+                &mut length,
+                &mut places,
+                &mut transitions,
+            ),
+        }
     };
     Refusal::or_done(number)?;
     bytes.truncate(length as usize);
     Ok(Slice { bytes, places, transitions })
 }
 
-pub fn safety(plan: &[u8], criterion: &[u16]) -> Result<Slice, Refusal> {
-    cut(nesfoal_safety, plan, criterion)
+pub fn safety(plan: &[u8], start: Start, criterion: &[u16]) -> Result<Slice, Refusal> {
+    cut(nesfoal_safety, nesfoal_safety_from, plan, start, criterion)
 }
 
-pub fn branching(plan: &[u8], criterion: &[u16]) -> Result<Slice, Refusal> {
-    cut(nesfoal_branching, plan, criterion)
+pub fn branching(plan: &[u8], start: Start, criterion: &[u16]) -> Result<Slice, Refusal> {
+    cut(nesfoal_branching, nesfoal_branching_from, plan, start, criterion)
 }
 
 type PlanCall = unsafe extern "C" fn(*const u8, usize, *mut u8, usize, *mut u32) -> u32;
@@ -362,24 +411,59 @@ pub enum Verdict {
 }
 
 /// Is the slice right for the plan and the criterion?
-pub fn verdict(plan: &[u8], slice: &[u8], criterion: &[u16]) -> Result<Verdict, Refusal> {
+pub fn verdict(plan: &[u8], slice: &[u8], start: Start, criterion: &[u16]) -> Result<Verdict, Refusal> {
     let mut breaking = 0;
     let number = unsafe {
-        nesfoal_verdict(
-            plan.as_ptr(),
-            plan.len(),
-            slice.as_ptr(),
-            slice.len(),
-            criterion.as_ptr(),
-            criterion.len(),
-            &mut breaking,
-        )
+        match start {
+            None => nesfoal_verdict(
+                plan.as_ptr(),
+                plan.len(),
+                slice.as_ptr(),
+                slice.len(),
+                criterion.as_ptr(),
+                criterion.len(),
+                &mut breaking,
+            ),
+            Some(start) => nesfoal_verdict_from(
+                plan.as_ptr(),
+                plan.len(),
+                slice.as_ptr(),
+                slice.len(),
+                start.as_ptr(),
+                start.len(),
+                criterion.as_ptr(),
+                criterion.len(),
+                &mut breaking,
+            ),
+        }
     };
     match number {
         NESFOAL_ACCEPTED => Ok(Verdict::Accepted),
         NESFOAL_RULE.. => Ok(Verdict::Broken { rule: number - NESFOAL_RULE, number: breaking }),
         _ => Err(Refusal::of(number)),
     }
+}
+
+/// The running marking of the old plan, carried to each of the new plan's `places`.
+pub fn transfer(old: &[u8], new: &[u8], running: &[u64], table: &[u16], places: usize) -> Result<Vec<u64>, Refusal> {
+    let mut marking = vec![0; NESFOAL_MARKING_ROOM];
+    let number = unsafe {
+        nesfoal_transfer(
+            old.as_ptr(),
+            old.len(),
+            new.as_ptr(),
+            new.len(),
+            running.as_ptr(),
+            running.len(),
+            table.as_ptr(),
+            table.len(),
+            marking.as_mut_ptr(),
+            marking.len(),
+        )
+    };
+    Refusal::or_done(number)?;
+    marking.truncate(places);
+    Ok(marking)
 }
 
 // The system's calls, by Linux's numbers.

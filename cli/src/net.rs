@@ -162,7 +162,7 @@ mod tests {
     /// What stands where is what the proved calls say: markings by a replay of nothing, arcs by the call of that name.
     #[test]
     fn as_the_calls_say() {
-        let empty = library::safety(include_bytes!("../../plans/loop.plan"), &[]).ok().unwrap().bytes;
+        let empty = library::safety(include_bytes!("../../plans/loop.plan"), None, &[]).ok().unwrap().bytes;
         let mut count = 0;
         for entry in std::fs::read_dir(concat!(env!("CARGO_MANIFEST_DIR"), "/../plans")).unwrap() {
             let path = entry.unwrap().path();
@@ -170,10 +170,10 @@ mod tests {
                 continue;
             }
             let plan = std::fs::read(path).unwrap();
-            let slice = library::branching(&plan, &[0]).ok().unwrap().bytes;
+            let slice = library::branching(&plan, None, &[0]).ok().unwrap().bytes;
             for (file, side) in [(&plan, Side::Plan), (&slice, Side::Slice)] {
                 let net = Net::read(file).unwrap();
-                let (_, marking) = library::replay(file, &[], net.trailer.places).unwrap();
+                let (_, marking) = library::replay(file, None, &[], net.trailer.places).unwrap();
                 let tokens: Vec<u64> = (0..net.trailer.places).map(|p| net.tokens(p).unwrap().into()).collect();
                 assert_eq!(tokens, marking);
                 let other = if side == Side::Plan { &empty } else { &slice };

@@ -3,10 +3,9 @@
 
 use crate::answers::{self, Answer};
 use crate::files::{self, Input};
-use crate::library::{MAX_LIST_ENTRIES, MAX_PLACES};
+use crate::library::{MAX_LIST_ENTRIES, MAX_PLACES, NO_PLACE};
 use crate::words::brief;
 use std::ffi::{OsStr, OsString};
-use std::marker::PhantomData;
 use std::os::unix::ffi::OsStrExt;
 
 /// Bytes of a list in text.
@@ -42,7 +41,8 @@ pub struct Kind<T> {
     starts: &'static [&'static [u8]],
     /// .. has the numbers after one of those.
     ends: &'static [&'static [u8]],
-    entry: PhantomData<T>,
+    /// The entry that the word `none` is.
+    none: Option<T>,
 }
 
 /// A criterion, or a list of transitions: the shadow of an answer.
@@ -51,21 +51,24 @@ pub const LIST: Kind<u16> = Kind {
     most: MAX_LIST_ENTRIES,
     starts: &[b"fired", b"stuck", b"full", b"shadow"],
     ends: &[b"shadow"],
-    entry: PhantomData,
+    none: None,
 };
 
 /// Tokens for each place: the marking of an answer.
 pub const MARKING: Kind<u64> = Kind {
     name: "a marking",
     most: MAX_PLACES,
-    starts: &[b"fired", b"taken", b"unlimited,", b"always", b"sometimes", b"never"],
+    starts: &[b"fired", b"taken", b"unlimited,", b"carried", b"always", b"sometimes", b"never"],
     ends: &[b"ending", b"leaving", b"needed"],
-    entry: PhantomData,
+    none: None,
 };
 
 /// The most tokens of each place.
 pub const UPPER: Kind<u32> =
-    Kind { name: "an upper list", most: MARKING.most, starts: MARKING.starts, ends: MARKING.ends, entry: PhantomData };
+    Kind { name: "an upper list", most: MARKING.most, starts: MARKING.starts, ends: MARKING.ends, none: None };
+
+/// For each place of an old plan its place in a new one, or none.
+pub const TABLE: Kind<u16> = Kind { name: "a table", most: MAX_PLACES, starts: &[], ends: &[], none: Some(NO_PLACE) };
 
 /// The number that a text is: digits, at most `largest`.
 fn parsed(text: &[u8], largest: u64) -> Option<u64> {
@@ -83,12 +86,19 @@ fn no_number(word: &[u8], largest: u64) -> String {
 
 /// One number, a word of the command.
 pub fn number<T: Entry>(word: &OsStr) -> Result<T, Answer> {
-    entry(word.as_bytes()).map_err(answers::error)
+    let word = word.as_bytes();
+    parsed(word, T::LARGEST).map(T::new).ok_or_else(|| answers::error(no_number(word, T::LARGEST)))
 }
 
-/// The number that a word of a list is, or why it is none.
-fn entry<T: Entry>(word: &[u8]) -> Result<T, String> {
-    parsed(word, T::LARGEST).map(T::new).ok_or_else(|| no_number(word, T::LARGEST))
+impl<T: Entry> Kind<T> {
+    /// The entry that a word of the list is, or why it is none.
+    fn entry(&self, word: &[u8]) -> Result<T, String> {
+        let none = self.none.filter(|_| word == b"none");
+        none.or_else(|| parsed(word, T::LARGEST).map(T::new)).ok_or_else(|| {
+            let or_none = if self.none.is_some() { ", nor none" } else { "" };
+            no_number(word, T::LARGEST) + or_none
+        })
+    }
 }
 
 /// A place or a transition, a word of the command. No net has one above 32 bits: all those count as the largest of 32 bits.
@@ -124,7 +134,7 @@ pub fn list<T: Entry>(words: &[OsString], kind: &Kind<T>, input: &mut Input) -> 
     if words.first().is_some_and(|word| named(word).is_some()) {
         return Err(answers::error("a list is numbers, or one @FILE"));
     }
-    words.iter().take(kind.most + 1).map(|word| number(word)).collect()
+    words.iter().take(kind.most + 1).map(|word| kind.entry(word.as_bytes()).map_err(answers::error)).collect()
 }
 
 /// The entries of a list's file. One with nothing but text in it is no list of bytes: as numbers of two bytes all would be above
@@ -159,7 +169,7 @@ fn of_text<T: Entry>(text: &[u8], kind: &Kind<T>) -> Result<Vec<T>, String> {
     }
     let mut list = Vec::new();
     for word in words {
-        let entry = entry(word)?;
+        let entry = kind.entry(word)?;
         if list.len() <= kind.most {
             list.push(entry);
         }
@@ -212,6 +222,9 @@ mod tests {
         }
         assert_eq!(of_bytes(b"taken 1 time, leaving 5 6", &MARKING), Ok(vec![5, 6]));
         assert_eq!(of_bytes(b"unlimited, leaving", &MARKING), Ok(vec![]));
+        assert_eq!(of_bytes(b"carried 3 tokens, ending 1 2", &MARKING), Ok(vec![1, 2]));
+        assert_eq!(of_bytes(b"0 none 2\n65535", &TABLE), Ok(vec![0, NO_PLACE, 2, NO_PLACE]));
+        assert!(of_bytes(b"none", &LIST).is_err() && of_bytes(b"None", &TABLE).is_err());
     }
 
     #[test]

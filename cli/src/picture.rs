@@ -50,7 +50,7 @@ fn inside(call: &mut Call) -> Done {
     let q = call.list_from(2, &LIST)?;
     let (plan, slice) = (call.file(0)?, call.file(1)?);
     let asked = Asked { files: &[&plan, &slice], ..Asked::default() };
-    let verdict = asked.granted(library::verdict(&plan.bytes, &slice.bytes, &[]))?;
+    let verdict = asked.granted(library::verdict(&plan.bytes, &slice.bytes, None, &[]))?;
     let (whole, part) = (asked.granted(Net::read(&plan.bytes))?, asked.granted(Net::read(&slice.bytes))?);
 
     let shades = |count: usize, kept: &[u16]| {

@@ -1,10 +1,11 @@
-//! normal: verbs that write a plan.
+//! normal and transfer: a plan in its normal form, and from an old plan to a new one.
 
 use crate::answers::{self, Answer};
 use crate::call::{Call, Done};
 use crate::diagnose::Asked;
 use crate::library;
-use crate::net::Net;
+use crate::net::{places, Net};
+use crate::numbers::{MARKING, TABLE};
 
 /// normal PLAN OUT
 pub fn normal(call: &mut Call) -> Done {
@@ -20,4 +21,15 @@ pub fn normal(call: &mut Call) -> Done {
 fn written(call: &Call, plan: &[u8], input: &'static str) -> Result<Answer, Answer> {
     let net = Net::by_trailer(plan).expect("the library writes plans that it reads");
     Ok(answers::written_plan(call.write("plan", plan, input)?, &net))
+}
+
+/// transfer OLD NEW TABLE.. with MARKING..
+pub fn transfer(call: &mut Call) -> Done {
+    let with = call.find(2, "with").ok_or_else(|| call.misused())?;
+    let table = call.list(2..with, &TABLE)?;
+    let running = call.list_from(with + 1, &MARKING)?;
+    let (old, new) = (call.file(0)?, call.file(1)?);
+    let asked = Asked { files: &[&old, &new], transfer: Some((&table, &running)), ..Asked::default() };
+    let carried = library::transfer(&old.bytes, &new.bytes, &running, &table, places(&new.bytes));
+    call.tell(answers::carried(&asked.granted(carried)?))
 }

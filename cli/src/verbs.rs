@@ -46,9 +46,10 @@ impl Verb {
 /// What the page of help says below the verbs.
 pub const NOTES: &str = "\
 FILE is a plan or a slice. Places and transitions are numbered from 0.
-Q, the criterion, is rising place numbers; LIST is transition numbers; MARKING and UPPER are tokens, a
-number for each place. Each may be empty; or @FILE, or - for standard input: numbers in text with white
-space between them, or bytes, low byte first, two an entry (four in UPPER, eight in MARKING).
+Q, the criterion, is rising place numbers; LIST is transition numbers; TABLE is place numbers or none;
+MARKING and UPPER are tokens, a number for each place. Each may be empty; or @FILE, or - for standard
+input: numbers in text with white space between them, or bytes, low byte first, two an entry (four in
+UPPER, eight in MARKING).
 One FILE may be - for standard input, and OUT for standard output.
 OUT that exists is replaced where it is a slice or empty; else --force, anywhere before --, replaces it.
 --json, anywhere before --: each answer is an object on a line of standard output, refusals and errors
@@ -138,16 +139,18 @@ Answers:
     Verb {
         name: "replay",
         forms: &[
-            ("FILE LIST", "fires the list: the marking after it, or where it is stuck or full"),
+            ("FILE LIST [from MARKING..]", "fires the list: the marking after it, or where it stops"),
         ],
         takes: 1..=MANY,
         run: firing::replay,
         text: "\
 FILE is a plan or a slice, LIST the numbers of its transitions. They fire one after the other
-from the first marking.
+from the file's own marking, or from MARKING: tokens for each place, at most 4294967295 and at most
+the place's cap. The answer may be piped into a verb whose MARKING is then -.
 
 Examples:
     nesfoal replay plans/small-kerb.plan 0 1 0 1 2
+    nesfoal replay plans/small-kerb.plan 0 1 | nesfoal replay plans/small-kerb.plan 0 1 2 from -
     nesfoal shadow plans/small-kerb.plan safety.slice 3 0 1 | nesfoal replay safety.slice -
 
 Answers:
@@ -156,7 +159,7 @@ Answers:
                                the transition at that index, from 0, lacks tokens (status 1)
     full at index I: transition T, place P is over by N
                                it has its inputs, but would leave that place above its cap (status 1)
-    refused N: ..              the file (1 to 8, 16) or the list (11, 12) is refused
+    refused N: ..              the file (1 to 8, 16), the marking (22, 24) or the list (11, 12) is refused
 ",
     },
     Verb {
@@ -198,7 +201,7 @@ more tokens can block a firing. The answer may be piped into a verb whose MARKIN
 Examples:
     nesfoal need plans/small-kerb.plan 0 1 0 1 0 upto 5 1 0 0 0
     nesfoal need plans/small-kerb.plan 0 1 0 1 2
-    nesfoal need plans/small-kerb.plan 0 0 | nesfoal together plans/small-kerb.plan 0 -
+    nesfoal need plans/small-kerb.plan 0 0 | nesfoal replay plans/small-kerb.plan 0 0 from -
 
 Answers:
     always fires; needed ..    from every marking in the range
@@ -214,13 +217,14 @@ Answers:
     Verb {
         name: "safety",
         forms: &[
-            ("PLAN OUT [Q..]", "writes the safety cut for the criterion Q"),
+            ("PLAN OUT [Q..] [from MARKING..]", "writes the safety cut for the criterion Q"),
         ],
         takes: 2..=MANY,
         run: cuts::safety,
         text: "\
 The smallest slice that the checker accepts for Q; with no place, the slice with no places and no
-transitions.
+transitions. It starts from the plan's own marking, or from MARKING, as with replay: such a slice is
+right for the runs from there, and is checked from there.
 OUT appears whole or not at all. A file that exists is replaced only where it is a slice or empty, and
 may be written; --force replaces any plain file but the plan and the list. A new file has the mode that
 the umask leaves, a replaced one keeps its mode. OUT is no number alone (a file of that name is ./2,
@@ -229,29 +233,32 @@ say). OUT may be -: the slice goes to standard output, and the answer to standar
 Examples:
     nesfoal safety plans/small-kerb.plan safety.slice 2
     nesfoal safety plans/small-kerb.plan - 2 | nesfoal show -
+    nesfoal replay plans/small-kerb.plan 0 | nesfoal safety plans/small-kerb.plan later.slice 2 from -
 
 Answers:
     written OUT: N bytes, N places, N transitions
-    refused N: ..              the plan (1 to 7, 16) or the criterion (10) is refused; nothing is written
+    refused N: ..              the plan (1 to 7, 16), the marking (22, 24) or the criterion (10) is refused;
+                               nothing is written
 ",
     },
     Verb {
         name: "branching",
         forms: &[
-            ("PLAN OUT [Q..]", "writes the branching cut"),
+            ("PLAN OUT [Q..] [from MARKING..]", "writes the branching cut"),
         ],
         takes: 2..=MANY,
         run: cuts::branching,
         text: "\
 The same for the slice that also keeps every transition that changes a kept place, for questions
-about what can still happen later. OUT as with safety.
+about what can still happen later. OUT and MARKING as with safety.
 
 Example:
     nesfoal branching plans/small-kerb.plan branching.slice 2
 
 Answers:
     written OUT: N bytes, N places, N transitions
-    refused N: ..              the plan (1 to 7, 16) or the criterion (10) is refused; nothing is written
+    refused N: ..              the plan (1 to 7, 16), the marking (22, 24) or the criterion (10) is refused;
+                               nothing is written
 ",
     },
     Verb {
@@ -320,16 +327,17 @@ Answers:
     Verb {
         name: "check",
         forms: &[
-            ("PLAN SLICE [Q..]", "is the slice right for Q: accepted, or the rule that it breaks"),
-            ("PLAN [Q..] -- SLICE..", "the same for many slices, a line each"),
+            ("PLAN SLICE [Q..] [from MARKING..]", "is the slice right for Q: accepted, or the rule broken"),
+            ("PLAN [Q..] [from MARKING..] -- SLICE..", "the same for many slices, a line each"),
         ],
         takes: 1..=MANY,
         run: checking::check,
         text: "\
-A slice that is accepted, whoever made it, loses no run of the plan and makes none up. With --
-each slice has a line on standard output that starts with its name, whatever came of it; the
-status is 2 where one is refused or cannot be read, else 1 where one breaks a rule. Where standard
-error is a terminal, a bar shows how far it is.
+A slice that is accepted, whoever made it, loses no run of the plan and makes none up: runs from the
+plan's own marking, or from MARKING, as with replay; the slice then has MARKING's tokens. With -- each
+slice has a line on standard output that starts with its name, whatever came of it; the status is 2
+where one is refused or cannot be read, else 1 where one breaks a rule. Where standard error is a
+terminal, a bar shows how far it is.
 
 Examples:
     nesfoal check plans/small-kerb.plan safety.slice 2
@@ -339,7 +347,7 @@ Answers:
     accepted
     rule N broken by ..        the first rule that is broken, and the lowest number that breaks it
                                (status 1)
-    refused N: ..              a file (1 to 8, 16) or the criterion (10) is refused
+    refused N: ..              a file (1 to 8, 16), the marking (22, 24) or the criterion (10) is refused
 ",
     },
     Verb {
@@ -366,6 +374,30 @@ Answers:
                                it has its inputs, but would leave that place above its cap (status 1)
     shadow ..                  below each: the slice's numbers, in order
     refused N: ..              a file (1 to 8, 16) or the list (11, 12) is refused
+",
+    },
+    Verb {
+        name: "transfer",
+        forms: &[
+            ("OLD NEW TABLE.. with MARKING..", "carries the tokens that stand in an old plan to a new one"),
+        ],
+        takes: 3..=MANY,
+        run: plans::transfer,
+        text: "\
+For a change of plan while buses are on the road. MARKING is the tokens of each place of the plan OLD as
+they stand; TABLE has for each of these places its place in the plan NEW, or none (65535). Each new place
+gets the sum of what is sent there. No token is lost: a place that has tokens must have a new place. The
+answer may be piped into replay, safety, branching or check of the new plan, with from - at the end.
+
+Examples:
+    nesfoal transfer old.plan new.plan 0 0 1 2 none with 0 1 1 3 0
+    nesfoal replay old.plan 0 1 | nesfoal transfer old.plan new.plan @table with - \\
+        | nesfoal replay new.plan 0 1 from -
+
+Answers:
+    carried N tokens, ending ..    all of them; the tokens on each place of the new plan
+    refused N: ..              a plan (1 to 8, 16), the table or the marking (22; 23 where a place with tokens
+                               has no new one; 24 where a new place gets too many) is refused
 ",
     },
     Verb {

@@ -874,6 +874,49 @@ static void ranges(void)
     expect("range, nothing", nesfoal_range(NULL, 0, NULL, 0, NULL, 0, NULL, 0), NESFOAL_REFUSED_LENGTH);
 }
 
+/* From an old plan to a new one, and what starts from there (02, A12). */
+static void transfers(void)
+{
+    static const uint8_t three[60] = {
+        0, 0, 0, 0,  0, 0, 0, 0,  0, 0, 0, 0,
+        0, 0,  0, 0,  0, 0,  1, 0,
+        0, 0,  1, 0,  1, 0,  1, 0,
+        1, 0,  0, 0,  1, 0,  1, 0,
+        1, 0,  1, 0,  2, 0,  1, 0,
+        44, 0, 0, 0,  3, 0,  2, 0,  4, 0,  0, 1,  'B', 'E', 'L', 'L',
+    };
+    const uint16_t table[] = {0, 0, 1, 2, NESFOAL_NO_PLACE}, none[] = {0, 0, 1, 2, 3}, in_bay[] = {2}, list[] = {1};
+    const uint64_t running[] = {0, 1, 1, 3, 0}, stranded[] = {0, 1, 1, 3, 1}, much[] = {4294967295, 1, 0, 0, 0}, start[] = {1, 0, 1, 0, 0};
+    uint64_t marking[4] = {7, 7, 7, 7};
+    uint8_t slice[79];
+    uint32_t a = 9, b = 9, c = 9;
+    expect("transfer", nesfoal_transfer(plan, 108, three, 60, running, 5, table, 5, marking, 4), 0);
+    expect("transfer, sums", marking[0] == 1 && marking[1] == 1 && marking[2] == 3 && marking[3] == 7, 1);
+    expect("transfer, 22", nesfoal_transfer(plan, 108, three, 60, stranded, 5, none, 5, marking, 0), NESFOAL_REFUSED_ENTRIES);
+    expect("transfer, 22 by length", nesfoal_transfer(plan, 108, three, 60, running, 4, table, 5, marking, 3), NESFOAL_REFUSED_ENTRIES);
+    expect("transfer, 23", nesfoal_transfer(plan, 108, three, 60, stranded, 5, table, 5, marking, 0), NESFOAL_REFUSED_STRANDED);
+    expect("transfer, 24", nesfoal_transfer(plan, 108, three, 60, much, 5, table, 5, marking, 0), NESFOAL_REFUSED_TOKENS);
+    expect("transfer, 13", nesfoal_transfer(plan, 108, three, 60, running, 5, table, 5, marking, 2), NESFOAL_REFUSED_BUFFER);
+    expect("transfer, a slice", nesfoal_transfer(plan, 108, cut, 78, NULL, 0, NULL, 0, NULL, 0), NESFOAL_REFUSED_KIND);
+
+    expect("replay from", nesfoal_replay_from(three, 60, marking, 3, list, 1, (uint64_t[3]){0}, 3, &a, &b, &c), 0);
+    expect("replay from, 22", nesfoal_replay_from(three, 60, marking, 4, list, 1, marking + 3, 0, &a, &b, &c), NESFOAL_REFUSED_ENTRIES);
+    expect("replay from, 24", nesfoal_replay_from(plan, 108, (const uint64_t[5]){0, 0, 0, 4294967296, 0}, 5, list, 1, marking, 4, &a, &b, &c), NESFOAL_REFUSED_TOKENS);
+    memset(slice, 7, sizeof slice);
+    expect("safety from", nesfoal_safety_from(plan, 108, start, 5, in_bay, 1, slice, 79, &a, &b, &c), 0);
+    expect("safety from, file", a == 78 && b == 3 && c == 2 && slice[0] == 1 && slice[4] == 0 && slice[8] == 1 && slice[78] == 7, 1);
+    expect("safety from, arcs", memcmp(slice + 12, cut + 12, 66), 0);
+    expect("verdict from", nesfoal_verdict_from(plan, 108, slice, 78, start, 5, in_bay, 1, &a), NESFOAL_ACCEPTED);
+    expect("verdict, of the same", nesfoal_verdict(plan, 108, slice, 78, in_bay, 1, &a), NESFOAL_RULE + 3);
+    expect("verdict from, of the plain cut", nesfoal_verdict_from(plan, 108, cut, 78, start, 5, in_bay, 1, &a), NESFOAL_RULE + 3);
+    expect("verdict from, the plan's own", nesfoal_verdict_from(plan, 108, cut, 78, (const uint64_t[5]){2, 1, 0, 0, 0}, 5, in_bay, 1, &a), NESFOAL_ACCEPTED);
+    expect("verdict from, 22", nesfoal_verdict_from(plan, 108, cut, 78, start, 3, in_bay, 1, &a), NESFOAL_REFUSED_ENTRIES);
+    expect("branching from", nesfoal_branching_from(plan, 108, start, 5, NULL, 0, slice, 79, &a, &b, &c), 0);
+    expect("branching from, nothing", a == 16 && b + c == 0 && memcmp(slice, empty, 16) == 0, 1);
+    expect("branching from, 13", nesfoal_branching_from(plan, 108, start, 5, in_bay, 1, slice, 79, &a, &b, &c), NESFOAL_REFUSED_BUFFER);
+    expect("branching from, zeros", a + b + c, 0);
+}
+
 /* The normal form (02, A13). */
 static void normals(void)
 {
@@ -913,6 +956,7 @@ int main(void)
     nulls();
     shared();
     ranges();
+    transfers();
     normals();
     printf("%u passed, %u failed\n", passed, failed);
     return failed != 0;
