@@ -1,11 +1,13 @@
 //! A case of each call: what is handed in, and the whole answer of the second implementation.
 
-use crate::cut::{cut, Cut};
+use crate::check::Verdict;
+use crate::cut::{cut, cut_from, Cut, Written};
+use crate::net::Refusal;
 use crate::range::Extent;
 use crate::replay::{Hindrance, Replayed};
 use crate::run_cut::RunCut;
 use crate::together::Together;
-use crate::{arcs, check, effect, normal, range, replay, run_cut, shadow, together};
+use crate::{arcs, check, effect, normal, range, replay, run_cut, shadow, together, transfer};
 use std::fmt::Write;
 
 /// Entries that are lent to a call, standing inside a larger piece of memory.
@@ -114,6 +116,10 @@ fn show_bytes(name: &str, lent: &Lent<u8>) -> String {
     format!("  {name} ({} bytes, offset {}{null}): {}\n", lent.len, lent.start, hex(lent.part()))
 }
 
+fn show_tokens(name: &str, lent: &Lent<u64>) -> String {
+    format!("  {name} ({} entries): {:?}\n", lent.len, lent.part())
+}
+
 fn show_numbers(name: &str, lent: &Lent<u16>) -> String {
     format!("  {name} ({} entries): {:?}\n", lent.len, lent.part())
 }
@@ -203,6 +209,17 @@ fn stuck_number(why: &Hindrance) -> u32 {
     }
 }
 
+fn of_replay(answer: Result<Replayed, Refusal>, lent: Lent<u64>) -> Answer {
+    let (number, index, place, amount) = match answer {
+        Ok(Replayed::Fired) => (0, 0, 0, 0),
+        Ok(Replayed::Stuck { index, why }) => {
+            (stuck_number(&why), index as i64, i64::from(why.place), why.amount as i64)
+        }
+        Err(refusal) => (refusal, 0, 0, 0),
+    };
+    Answer::new(number, [index, place, amount], vec![Cells::Longs(lent.cells)])
+}
+
 #[derive(Clone, Debug)]
 pub struct ReplayCase {
     pub file: Lent<u8>,
@@ -213,14 +230,8 @@ pub struct ReplayCase {
 impl Case for ReplayCase {
     fn second(&self) -> Answer {
         let mut lent = self.marking.clone();
-        let (number, index, place, amount) = match replay::replay(self.file.part(), self.list.part(), lent.part_mut()) {
-            Ok(Replayed::Fired) => (0, 0, 0, 0),
-            Ok(Replayed::Stuck { index, why }) => {
-                (stuck_number(&why), index as i64, i64::from(why.place), why.amount as i64)
-            }
-            Err(refusal) => (refusal, 0, 0, 0),
-        };
-        Answer::new(number, [index, place, amount], vec![Cells::Longs(lent.cells)])
+        let answer = replay::replay(self.file.part(), self.list.part(), lent.part_mut());
+        of_replay(answer, lent)
     }
 
     fn show(&self) -> String {
@@ -248,6 +259,14 @@ impl Case for ReplayCase {
     }
 }
 
+fn of_cut(answer: Result<Written, Refusal>, lent: Lent<u8>) -> Answer {
+    let (number, outs) = match answer {
+        Ok(w) => (0, [w.length as i64, w.places as i64, w.transitions as i64]),
+        Err(refusal) => (refusal, [0; 3]),
+    };
+    Answer::new(number, outs, vec![Cells::Bytes(lent.cells)])
+}
+
 #[derive(Clone, Debug)]
 pub struct CutCase {
     pub which: Cut,
@@ -259,13 +278,8 @@ pub struct CutCase {
 impl Case for CutCase {
     fn second(&self) -> Answer {
         let mut lent = self.slice.clone();
-        match cut(self.which, self.plan.part(), self.q.part(), lent.part_mut()) {
-            Ok(w) => {
-                let outs = [w.length as i64, w.places as i64, w.transitions as i64];
-                Answer::new(0, outs, vec![Cells::Bytes(lent.cells)])
-            }
-            Err(refusal) => Answer::new(refusal, [0; 3], vec![Cells::Bytes(lent.cells)]),
-        }
+        let answer = cut(self.which, self.plan.part(), self.q.part(), lent.part_mut());
+        of_cut(answer, lent)
     }
 
     fn show(&self) -> String {
@@ -488,6 +502,15 @@ impl Case for CheckCase {
     }
 }
 
+fn of_verdict(answer: Result<Verdict, Refusal>) -> Answer {
+    let (answer, number) = match answer {
+        Ok(Verdict::Accepted) => (0, 0),
+        Ok(Verdict::Broken { rule, number }) => (100 + rule, number as i64),
+        Err(refusal) => (refusal, 0),
+    };
+    Answer::new(answer, [number], vec![])
+}
+
 /// The verdict with its number, with Q as numbers.
 #[derive(Clone, Debug)]
 pub struct VerdictCase {
@@ -498,15 +521,96 @@ pub struct VerdictCase {
 
 impl Case for VerdictCase {
     fn second(&self) -> Answer {
-        let (answer, number) = match check::verdict(self.plan.part(), self.slice.part(), self.q.part()) {
-            Ok(check::Verdict::Accepted) => (0, 0),
-            Ok(check::Verdict::Broken { rule, number }) => (100 + rule, number as i64),
-            Err(refusal) => (refusal, 0),
-        };
-        Answer::new(answer, [number], vec![])
+        of_verdict(check::verdict(self.plan.part(), self.slice.part(), self.q.part()))
     }
 
     fn show(&self) -> String {
         show_bytes("plan", &self.plan) + &show_bytes("slice", &self.slice) + &show_numbers("criterion", &self.q)
+    }
+}
+
+#[derive(Clone, Debug)]
+pub struct TransferCase {
+    pub old: Lent<u8>,
+    pub new: Lent<u8>,
+    pub running: Lent<u64>,
+    pub table: Lent<u16>,
+    pub marking: Lent<u64>,
+}
+
+impl Case for TransferCase {
+    fn second(&self) -> Answer {
+        let mut lent = self.marking.clone();
+        let (old, new) = (self.old.part(), self.new.part());
+        let answer = transfer::transfer(old, new, self.running.part(), self.table.part(), lent.part_mut());
+        Answer::new(answer.err().unwrap_or(0), [0; 0], vec![Cells::Longs(lent.cells)])
+    }
+
+    fn show(&self) -> String {
+        show_bytes("old", &self.old)
+            + &show_bytes("new", &self.new)
+            + &show_tokens("running", &self.running)
+            + &show_numbers("table", &self.table)
+            + &format!("  marking: {} entries lent\n", self.marking.len)
+    }
+}
+
+/// A replay from a lent marking; the cut and the verdict below likewise.
+#[derive(Clone, Debug)]
+pub struct ReplayFromCase {
+    pub start: Lent<u64>,
+    pub plain: ReplayCase,
+}
+
+impl Case for ReplayFromCase {
+    fn second(&self) -> Answer {
+        let (file, list) = (self.plain.file.part(), self.plain.list.part());
+        let mut lent = self.plain.marking.clone();
+        let answer = replay::replay_from(file, self.start.part(), list, lent.part_mut());
+        of_replay(answer, lent)
+    }
+
+    fn show(&self) -> String {
+        self.plain.show() + &show_tokens("start", &self.start)
+    }
+
+    fn outcome(&self, answer: &Answer) -> String {
+        self.plain.outcome(answer)
+    }
+}
+
+#[derive(Clone, Debug)]
+pub struct CutFromCase {
+    pub start: Lent<u64>,
+    pub plain: CutCase,
+}
+
+impl Case for CutFromCase {
+    fn second(&self) -> Answer {
+        let (plan, q) = (self.plain.plan.part(), self.plain.q.part());
+        let mut lent = self.plain.slice.clone();
+        let answer = cut_from(self.plain.which, plan, self.start.part(), q, lent.part_mut());
+        of_cut(answer, lent)
+    }
+
+    fn show(&self) -> String {
+        self.plain.show() + &show_tokens("start", &self.start)
+    }
+}
+
+#[derive(Clone, Debug)]
+pub struct VerdictFromCase {
+    pub start: Lent<u64>,
+    pub plain: VerdictCase,
+}
+
+impl Case for VerdictFromCase {
+    fn second(&self) -> Answer {
+        let (plan, slice, q) = (self.plain.plan.part(), self.plain.slice.part(), self.plain.q.part());
+        of_verdict(check::verdict_from(plan, slice, self.start.part(), q))
+    }
+
+    fn show(&self) -> String {
+        self.plain.show() + &show_tokens("start", &self.start)
     }
 }

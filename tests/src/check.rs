@@ -4,6 +4,7 @@ use crate::criterion;
 use crate::cut::Kept;
 use crate::net::{changes, raises, Kind, Net, Refusal};
 use crate::read::read;
+use crate::start;
 
 #[derive(Clone, Copy, PartialEq, Eq, Debug)]
 pub enum Verdict {
@@ -19,6 +20,15 @@ pub enum Verdict {
 pub fn verdict(plan: &[u8], slice: &[u8], q: &[u16]) -> Result<Verdict, Refusal> {
     let plan = read(plan, Some(Kind::Plan))?;
     let slice = read(slice, Some(Kind::Slice))?;
+    criterion::check(q, plan.places())?;
+    Ok(judge(&plan, &slice, q))
+}
+
+/// The same against a lent marking of the plan: rule 3 compares with it.
+pub fn verdict_from(plan: &[u8], slice: &[u8], start: &[u64], q: &[u16]) -> Result<Verdict, Refusal> {
+    let plan = read(plan, Some(Kind::Plan))?;
+    let slice = read(slice, Some(Kind::Slice))?;
+    let plan = start::from(plan, start)?;
     criterion::check(q, plan.places())?;
     Ok(judge(&plan, &slice, q))
 }

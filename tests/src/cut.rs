@@ -3,6 +3,7 @@
 use crate::criterion;
 use crate::net::{changes, raises, Kind, Net, Refusal};
 use crate::read::read;
+use crate::start;
 use crate::write::slice_bytes;
 
 #[derive(Clone, Copy, PartialEq, Eq, Debug)]
@@ -42,10 +43,18 @@ pub struct Written {
 
 /// Cuts a plan for a criterion and writes the slice at the start of the lent bytes.
 pub fn cut(which: Cut, plan: &[u8], q: &[u16], lent: &mut [u8]) -> Result<Written, Refusal> {
-    let net = read(plan, Some(Kind::Plan))?;
+    cut_net(&read(plan, Some(Kind::Plan))?, which, q, lent)
+}
+
+/// The same from a lent marking, which the slice then has.
+pub fn cut_from(which: Cut, plan: &[u8], start: &[u64], q: &[u16], lent: &mut [u8]) -> Result<Written, Refusal> {
+    cut_net(&start::from(read(plan, Some(Kind::Plan))?, start)?, which, q, lent)
+}
+
+fn cut_net(net: &Net, which: Cut, q: &[u16], lent: &mut [u8]) -> Result<Written, Refusal> {
     criterion::check(q, net.places())?;
-    let kept = kept(&net, which, q);
-    let slice = slice_bytes(&net, &kept);
+    let kept = kept(net, which, q);
+    let slice = slice_bytes(net, &kept);
     if lent.len() < slice.len() {
         return Err(13);
     }

@@ -10,9 +10,11 @@ use crate::read::read;
 pub mod capped;
 mod normal;
 mod range;
+mod starts;
 
 pub use normal::normals;
 pub use range::ranges;
+pub use starts::{cuts_from, replays_from, transfers, verdicts_from};
 
 /// A case and the answer that the papers give; `cells` only where the example states them.
 pub struct Fixed<C> {
@@ -1250,6 +1252,19 @@ mod tests {
     #[test]
     fn normal_examples() {
         hold(normals());
+    }
+
+    #[test]
+    fn transfer_examples() {
+        hold(transfers());
+    }
+
+    #[test]
+    fn examples_from_a_start() {
+        hold(replays_from());
+        hold(cuts_from(Cut::Safety));
+        hold(cuts_from(Cut::Branching));
+        hold(verdicts_from());
     }
 
     #[test]

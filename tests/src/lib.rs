@@ -15,7 +15,9 @@ pub mod read;
 pub mod replay;
 pub mod run_cut;
 pub mod shadow;
+pub mod start;
 pub mod together;
+pub mod transfer;
 pub mod write;
 
 // The cases.

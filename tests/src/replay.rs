@@ -3,6 +3,7 @@
 use crate::list;
 use crate::net::{Net, Refusal};
 use crate::read::read;
+use crate::start;
 
 /// Why a transition is not enabled: the lowest place that is short, and the tokens missing there; or, where none is short, the
 /// lowest that would be full, and the tokens above its cap.
@@ -25,12 +26,20 @@ pub enum Replayed {
 
 /// Replays a list from the file's initial marking and leaves the marking reached in the first P entries.
 pub fn replay(file: &[u8], numbers: &[u16], marking: &mut [u64]) -> Result<Replayed, Refusal> {
-    let net = read(file, None)?;
+    replay_net(&read(file, None)?, numbers, marking)
+}
+
+/// The same from a lent marking.
+pub fn replay_from(file: &[u8], start: &[u64], numbers: &[u16], marking: &mut [u64]) -> Result<Replayed, Refusal> {
+    replay_net(&start::from(read(file, None)?, start)?, numbers, marking)
+}
+
+fn replay_net(net: &Net, numbers: &[u16], marking: &mut [u64]) -> Result<Replayed, Refusal> {
     list::check(numbers, net.transitions())?;
     if marking.len() < net.places() {
         return Err(13);
     }
-    let (answer, reached) = fire_list(&net, numbers);
+    let (answer, reached) = fire_list(net, numbers);
     marking[..reached.len()].copy_from_slice(&reached);
     Ok(answer)
 }

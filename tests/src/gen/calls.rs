@@ -47,7 +47,7 @@ fn rich_slice(rng: &mut Rng) -> Draft {
 }
 
 /// A damaged file of the kind, or of either.
-fn bad_file(rng: &mut Rng, kind: Option<Kind>) -> Vec<u8> {
+pub(super) fn bad_file(rng: &mut Rng, kind: Option<Kind>) -> Vec<u8> {
     let refusal = any_refusal(rng);
     let slice = match kind {
         Some(kind) => kind == Kind::Slice,
@@ -58,7 +58,7 @@ fn bad_file(rng: &mut Rng, kind: Option<Kind>) -> Vec<u8> {
 }
 
 /// A good file of either kind.
-fn good_file(rng: &mut Rng) -> Draft {
+pub(super) fn good_file(rng: &mut Rng) -> Draft {
     match rng.below(100) {
         0..=3 => empty_slice(rng),
         4..=61 => plan_with_arcs(rng),
@@ -300,7 +300,7 @@ pub fn together_case(rng: &mut Rng) -> TogetherCase {
 }
 
 /// Another number of entries: one more or less, none, or far more.
-fn change_length<T: Copy + From<u8>>(rng: &mut Rng, entries: &mut Vec<T>) {
+pub(super) fn change_length<T: Copy + From<u8>>(rng: &mut Rng, entries: &mut Vec<T>) {
     let length = entries.len();
     let far = length + rng.range(2, 2_000);
     let other = *rng.pick(&[length + 1, length + 1, length.saturating_sub(1), length.saturating_sub(1), 0, far]);
@@ -511,7 +511,7 @@ pub fn normal_case(rng: &mut Rng) -> NormalCase {
 }
 
 /// Plan, slice and criterion for the checker.
-fn check_parts(rng: &mut Rng) -> (Vec<u8>, Vec<u8>, Vec<u16>) {
+pub(super) fn check_parts(rng: &mut Rng) -> (Vec<u8>, Vec<u8>, Vec<u16>) {
     let aim = rng.below(100);
     // Rules 1 to 10, the ones that need room in the net more often.
     let rules = [1, 2, 3, 4, 4, 5, 6, 6, 7, 7, 8, 8, 8, 9, 9, 9, 9, 10, 10, 10, 10];
@@ -624,6 +624,12 @@ mod tests {
         let mut checker = vec![0, 1, 2, 3, 4, 5, 6, 7, 8, 10, 16];
         checker.extend(101..=110);
         share("verdict", verdict_case, &checker);
+        share("transfer", transfer_case, &[0, 1, 2, 3, 4, 5, 6, 7, 13, 16, 22, 23, 24]);
+        share("replay_from", replay_from_case, &[0, 100, 101, 1, 2, 3, 4, 5, 6, 7, 8, 11, 12, 13, 16, 22, 24]);
+        for which in [Cut::Safety, Cut::Branching] {
+            share("cut_from", |rng| cut_from_case(rng, which), &[0, 1, 2, 3, 4, 5, 6, 7, 10, 13, 16, 22, 24]);
+        }
+        share("verdict_from", verdict_from_case, &[&checker[..], &[22, 24]].concat());
         // An odd number of bytes.
         checker.push(9);
         share("check", check_case, &checker);

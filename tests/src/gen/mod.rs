@@ -6,6 +6,7 @@ mod draft;
 mod inputs;
 mod plan;
 mod slice;
+mod starts;
 
 pub use calls::*;
 pub use damage::{any_refusal, damage};
@@ -13,3 +14,4 @@ pub use draft::{Draft, DraftArc};
 pub use inputs::*;
 pub use plan::{capped_plan, limit_plan, plan};
 pub use slice::*;
+pub use starts::*;

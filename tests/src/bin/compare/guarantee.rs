@@ -182,7 +182,7 @@ fn keeps_changers(plan: &Net, slice: &Net) -> bool {
 }
 
 /// Some where the slice has all places and transitions of the cut, and at least as many of each.
-fn contains(slice: &Net, cut: &Net) -> Option<()> {
+pub fn contains(slice: &Net, cut: &Net) -> Option<()> {
     let within = |some: &[u16], all: &[u16]| some.iter().all(|n| all.contains(n));
     let members =
         within(&cut.place_origins, &slice.place_origins) && within(&cut.transition_origins, &slice.transition_origins);

@@ -194,6 +194,103 @@ pub fn normal(case: &NormalCase) -> Answer {
     Answer { inputs_kept: plan == case.plan, ..Answer::new(number, [length], vec![Cells::Bytes(normal.cells)]) }
 }
 
+#[cfg(feature = "transfer")]
+pub fn transfer(case: &TransferCase) -> Answer {
+    let (old, new, running, table) = (case.old.clone(), case.new.clone(), case.running.clone(), case.table.clone());
+    let mut marking = case.marking.clone();
+    let number = unsafe {
+        nesfoal_transfer(
+            old.pointer(),
+            old.len,
+            new.pointer(),
+            new.len,
+            running.pointer(),
+            running.len,
+            table.pointer(),
+            table.len,
+            marking.pointer_mut(),
+            marking.len,
+        )
+    };
+    let inputs_kept = old == case.old && new == case.new && running == case.running && table == case.table;
+    Answer { inputs_kept, ..Answer::new(number, [0; 0], vec![Cells::Longs(marking.cells)]) }
+}
+
+#[cfg(feature = "from")]
+pub fn replay_from(case: &ReplayFromCase) -> Answer {
+    let ReplayCase { file, list, mut marking } = case.plain.clone();
+    let start = case.start.clone();
+    let (mut index, mut place, mut amount) = (UNSET, UNSET, UNSET);
+    let number = unsafe {
+        nesfoal_replay_from(
+            file.pointer(),
+            file.len,
+            start.pointer(),
+            start.len,
+            list.pointer(),
+            list.len,
+            marking.pointer_mut(),
+            marking.len,
+            &mut index,
+            &mut place,
+            &mut amount,
+        )
+    };
+    let inputs_kept = file == case.plain.file && list == case.plain.list && start == case.start;
+    Answer { inputs_kept, ..Answer::new(number, [index, place, amount], vec![Cells::Longs(marking.cells)]) }
+}
+
+/// Either cut.
+#[cfg(feature = "from")]
+pub fn cut_from(case: &CutFromCase) -> Answer {
+    let CutCase { which, plan, q, mut slice } = case.plain.clone();
+    let start = case.start.clone();
+    let (mut length, mut places, mut transitions) = (UNSET, UNSET, UNSET);
+    let call = match which {
+        nesfoal_tests::cut::Cut::Safety => nesfoal_safety_from,
+        nesfoal_tests::cut::Cut::Branching => nesfoal_branching_from,
+    };
+    let number = unsafe {
+        call(
+            plan.pointer(),
+            plan.len,
+            start.pointer(),
+            start.len,
+            q.pointer(),
+            q.len,
+            slice.pointer_mut(),
+            slice.len,
+            &mut length,
+            &mut places,
+            &mut transitions,
+        )
+    };
+    let inputs_kept = plan == case.plain.plan && q == case.plain.q && start == case.start;
+    Answer { inputs_kept, ..Answer::new(number, [length, places, transitions], vec![Cells::Bytes(slice.cells)]) }
+}
+
+#[cfg(feature = "from")]
+pub fn verdict_from(case: &VerdictFromCase) -> Answer {
+    let VerdictCase { plan, slice, q } = case.plain.clone();
+    let start = case.start.clone();
+    let mut breaking = UNSET;
+    let number = unsafe {
+        nesfoal_verdict_from(
+            plan.pointer(),
+            plan.len,
+            slice.pointer(),
+            slice.len,
+            start.pointer(),
+            start.len,
+            q.pointer(),
+            q.len,
+            &mut breaking,
+        )
+    };
+    let inputs_kept = plan == case.plain.plan && slice == case.plain.slice && q == case.plain.q && start == case.start;
+    Answer { inputs_kept, ..Answer::new(number, [breaking], vec![]) }
+}
+
 #[cfg(feature = "check")]
 pub fn check(case: &CheckCase) -> Answer {
     let (plan, slice, q) = (case.plan.clone(), case.slice.clone(), case.q.clone());

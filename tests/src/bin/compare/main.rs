@@ -16,6 +16,8 @@
     feature = "together",
     feature = "range",
     feature = "normal",
+    feature = "transfer",
+    feature = "from",
     feature = "check"
 )))]
 compile_error!("no call to compare: turn a feature on");
@@ -35,6 +37,8 @@ mod check;
 mod effect;
 #[cfg(feature = "run_cut")]
 mod fed;
+#[cfg(feature = "from")]
+mod from;
 #[cfg(feature = "check")]
 mod guarantee;
 #[cfg(feature = "normal")]
@@ -51,8 +55,12 @@ mod run_cut;
 mod safety;
 #[cfg(feature = "shadow")]
 mod shadow;
+#[cfg(all(feature = "check", feature = "from"))]
+mod started;
 #[cfg(feature = "together")]
 mod together;
+#[cfg(feature = "transfer")]
+mod transfer;
 #[cfg(feature = "check")]
 mod verdict;
 
@@ -108,11 +116,23 @@ fn comparisons() -> Vec<fn(&Settings) -> bool> {
         |s| frame::compare::<normal::Normal>(s),
         #[cfg(feature = "normal")]
         redrawn::compare,
+        #[cfg(feature = "transfer")]
+        |s| frame::compare::<transfer::Transfer>(s),
+        #[cfg(feature = "from")]
+        |s| frame::compare::<from::Replay>(s),
+        #[cfg(feature = "from")]
+        |s| frame::compare::<from::Safety>(s),
+        #[cfg(feature = "from")]
+        |s| frame::compare::<from::Branching>(s),
+        #[cfg(feature = "from")]
+        |s| frame::compare::<from::Verdict>(s),
         #[cfg(feature = "check")]
         |s| frame::compare::<check::Check>(s),
         #[cfg(feature = "check")]
         |s| frame::compare::<verdict::Verdict>(s),
         #[cfg(feature = "check")]
         guarantee::compare,
+        #[cfg(all(feature = "check", feature = "from"))]
+        started::compare,
     ]
 }

@@ -1,18 +1,20 @@
 //! What each verb is asked, and what it has to say by the second implementation.
 
 use nesfoal_tests::cases::*;
-use nesfoal_tests::check::{verdict, Verdict};
-use nesfoal_tests::cut::{cut, Cut, Written};
+use nesfoal_tests::check::{verdict, verdict_from, Verdict};
+use nesfoal_tests::cut::{cut, cut_from, Cut, Written};
 use nesfoal_tests::fixed::{self, Fixed};
-use nesfoal_tests::net::{Direction, Kind, Refusal, MAX_FILE, MAX_LIST, MAX_PLACES};
+use nesfoal_tests::net::{Direction, Kind, Net, Refusal, MAX_FILE, MAX_LIST, MAX_PLACES};
 use nesfoal_tests::normal::{normal, too_heavy};
 use nesfoal_tests::range::{range, Extent};
 use nesfoal_tests::read::read;
-use nesfoal_tests::replay::{replay, Hindrance, Replayed};
+use nesfoal_tests::replay::{replay, replay_from, Hindrance, Replayed};
 use nesfoal_tests::rng::Rng;
 use nesfoal_tests::run_cut::{run_cut, RunCut};
 use nesfoal_tests::shadow::shadow;
+use nesfoal_tests::start::most;
 use nesfoal_tests::together::{together, Together};
+use nesfoal_tests::transfer::{carried, transfer, NO_PLACE};
 use nesfoal_tests::{arcs, effect, gen};
 
 /// The file that a cut writes.
@@ -21,6 +23,7 @@ const LIST: &str = "list";
 const CRITERION: &str = "criterion";
 const MARKING: &str = "marking";
 const UPPER: &str = "upper";
+const TABLE: &str = "table";
 
 #[derive(Clone)]
 pub struct Due {
@@ -180,6 +183,46 @@ pub fn all() -> Vec<Verb> {
             spoils: &[("first", |due| replace(due, "shadow 0", "shadow")), EXCESS, ABOVE],
         },
         Verb {
+            name: "replay_from",
+            outcomes: "fired stuck full 1 2 3 4 5 6 7 8 11 12 16 22 24",
+            fixed: || each(fixed::replays_from(), of_replay_from),
+            random: |rng| of_replay_from(&gen::replay_from_case(rng)),
+            spoils: &[("amount", |due| replace(due, "short of ", "short of 0")), ENTRIES, TOKENS, EXCESS],
+        },
+        Verb {
+            name: "safety_from",
+            outcomes: "written 1 2 3 4 5 6 7 10 16 22 24",
+            fixed: || each(fixed::cuts_from(Cut::Safety), of_cut_from),
+            random: |rng| of_cut_from(&gen::cut_from_case(rng, Cut::Safety)),
+            spoils: &[("letter", another_letter), ENTRIES, TOKENS],
+        },
+        Verb {
+            name: "branching_from",
+            outcomes: "written 1 2 3 4 5 6 7 10 16 22 24",
+            fixed: || each(fixed::cuts_from(Cut::Branching), of_cut_from),
+            random: |rng| of_cut_from(&gen::cut_from_case(rng, Cut::Branching)),
+            spoils: &[("letter", another_letter), ENTRIES, TOKENS],
+        },
+        Verb {
+            name: "check_from",
+            outcomes: "accepted 1 2 3 4 5 6 7 8 10 16 22 24 101 102 103 104 105 106 107 108 109 110",
+            fixed: || each(fixed::verdicts_from(), of_verdict_from),
+            random: |rng| of_verdict_from(&gen::verdict_from_case(rng)),
+            spoils: &[("rule_3", |due| forget(due, "103")), ENTRIES, TOKENS],
+        },
+        Verb {
+            name: "transfer",
+            outcomes: "carried 1 2 3 4 5 6 7 16 22 23 24",
+            fixed: || each(fixed::transfers(), of_transfer),
+            random: |rng| of_transfer(&gen::transfer_case(rng)),
+            spoils: &[
+                ("total", |due| replace(due, "carried ", "carried 1")),
+                ("stranded", |due| replace(due, "refused 23", "refused 22")),
+                ENTRIES,
+                TOKENS,
+            ],
+        },
+        Verb {
             name: "normal",
             outcomes: "written 1 2 3 4 5 6 7 16 25",
             fixed: || each(fixed::normals(), of_normal),
@@ -209,6 +252,10 @@ pub fn all() -> Vec<Verb> {
 /// Another refusal than 16, and other tokens above a cap.
 const ABOVE: Spoil = ("above", |due| replace(due, "refused 16", "refused 6"));
 const EXCESS: Spoil = ("excess", |due| replace(due, "over by ", "over by 0"));
+
+/// The two refusals of a start, and of a transfer, are others.
+const ENTRIES: Spoil = ("entries", |due| replace(due, "refused 22", "refused 15"));
+const TOKENS: Spoil = ("tokens", |due| replace(due, "refused 24", "refused 16"));
 
 /// Other words, where these are said.
 fn replace(due: &mut Due, from: &str, to: &str) {
@@ -331,6 +378,116 @@ fn replayed(answer: &Replayed, file: &[u8], list: &[u16], marking: &[u64]) -> Du
     }
 }
 
+/// A call from a start: the plain verb's words, then `from` and the marking.
+fn and_from(mut asked: Asked, start: &[u64]) -> Asked {
+    asked.words.push("from".into());
+    asked.marking(start, false)
+}
+
+/// A refusal of a start, for a file that is good, in whole.
+fn wrong_start(number: Refusal, start: &[u64], file: &[u8]) -> Due {
+    let net = read(file, None).expect("a good file");
+    let why = match number {
+        22 => format!("{}; P is {}", how_many(start.len()), net.places()),
+        _ => too_many(&start.iter().map(|&n| u128::from(n)).collect::<Vec<_>>(), "has", &net),
+    };
+    Due::new(number, format!("refused {number}: marking: {why}\n"))
+}
+
+/// The first place that has, or gets, more tokens than it can have.
+fn too_many(tokens: &[u128], verb: &str, net: &Net) -> String {
+    let above = |p: &usize| tokens[*p] > u128::from(most(net, *p));
+    let p = (0..tokens.len()).find(above).expect("a place has too many");
+    let limit = match net.cap(p) {
+        Some(cap) => format!("it holds {}", grouped(cap.into())),
+        None => "at most 4,294,967,295".into(),
+    };
+    let s = if tokens[p] == 1 { "" } else { "s" };
+    format!("place {p} {verb} {} token{s}; {limit}", grouped(tokens[p]))
+}
+
+fn of_replay_from(case: &ReplayFromCase) -> Asked {
+    let (file, list, start) = (case.plain.file.part(), case.plain.list.part(), case.start.part());
+    let mut marking = vec![0; MAX_PLACES];
+    let due = match replay_from(file, start, list, &mut marking) {
+        Ok(answer) => replayed(&answer, file, list, &marking),
+        Err(n @ (22 | 24)) => wrong_start(n, start, file),
+        Err(n) => refused(n, "file"),
+    };
+    and_from(Asked::new(&["replay", "file"], &[("file", &case.plain.file)], due).list(list), start)
+}
+
+fn of_cut_from(case: &CutFromCase) -> Asked {
+    let (plan, q, start) = (case.plain.plan.part(), case.plain.q.part(), case.start.part());
+    let mut buffer = vec![0; MAX_FILE];
+    let due = match cut_from(case.plain.which, plan, start, q, &mut buffer) {
+        Ok(w) => written(&w, buffer),
+        Err(n @ (22 | 24)) => wrong_start(n, start, plan),
+        Err(n) => refused(n, "plan"),
+    };
+    let asked = Asked::new(&[cut_verb(case.plain.which), "plan", OUT], &[("plan", &case.plain.plan)], due);
+    and_from(asked.list(q), start)
+}
+
+fn of_verdict_from(case: &VerdictFromCase) -> Asked {
+    let VerdictCase { plan, slice, q } = &case.plain;
+    let start = case.start.part();
+    let due = match verdict_from(plan.part(), slice.part(), start, q.part()) {
+        Ok(verdict) => judged(&verdict),
+        Err(n @ (22 | 24)) => wrong_start(n, start, plan.part()),
+        Err(n) => refused_of_two(n, plan.part()),
+    };
+    let asked = Asked::new(&["check", "plan", "slice"], &[("plan", plan), ("slice", slice)], due);
+    and_from(asked.list(q.part()), start)
+}
+
+fn of_transfer(case: &TransferCase) -> Asked {
+    let (old, new) = (case.old.part(), case.new.part());
+    let (running, table) = (case.running.part(), case.table.part());
+    let mut marking = vec![0; MAX_PLACES];
+    let due = match transfer(old, new, running, table, &mut marking) {
+        Ok(places) => {
+            let tokens: String = marking[..places].iter().map(|m| format!(" {m}")).collect();
+            let total = counted(marking[..places].iter().sum::<u64>() as usize, "token");
+            Due::new("carried", format!("carried {total}, ending{tokens}\n"))
+        }
+        Err(n @ 22..=24) => Due::new(n, format!("refused {n}: {}\n", wrong_transfer(n, case))),
+        Err(n) => refused(n, if read(old, Some(Kind::Plan)).is_err() { "old" } else { "new" }),
+    };
+    let asked = Asked::new(&["transfer", "old", "new"], &[("old", &case.old), ("new", &case.new)], due);
+    // `none` is a word for an entry of the table.
+    let mut asked = asked.list_in(TABLE, table);
+    if table.len() % 3 == 1 {
+        asked.words.iter_mut().skip(3).filter(|word| *word == "65535").for_each(|word| *word = "none".into());
+    }
+    asked.words.push("with".into());
+    asked.marking(running, false)
+}
+
+/// Why a transfer of two good plans is refused.
+fn wrong_transfer(number: Refusal, case: &TransferCase) -> String {
+    let [old, new] = [&case.old, &case.new].map(|file| read(file.part(), Some(Kind::Plan)).expect("a good plan"));
+    let (running, table) = (case.running.part(), case.table.part());
+    let of_length =
+        |what: &str, n: usize| format!("{what}: {}; the old plan has {}", how_many(n), counted(old.places(), "place"));
+    match number {
+        22 if running.len() != old.places() => of_length("marking", running.len()),
+        22 if table.len() != old.places() => of_length("table", table.len()),
+        22 => {
+            let wrong = |to: &u16| *to != NO_PLACE && usize::from(*to) >= new.places();
+            let i = table.iter().position(wrong).expect("an entry is wrong");
+            let has = counted(new.places(), "place");
+            format!("table: entry {i} is {}: no such place; the new plan has {has}", table[i])
+        }
+        23 => {
+            let p = (0..table.len()).find(|&p| table[p] == NO_PLACE && running[p] > 0).expect("a place is stranded");
+            let s = if running[p] == 1 { "" } else { "s" };
+            format!("table: entry {p} is none, and place {p} has {} token{s}", grouped(running[p].into()))
+        }
+        _ => format!("new plan: {}", too_many(&carried(running, table, new.places()), "gets", &new)),
+    }
+}
+
 fn of_together(case: &TogetherCase) -> Asked {
     let (plan, t, marking) = (case.plan.part(), case.transition, case.marking.part());
     let net = read(plan, Some(Kind::Plan));
@@ -423,8 +580,15 @@ fn of_cut(case: &CutCase) -> Asked {
         Ok(w) => written(&w, buffer),
         Err(n) => refused(n, "plan"),
     };
-    let verb = if case.which == Cut::Safety { "safety" } else { "branching" };
-    Asked::new(&[verb, "plan", OUT], &[("plan", &case.plan)], due).list(case.q.part())
+    Asked::new(&[cut_verb(case.which), "plan", OUT], &[("plan", &case.plan)], due).list(case.q.part())
+}
+
+fn cut_verb(which: Cut) -> &'static str {
+    if which == Cut::Safety {
+        "safety"
+    } else {
+        "branching"
+    }
 }
 
 /// The line of a cut, and the file.
@@ -519,8 +683,17 @@ fn of_shadow(case: &ShadowCase) -> Asked {
 fn of_verdict(case: &VerdictCase) -> Asked {
     let (plan, slice, q) = (case.plan.part(), case.slice.part(), case.q.part());
     let due = match verdict(plan, slice, q) {
-        Ok(Verdict::Accepted) => Due::new("accepted", "accepted\n".into()),
-        Ok(Verdict::Broken { rule, number }) => {
+        Ok(verdict) => judged(&verdict),
+        Err(n) => refused_of_two(n, plan),
+    };
+    Asked::new(&["check", "plan", "slice"], &[("plan", &case.plan), ("slice", &case.slice)], due).list(q)
+}
+
+/// The line of a verdict, up to the reason.
+fn judged(verdict: &Verdict) -> Due {
+    match *verdict {
+        Verdict::Accepted => Due::new("accepted", "accepted\n".into()),
+        Verdict::Broken { rule, number } => {
             let what = match rule {
                 1 => "the slice's place",
                 2 => "the slice's transition",
@@ -529,7 +702,5 @@ fn of_verdict(case: &VerdictCase) -> Asked {
             };
             Due::new(100 + rule, format!("rule {rule} broken by {what} {number}: "))
         }
-        Err(n) => refused_of_two(n, plan),
-    };
-    Asked::new(&["check", "plan", "slice"], &[("plan", &case.plan), ("slice", &case.slice)], due).list(q)
+    }
 }
