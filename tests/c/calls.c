@@ -915,6 +915,12 @@ static void transfers(void)
     expect("branching from, nothing", a == 16 && b + c == 0 && memcmp(slice, empty, 16) == 0, 1);
     expect("branching from, 13", nesfoal_branching_from(plan, 108, start, 5, in_bay, 1, slice, 79, &a, &b, &c), NESFOAL_REFUSED_BUFFER);
     expect("branching from, zeros", a + b + c, 0);
+    /* all the way: carried, replayed from there, cut and checked where that ends; only the first P entries are a start */
+    expect("carried on", nesfoal_replay_from(three, 60, (const uint64_t[3]){1, 1, 3}, 3, list, 1, marking, 4, &a, &b, &c), 0);
+    expect("carried on, marking", marking[0] == 1 && marking[1] == 0 && marking[2] == 4 && marking[3] == 7, 1);
+    expect("carried on, cut", nesfoal_safety_from(three, 60, marking, 3, in_bay, 1, slice, 79, &a, &b, &c), 0);
+    expect("carried on, verdict", nesfoal_verdict_from(three, 60, slice, a, marking, 3, in_bay, 1, &b), NESFOAL_ACCEPTED);
+    expect("carried on, all entries", nesfoal_verdict_from(three, 60, slice, a, marking, 4, in_bay, 1, &b), NESFOAL_REFUSED_ENTRIES);
 }
 
 /* The normal form (02, A13). */
