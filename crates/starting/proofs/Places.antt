@@ -17,12 +17,13 @@ use Rattle.file_header.specs.Layout.{pick, placesLength}
 use Rattle.file_header.specs.declared.Header.{Header}
 use Rattle.file.specs.Layout.{netFrom}
 use Rattle.file_words.specs.Word.{bytes32}
+use Rattle.file_words.proofs.Bytes.{length-32}
 use Rattle.file_writing.specs.Writing.{placeBytes, placesBytes, arcsBytes, originsBytes, trailerBytes, sliceBody, sliceBytes}
 use Rattle.file_writing.proofs.Bytes.{length-place, length-places}
 use Rattle.file_words.specs.Refusal.{refuse}
 use Rattle.promise.specs.Calls.{CutAnswer, cutAnswer, written}
 use Rattle.promise.specs.Starts.{startingAt}
-use Rattle.tables.proofs.Sets.{sets-first}
+use Rattle.tables.proofs.Sets.{sets-first, sets-after}
 use Rattle.slice_parts.proofs.Steps.{places-same}
 use Rattle.sets.specs.Member.{bit, member}
 use Rattle.sets.proofs.Bits.{bit-zero}
@@ -223,3 +224,7 @@ pub as-kept : (s : List ℕ) (h : Header) (kept : KeptSets) {entry exit : List �
     → Answers (h .edition) (keeping (netFrom s h) (selected (member (kept .places)) 0 (h .places)) (selected (member (kept .transitions)) 0 (h .transitions))) entry exit r
 unfolding keptSlice
 as-kept s h kept a = a
+
+-- two numbers stored one after the other
+pub two-stored : (l : List ℕ) (i k : ℕ) {a b : List ℕ} {x y m c : ℕ} → k ≡ i + 4 → a ≡ sets l i (bytes32 x) → b ≡ sets a k (bytes32 y) → x ≡ m → y ≡ c → b ≡ sets l i (bytes32 m ++ bytes32 c)
+two-stored l i k {x = x} {y = y} e f g x≡ y≡ = rw (x≡, y≡) at (sets-after (bytes32 x) (bytes32 y) l i k f g (omega (arith, e, length-32 x)))

@@ -6,8 +6,7 @@ use lib.Dec.{eqb}
 use lib.ListN.{length}
 use lib.Seq.{sets, length-sets}
 use Rattle.file_words.specs.Word.{bytes32}
-use Rattle.slice_parts.proofs.Steps.{two-stored}
-use Rattle.starting.proofs.Places.{least-place, place-capped, place-plain, next-capped, next-plain}
+use Rattle.starting.proofs.Places.{two-stored, least-place, place-capped, place-plain, next-capped, next-plain}
 use Rattle.starting.proofs.cuts.put_place.Statement.{statement}
 use Rattle.starting.proofs.cuts.put_place.Tie as tie
 
