@@ -1,5 +1,5 @@
 -- A transfer, and the replay from what it left.
-use Prim.Native.Nat.{ℕ, zero, suc, _≤_}
+use Prim.Native.Nat.{ℕ, zero, suc, _≤_, _<_}
 use mathlib.Core.Bool.{true, false}
 use mathlib.Core.List.{List, [], _∷_, _++_}
 use mathlib.Core.Path.{_≡_, refl, sym, ap, subst, subst⁻¹, _∙_}
@@ -11,7 +11,7 @@ use Rattle.net.specs.Numbers.{any}
 use Rattle.net.specs.Net.{Net, Answer, fired, short, full, after, replay, tokens}
 use Rattle.net.specs.Guarantee.{PlanFires}
 use Rattle.net.proofs.Markings.{length-tokens}
-use Rattle.file_words.specs.Word.{Bytes}
+use Rattle.file_words.specs.Word.{byteAt, Bytes}
 use Rattle.file_words.specs.Refusal.{refuse, orElse}
 use Rattle.file_words.proofs.Laws.{orElse-0}
 use Rattle.file_header.specs.declared.Due.the-variants as due
@@ -131,8 +131,9 @@ module _ (old new running table entry : List ℕ) (e : transferAnswer old new ru
       rw e (omega (arith, length-append t (drop (length t) entry), length-drop (length t) entry, length-tokens (netOf new) (λ q. carriedTo q table running), long))
 
   -- at the calls
-  pub continues : (list marking : List ℕ) {start exit : List ℕ} {a : ReplayAnswer} → Bytes new → start ≡ transferMarking old new running table entry → Carried new running table start
+  pub continues : (list marking : List ℕ) {start exit : List ℕ} {a : ReplayAnswer} → ((i : ℕ) → byteAt new i < 256) → start ≡ transferMarking old new running table entry → Carried new running table start
       → a ≡ replayFromAnswer new start list (length marking) → exit ≡ replayFromMarking new start list marking → Continues new running table start list marking exit a
+  unfolding Bytes
   continues list marking {start} {exit} b s c ea em =
       subst⁻¹ (λ (x : ReplayAnswer). Continues new running table start list marking exit x) ea
       (subst⁻¹ (λ (x : List ℕ). Continues new running table start list marking x (replayFromAnswer new start list (length marking))) em

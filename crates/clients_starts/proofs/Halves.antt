@@ -2,7 +2,7 @@
 use Prim.Native.Nat.{ℕ, zero, suc, _+_, _≤_, _<_}
 use mathlib.Core.Bool.{Bool, true, false, not, _&&_, _||_}
 use mathlib.Core.List.{List, [], _∷_, _++_}
-use mathlib.Core.Path.{_≡_, refl, sym, ap, _∙_}
+use mathlib.Core.Path.{_≡_, refl, sym, ap, subst, _∙_}
 use native.Mathlib.Omega.{arith}
 use lib.ListN.{length, drop, getD, length-append, List·getD-append, List·getD-eq-default}
 use lib.Dec.{T, eqb, ltb, leb}
@@ -12,7 +12,7 @@ use Rattle.net.specs.Net.{Net, Marking, Answer, fired, short, full, passes, inp
 use Rattle.net.proofs.Numbers.{by-cases, holds, is-true}
 use Rattle.net.proofs.Markings.{below-off, length-tokens, getD-tokens, tokens-are}
 use Rattle.net.proofs.Replay.{by-test, test-means}
-use Rattle.file_words.specs.Word.{Bytes}
+use Rattle.file_words.specs.Word.{byteAt, Bytes}
 use Rattle.file_words.specs.Refusal.{refuse, orElse, overCap}
 use Rattle.file_words.proofs.Laws.{refuse-0, orElse-0}
 use Rattle.file_header.specs.Layout.{headerOf}
@@ -158,7 +158,6 @@ module _ (file first second middle marking : List ℕ) (b : Bytes file) (f : all
           (λ e. ap (λ (x : List ℕ). getD x p 0) left ∙ getD-tokens N R p (ltb-true p (N .places) e))
           (λ e. let l = ltb-false p (N .places) e in beyond p l ∙ sym (unfold replay in off N none-off first 0 (N .marking) (λ q k. below-off (N .places) _ q k) p l))
 
-
   passes-start : fromRefusal due.Either file m ≡ 0
   unfolding fromRefusal startRefusal
   passes-start = rw (parts .0, eq-eqb (length m) (N .places) (fits .long), over-none N (standing m) fit)
@@ -232,3 +231,21 @@ module _ (file first second middle marking : List ℕ) (b : Bytes file) (f : all
     answer = answer-alike (length marking) ∙ ap (later (length first)) (sym (begun-answer (length marking)) ∙ sym e);
     ends = g ∙ begun-marking ∙ marking-alike;
   }
+
+-- at the calls: m is what the first part left
+pub two-parts : (file first second middle marking : List ℕ) {m exit : List ℕ} {a : ReplayAnswer} → ((i : ℕ) → byteAt file i < 256) → allFired (replayAnswer file first (length middle)) ≡ true
+    → m ≡ replayMarking file first middle → Fits (netOf file) m → length first + length second ≤ 65535
+    → a ≡ replayFromAnswer file m second (length marking) → exit ≡ replayFromMarking file m second marking → AsWhole file first second marking exit a
+unfolding Bytes
+two-parts file first second middle marking b f e fits few ea em =
+    as-whole file first second middle marking b f (subst (λ (x : List ℕ). Fits (netOf file) x) e fits) few
+    (ea ∙ ap (λ (x : List ℕ). replayFromAnswer file x second (length marking)) e) (em ∙ ap (λ (x : List ℕ). replayFromMarking file x second marking) e)
+
+-- the test whether all fired
+pub stopped : {A : Type 0} (r : Bool) {x a : ReplayAnswer} → not r ≡ true → r ≡ allFired x → x ≡ a → allFired a ≡ true → A
+stopped true n e f w = differ n
+stopped false n e f w = differ (e ∙ ap allFired f ∙ w)
+
+pub went-on : (r : Bool) {x a : ReplayAnswer} → not r ≡ false → r ≡ allFired x → x ≡ a → allFired a ≡ true
+went-on true n e f = sym (e ∙ ap allFired f)
+went-on false n e f = differ (sym n)

@@ -1,5 +1,5 @@
 -- The replay of no firing leaves the file's own marking, from which each call is the plain one.
-use Prim.Native.Nat.{ℕ, zero, suc}
+use Prim.Native.Nat.{ℕ, zero, suc, _<_}
 use mathlib.Core.Bool.{true, false}
 use mathlib.Core.List.{List, [], _∷_, _++_}
 use mathlib.Core.Path.{_≡_, refl, sym, ap, _∙_}
@@ -10,7 +10,7 @@ use borrow.Author.Tests.{le-ltb}
 use Rattle.net.specs.Numbers.{any}
 use Rattle.net.specs.Net.{Net, replayFrom, replay, tokens}
 use Rattle.net.proofs.Markings.{length-tokens}
-use Rattle.file_words.specs.Word.{Bytes}
+use Rattle.file_words.specs.Word.{byteAt, Bytes}
 use Rattle.file_words.specs.Refusal.{refuse, orElse}
 use Rattle.file_header.specs.declared.Due.the-variants as due
 use Rattle.file.specs.Layout.{netOf}
@@ -68,28 +68,32 @@ module _ (file own : List ℕ) (b : Bytes file) (long : length own ≡ netOf fil
   check-is slice Q zero r = ap (λ (s : List ℕ). checkedFrom file slice s Q) (is-own (plan-either file r)) ∙ own-start file b .check slice Q
   check-is slice Q (suc k) r = unfold checkedFrom in unfold checkFromRefusal in unfold checked in unfold checkRefusal in rw r
 
-  -- at the calls: m is what the replay of no firing left
-  module _ {m : List ℕ} (e : m ≡ start) where
-    pub own-replay : (list marking : List ℕ) {exit : List ℕ} {a : ReplayAnswer} → a ≡ replayFromAnswer file m list (length marking) → exit ≡ replayFromMarking file m list marking
-        → (a ≡ replayAnswer file list (length marking)) × (exit ≡ replayMarking file list marking)
-    own-replay list marking ea em = (
-      ea ∙ ap (λ (s : List ℕ). replayFromAnswer file s list (length marking)) e ∙ replay-is list (length marking) (fileRefusal due.Either file) refl,
-      em ∙ ap (λ (s : List ℕ). replayFromMarking file s list marking) e ∙ marking-is list marking (fileRefusal due.Either file) refl,
-    )
+-- at the calls: m is what the replay of no firing left
+module _ (file own : List ℕ) (bytes : (i : ℕ) → byteAt file i < 256) (long : length own ≡ netOf file .places) {m : List ℕ} (e : m ≡ replayMarking file [] own) where
+  b : Bytes file
+  unfolding Bytes
+  b = bytes
 
-    pub own-safety : (Q buffer : List ℕ) {exit : List ℕ} {a : CutAnswer} → a ≡ safetyFromAnswer file m Q (length buffer) → exit ≡ safetyFromBuffer file m Q buffer
-        → (a ≡ safetyAnswer file Q (length buffer)) × (exit ≡ safetyBuffer file Q buffer)
-    own-safety Q buffer ea eb = (
-      ea ∙ ap (λ (s : List ℕ). safetyFromAnswer file s Q (length buffer)) e ∙ safety-is Q (length buffer) (fileRefusal due.Plan file) refl,
-      eb ∙ ap (λ (s : List ℕ). safetyFromBuffer file s Q buffer) e ∙ safety-buffer-is Q buffer (fileRefusal due.Plan file) refl,
-    )
+  pub own-replay : (list marking : List ℕ) {exit : List ℕ} {a : ReplayAnswer} → a ≡ replayFromAnswer file m list (length marking) → exit ≡ replayFromMarking file m list marking
+      → (a ≡ replayAnswer file list (length marking)) × (exit ≡ replayMarking file list marking)
+  own-replay list marking ea em = (
+    ea ∙ ap (λ (s : List ℕ). replayFromAnswer file s list (length marking)) e ∙ replay-is file own b long list (length marking) (fileRefusal due.Either file) refl,
+    em ∙ ap (λ (s : List ℕ). replayFromMarking file s list marking) e ∙ marking-is file own b long list marking (fileRefusal due.Either file) refl,
+  )
 
-    pub own-branching : (Q buffer : List ℕ) {exit : List ℕ} {a : CutAnswer} → a ≡ branchingFromAnswer file m Q (length buffer) → exit ≡ branchingFromBuffer file m Q buffer
-        → (a ≡ branchingAnswer file Q (length buffer)) × (exit ≡ branchingBuffer file Q buffer)
-    own-branching Q buffer ea eb = (
-      ea ∙ ap (λ (s : List ℕ). branchingFromAnswer file s Q (length buffer)) e ∙ branching-is Q (length buffer) (fileRefusal due.Plan file) refl,
-      eb ∙ ap (λ (s : List ℕ). branchingFromBuffer file s Q buffer) e ∙ branching-buffer-is Q buffer (fileRefusal due.Plan file) refl,
-    )
+  pub own-safety : (Q buffer : List ℕ) {exit : List ℕ} {a : CutAnswer} → a ≡ safetyFromAnswer file m Q (length buffer) → exit ≡ safetyFromBuffer file m Q buffer
+      → (a ≡ safetyAnswer file Q (length buffer)) × (exit ≡ safetyBuffer file Q buffer)
+  own-safety Q buffer ea eb = (
+    ea ∙ ap (λ (s : List ℕ). safetyFromAnswer file s Q (length buffer)) e ∙ safety-is file own b long Q (length buffer) (fileRefusal due.Plan file) refl,
+    eb ∙ ap (λ (s : List ℕ). safetyFromBuffer file s Q buffer) e ∙ safety-buffer-is file own b long Q buffer (fileRefusal due.Plan file) refl,
+  )
 
-    pub own-check : (slice Q : List ℕ) {c : Checked} → c ≡ checkedFrom file slice m Q → c ≡ checked file slice Q
-    own-check slice Q ec = ec ∙ ap (λ (s : List ℕ). checkedFrom file slice s Q) e ∙ check-is slice Q (fileRefusal due.Plan file) refl
+  pub own-branching : (Q buffer : List ℕ) {exit : List ℕ} {a : CutAnswer} → a ≡ branchingFromAnswer file m Q (length buffer) → exit ≡ branchingFromBuffer file m Q buffer
+      → (a ≡ branchingAnswer file Q (length buffer)) × (exit ≡ branchingBuffer file Q buffer)
+  own-branching Q buffer ea eb = (
+    ea ∙ ap (λ (s : List ℕ). branchingFromAnswer file s Q (length buffer)) e ∙ branching-is file own b long Q (length buffer) (fileRefusal due.Plan file) refl,
+    eb ∙ ap (λ (s : List ℕ). branchingFromBuffer file s Q buffer) e ∙ branching-buffer-is file own b long Q buffer (fileRefusal due.Plan file) refl,
+  )
+
+  pub own-check : (slice Q : List ℕ) {c : Checked} → c ≡ checkedFrom file slice m Q → c ≡ checked file slice Q
+  own-check slice Q ec = ec ∙ ap (λ (s : List ℕ). checkedFrom file slice s Q) e ∙ check-is file own b long slice Q (fileRefusal due.Plan file) refl
