@@ -1,0 +1,56 @@
+use Rattle.pnml_page.specs.Profile.{held}
+use Rattle.pnml_text.specs.Rest.{word, spaces, digits}
+use mathlib.Core.Path.{_∙_}
+use borrow.Author.Needs.{needs}
+use Rattle.pnml_page.proofs.held.Statement.{statement}
+use Rattle.pnml_page.proofs.held.Tie as tie
+
+spaces-requires : tie.Need-spaces-requires
+spaces-requires c κs = search needs
+
+slice-aggregate-word : tie.Need-slice-aggregate-word
+slice-aggregate-word c = search needs
+
+word-requires : tie.Need-word-requires
+word-requires c κs = search needs
+
+digits-requires : tie.Need-digits-requires
+digits-requires c κs = search needs
+
+slice-aggregate-word-2 : tie.Need-slice-aggregate-word-2
+slice-aggregate-word-2 c = search needs
+
+word-requires-2 : tie.Need-word-requires-2
+word-requires-2 c κs = search needs
+
+spaces-requires-2 : tie.Need-spaces-requires-2
+spaces-requires-2 c κs = search needs
+
+word-requires-3 : tie.Need-word-requires-3
+word-requires-3 c κs = search needs
+
+spaces-requires-3 : tie.Need-spaces-requires-3
+spaces-requires-3 c κs = search needs
+
+number-requires : tie.Need-number-requires
+number-requires c κs = search needs
+
+returns : tie.Need-returns
+unfolding held
+returns c = record { number = c .number .ensures ∙ rw (c .before .before .before .before .before .before .before .word .ensures, c .before .before .before .before .before .before .before .before .before .spaces .ensures); rest = rw (c .before .spaces3 .ensures, c .before .before .word3 .ensures, c .before .before .before .spaces2 .ensures, c .before .before .before .before .word2 .ensures, c .before .before .before .before .before .before .digits .ensures, c .before .before .before .before .before .before .before .word .ensures, c .before .before .before .before .before .before .before .before .before .spaces .ensures) }
+
+pub held-spec : {M : Type 1} → statement M
+held-spec =
+    tie.close
+    (tie.spec
+    spaces-requires
+    slice-aggregate-word
+    word-requires
+    digits-requires
+    slice-aggregate-word-2
+    word-requires-2
+    spaces-requires-2
+    word-requires-3
+    spaces-requires-3
+    number-requires
+    returns)

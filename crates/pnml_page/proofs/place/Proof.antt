@@ -1,0 +1,35 @@
+use Rattle.pnml_page.proofs.Tags as tags
+use Rattle.pnml_page.specs.Profile.{tail}
+use Rattle.pnml_text.specs.Rest.{id}
+use borrow.Author.Needs.{needs}
+use Rattle.pnml_page.proofs.place.Statement.{statement}
+use Rattle.pnml_page.proofs.place.Tie as tie
+
+id-requires : tie.Need-id-requires
+id-requires c κs = search needs
+
+slice-aggregate-tail : tie.Need-slice-aggregate-tail
+slice-aggregate-tail c = search needs
+
+slice-aggregate-tail-2 : tie.Need-slice-aggregate-tail-2
+slice-aggregate-tail-2 c = search needs
+
+slice-aggregate-tail-3 : tie.Need-slice-aggregate-tail-3
+slice-aggregate-tail-3 c = search needs
+
+tail-requires : tie.Need-tail-requires
+tail-requires c κs = search needs
+
+returns : tie.Need-returns
+returns c = tags.place-as (c .before .before .before .before .before .before .args .text .now) (c .before .before .before .before .before .before .args .at) (c .before .before .before .before .id .result) (c .before .before .before .before .id .ensures) (c .tail .ensures)
+
+pub place-spec : {M : Type 1} → statement M
+place-spec =
+    tie.close
+    (tie.spec
+    id-requires
+    slice-aggregate-tail
+    slice-aggregate-tail-2
+    slice-aggregate-tail-3
+    tail-requires
+    returns)
