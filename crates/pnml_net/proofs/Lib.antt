@@ -1,0 +1,4 @@
+pub mod Sorted
+pub mod Arcs
+pub mod Drawing
+pub mod Examples
