@@ -10,6 +10,7 @@ pub mod Range
 pub mod Normal
 pub mod Starts
 pub mod Transfer
+pub mod Pnml
 pub mod Promise
 pub mod Uses
 pub mod Example

@@ -1,0 +1,223 @@
+-- The plan of a text in PNML reads back as the net that the text names (document 02, A10).
+use Prim.Native.Nat.{ℕ, zero, suc, _≤_, _<_}
+use mathlib.Core.Path.{_≡_, refl, sym, ap, subst⁻¹, _∙_}
+use mathlib.Core.Bool.{Bool, true, false, not, _||_, _&&_, true≢false}
+use mathlib.Core.List.{List, [], _∷_, _++_, map, append-assoc}
+use native.Mathlib.Omega.{arith}
+use lib.Dec.{eqb, ltb}
+use lib.ListN.{length, take, drop, getD, length-map, List·getD-eq-default}
+use lib.Seq.{take-at}
+use borrow.Author.Tests.{ltb-false}
+use Rattle.net.specs.Net.{input, output, capped, Uncapped, WithinCaps}
+use Rattle.net.specs.declared.Arc.{Arc}
+use Rattle.file_words.specs.Refusal.{refuse, orElse}
+use Rattle.file_header.specs.Layout.{headerOf}
+use Rattle.file_header.specs.declared.Header.{Header}
+use Rattle.file_header.specs.declared.Due.the-variants as due
+use Rattle.file.specs.Layout.{netOf}
+use Rattle.file.specs.Refusal.{fileRefusal}
+use Rattle.file_writing.proofs.Bytes.{AllFit}
+use Rattle.file_writing.proofs.Parts.{NetWritable}
+use Rattle.file_writing.proofs.PlanTrip.{plan-header, plan-back, plan-passes}
+use Rattle.pnml_page.specs.Profile.{Element, ofProfile}
+use Rattle.pnml_names.specs.Names.{idOf, repeats}
+use Rattle.pnml_names.specs.declared.Which.the-variants.{Places, Transitions, Arcs}
+use Rattle.pnml_names.proofs.Ids.{or-false, repeats-front, repeats-back}
+use Rattle.pnml_net.specs.Named.{elements, entries, ids, names, idTwice, endWrong, misnamed, countsOff, unfit, numberOf, anyOff, sorted, arcsNamed, netNamed}
+use Rattle.pnml_net.proofs.Sorted.{sorted-ordered, sorted-stable, sum-sorted}
+use Rattle.pnml_net.proofs.Arcs.{AllFine, in-range, fine-sorted, length-sorted, not-off, arcs-fine, arcs-count}
+use Rattle.pnml_net.proofs.Drawing.{taken-drawn, given-drawn}
+use Rattle.promise.specs.Calls.{written}
+use Rattle.promise.specs.Normal.{FileAnswer, fileAnswer}
+use Rattle.promise.specs.Pnml.{pnmlRefusal, pnmlFile, pnmlWriteRefusal, pnmlAnswer, pnmlBuffer, NetOfText, WritesNamed}
+
+-- ---- what no refusal means
+
+refuse-0 : (b : Bool) (n k : ℕ) → refuse b (suc n) k ≡ 0 → (b ≡ false) × (k ≡ 0)
+refuse-0 false n k e = (refl, e)
+refuse-0 true n k e = absurd (omega (arith, e))
+
+module _ (s : List ℕ) (none : pnmlRefusal s ≡ 0) where
+  low : (ltb 65536 (length s) ≡ false) × (refuse (not (ofProfile s)) 18 (refuse (misnamed s) 19 (refuse (unfit s) 20 0)) ≡ 0)
+  unfolding pnmlRefusal
+  low = refuse-0 (ltb 65536 (length s)) 0 _ none
+
+  names-right : (misnamed s ≡ false) × (refuse (unfit s) 20 0 ≡ 0)
+  names-right = refuse-0 (misnamed s) 18 _ (refuse-0 (not (ofProfile s)) 17 _ (low .1) .1)
+
+  once : idTwice s ≡ false
+  once = or-false (idTwice s) (endWrong s) (names-right .0) .0
+
+  joins : endWrong s ≡ false
+  joins = or-false (idTwice s) (endWrong s) (names-right .0) .1
+
+  fits : (countsOff (length (entries Places s)) (length (entries Transitions s)) (length (entries Arcs s)) ≡ false) × (anyOff 0 4294967295 (entries Places s) ≡ false) × (anyOff 1 65535 (entries Arcs s) ≡ false)
+  unfolding unfit
+  fits =
+      let c = countsOff (length (entries Places s)) (length (entries Transitions s)) (length (entries Arcs s)) in
+      let m = anyOff 0 4294967295 (entries Places s) in
+      let w = anyOff 1 65535 (entries Arcs s) in
+      let a = three c m w (refuse-0 (unfit s) 19 0 (names-right .1) .0) in
+      a
+    where
+      three : (a b c : Bool) → (a || b || c) ≡ false → (a ≡ false) × (b ≡ false) × (c ≡ false)
+      three false false false e = (refl, refl, refl)
+      three true b c e = absurd (true≢false e)
+      three false true c e = absurd (true≢false e)
+      three false false true e = absurd (true≢false e)
+
+  counts : (length (entries Places s) ≤ 1024) × (length (entries Transitions s) ≤ 1024) × (length (entries Arcs s) ≤ 4096) × (eqb (length (entries Places s)) 0 && eqb (length (entries Transitions s)) 0 ≡ false)
+  counts =
+      let P = length (entries Places s) in
+      let T = length (entries Transitions s) in
+      let A = length (entries Arcs s) in
+      let a = four (ltb 1024 P) (ltb 1024 T) (ltb 4096 A) (eqb P 0 && eqb T 0) (fits .0) in
+      (ltb-false 1024 P (a .0), ltb-false 1024 T (a .1), ltb-false 4096 A (a .2), a .3)
+    where
+      four : (a b c d : Bool) → (a || b || c || d) ≡ false → (a ≡ false) × (b ≡ false) × (c ≡ false) × (d ≡ false)
+      four false false false false e = (refl, refl, refl, refl)
+      four true b c d e = absurd (true≢false e)
+      four false true c d e = absurd (true≢false e)
+      four false false true d e = absurd (true≢false e)
+      four false false false true e = absurd (true≢false e)
+
+  -- ---- the net that the text names fits a plan file
+
+  id-count : length (ids Places s) ≡ length (entries Places s)
+  id-count = length-map (entries Places s) idOf
+
+  transition-count : length (ids Transitions s) ≡ length (entries Transitions s)
+  transition-count = length-map (entries Transitions s) idOf
+
+  fine : AllFine (length (ids Places s)) (length (ids Transitions s)) (sorted (arcsNamed s))
+  unfolding arcsNamed endWrong
+  fine = fine-sorted (length (ids Places s)) (length (ids Transitions s)) (arcsNamed s) (arcs-fine (ids Places s) (ids Transitions s) (entries Arcs s) joins (fits .2))
+
+  fine-net : AllFine (length (entries Places s)) (length (entries Transitions s)) (sorted (arcsNamed s))
+  fine-net = subst⁻¹ (λ (n : ℕ). AllFine n (length (entries Transitions s)) (sorted (arcsNamed s))) (sym id-count) (subst⁻¹ (λ (n : ℕ). AllFine (length (ids Places s)) n (sorted (arcsNamed s))) (sym transition-count) fine)
+
+  arc-count : length (sorted (arcsNamed s)) ≡ length (entries Arcs s)
+  unfolding arcsNamed endWrong
+  arc-count = length-sorted (arcsNamed s) ∙ arcs-count (ids Places s) (ids Transitions s) (entries Arcs s) joins
+
+  pub writable : NetWritable 1 (netNamed s)
+  unfolding netNamed Uncapped WithinCaps capped
+  writable = record {
+    edition-known = refl;
+    edition-small = omega arith;
+    places = counts .0;
+    transitions = counts .1;
+    arcs = omega (arith, arc-count, counts .2);
+    markings = λ p h. small (entries Places s) p (fits .1);
+    no-others = λ p h. List·getD-eq-default (map numberOf (entries Places s)) 0 {n = p} (omega (arith, length-map (entries Places s) numberOf));
+    caps = λ p h. omega arith;
+    no-other-caps = λ p h. refl;
+    no-caps = λ e p. refl;
+    within = λ p h c. absurd c;
+    in-range = in-range (length (entries Places s)) (length (entries Transitions s)) (sorted (arcsNamed s)) fine-net;
+    fit = fit (sorted (arcsNamed s)) fine-net;
+    order = sorted-ordered (arcsNamed s);
+  }
+    where
+      small : (l : List Element) (p : ℕ) → anyOff 0 4294967295 l ≡ false → getD (map numberOf l) p 0 < 4294967296
+      small [] p e = omega arith
+      small (x ∷ l) zero e = let m = not-off 0 4294967295 x l e in omega (arith, m .1)
+      small (x ∷ l) (suc p) e = small l p (not-off 0 4294967295 x l e .2)
+
+      fit : (l : List Arc) → AllFine (length (entries Places s)) (length (entries Transitions s)) l → AllFit l
+      fit [] f = tt
+      fit (a ∷ l) f =
+          let g = f .0 .good in
+          let c = counts in (
+            record {
+              direction = omega (arith, g .direction);
+              place = omega (arith, g .place, c .0);
+              transition = omega (arith, g .transition, c .1);
+              weight = f .0 .light;
+            },
+            fit l (f .1),
+          )
+
+  -- ---- the converted net is the net that the text names
+
+  nodes-once : repeats (ids Places s ++ ids Transitions s) ≡ false
+  unfolding idTwice names
+  nodes-once =
+      repeats-front (ids Places s ++ ids Transitions s) (ids Arcs s)
+      (ap repeats (append-assoc (ids Places s) (ids Transitions s) (ids Arcs s))
+      ∙ repeats-back (_ ∷ _ ∷ []) (ids Places s ++ (ids Transitions s ++ ids Arcs s)) once)
+
+  pub net-of-text : NetOfText s (netNamed s)
+  unfolding netNamed Uncapped input output arcsNamed endWrong entries
+  net-of-text = record {
+    places = refl;
+    transitions = refl;
+    marking = λ p h. refl;
+    uncapped = λ p. refl;
+    taken = λ p t hp ht. sum-sorted 0 p t (arcsNamed s) ∙ taken-drawn (ids Places s) (ids Transitions s) nodes-once p t (omega (arith, id-count)) (omega (arith, transition-count)) (elements s) joins;
+    given = λ p t hp ht. sum-sorted 1 p t (arcsNamed s) ∙ given-drawn (ids Places s) (ids Transitions s) nodes-once p t (omega (arith, id-count)) (omega (arith, transition-count)) (elements s) joins;
+    in-order = λ k. sorted-stable k (arcsNamed s);
+  }
+
+  -- ---- the file
+
+  pub file-read : fileRefusal due.Plan (pnmlFile s) ≡ 0
+  unfolding pnmlFile netNamed
+  file-read = plan-passes 1 (netNamed s) writable (counts .3)
+
+  pub file-net : netOf (pnmlFile s) ≡ netNamed s
+  unfolding pnmlFile
+  file-net = plan-back 1 (netNamed s) writable
+
+  pub file-edition : headerOf (pnmlFile s) .edition ≡ 1
+  unfolding pnmlFile
+  file-edition = ap (λ (h : Header). h .edition) (plan-header 1 (netNamed s) writable)
+
+  pub file-no-note : headerOf (pnmlFile s) .markstart ≡ 0
+  unfolding pnmlFile
+  file-no-note = ap (λ (h : Header). h .markstart) (plan-header 1 (netNamed s) writable)
+
+-- ---- at the call
+
+not-refused : (n k : ℕ) → fileAnswer n k .refused ≡ false → n ≡ 0
+not-refused zero k e = refl
+not-refused (suc n) k e = absurd (true≢false e)
+
+or-0 : (a b : ℕ) → orElse a b ≡ 0 → a ≡ 0
+or-0 zero b e = refl
+or-0 (suc a) b e = absurd (omega (arith, e))
+
+module _ (s buffer : List ℕ) (passed : pnmlAnswer s (length buffer) .refused ≡ false) where
+  none-of : pnmlWriteRefusal s (length buffer) ≡ 0
+  unfolding pnmlAnswer
+  none-of = not-refused (pnmlWriteRefusal s (length buffer)) (length (pnmlFile s)) passed
+
+  pub converted : pnmlRefusal s ≡ 0
+  unfolding pnmlWriteRefusal
+  converted = or-0 (pnmlRefusal s) _ none-of
+
+  length-told : pnmlAnswer s (length buffer) .length ≡ length (pnmlFile s)
+  unfolding pnmlAnswer
+  length-told = ap (λ (n : ℕ). fileAnswer n (length (pnmlFile s)) .length) none-of
+
+  -- the buffer's first bytes, up to the length returned
+  pub file-written : take (pnmlAnswer s (length buffer) .length) (pnmlBuffer s buffer) ≡ pnmlFile s
+  unfolding pnmlBuffer
+  file-written =
+      ap (λ (n : ℕ). take (pnmlAnswer s (length buffer) .length) (written n (pnmlFile s) buffer)) none-of
+      ∙ take-at (pnmlFile s) (drop (length (pnmlFile s)) buffer) (pnmlAnswer s (length buffer) .length) (sym length-told)
+
+module _ (s buffer : List ℕ) where
+  writes : WritesNamed s (pnmlAnswer s (length buffer)) (pnmlBuffer s buffer)
+  writes = record {
+    read = λ e. ap (fileRefusal due.Plan) (file-written s buffer e) ∙ file-read s (converted s buffer e);
+    net = λ e. ap netOf (file-written s buffer e) ∙ file-net s (converted s buffer e);
+    named = λ e. subst⁻¹ (NetOfText s) (ap netOf (file-written s buffer e) ∙ file-net s (converted s buffer e)) (net-of-text s (converted s buffer e));
+    edition = λ e. ap (λ (l : List ℕ). headerOf l .edition) (file-written s buffer e) ∙ file-edition s (converted s buffer e);
+    no-note = λ e. ap (λ (l : List ℕ). headerOf l .markstart) (file-written s buffer e) ∙ file-no-note s (converted s buffer e);
+  }
+
+  -- by the call's own answer and buffer
+  pub writes-named : {a : FileAnswer} {exit : List ℕ} → a ≡ pnmlAnswer s (length buffer) → exit ≡ pnmlBuffer s buffer → WritesNamed s a exit
+  writes-named {a} {exit} e f =
+      subst⁻¹ (λ (x : FileAnswer). WritesNamed s x exit) e (subst⁻¹ (λ (l : List ℕ). WritesNamed s (pnmlAnswer s (length buffer)) l) f writes)

@@ -1,0 +1,60 @@
+-- Plans from PNML (document 02, A10), as a computation over bytes, and what the plan is. `s` is a text.
+use Prim.Native.Nat.{ℕ, _<_}
+use mathlib.Core.Bool.{false, not}
+use mathlib.Core.List.{List, [], map}
+use mathlib.Core.Path.{_≡_}
+use lib.ListN.{length, take, getD}
+use lib.Dec.{ltb}
+use Rattle.net.specs.Net.{Net, input, output, Uncapped}
+use Rattle.file_header.specs.Layout.{headerOf}
+use Rattle.file_header.specs.declared.Due.the-variants as due
+use Rattle.file.specs.Layout.{netOf}
+use Rattle.file_words.specs.Refusal.{refuse, orElse}
+use Rattle.file.specs.Refusal.{fileRefusal}
+use Rattle.file_writing.specs.Writing.{planBytes}
+use Rattle.pnml_page.specs.Profile.{ofProfile}
+use Rattle.pnml_names.specs.declared.Which.the-variants.{Places, Transitions}
+use Rattle.pnml_net.specs.Named.{elements, entries, ids, misnamed, unfit, numberOf, arcsNamed, netNamed}
+use Rattle.pnml_net.specs.Drawn.{drawn, parallels}
+use Rattle.promise.specs.Calls.{written}
+use Rattle.promise.specs.Normal.{FileAnswer, fileAnswer}
+
+-- "1 above 65,536 bytes of text. 18: text outside the profile. 19 .. 20 .. Each is tested over the whole text, in this order, before the buffer"
+unfoldable pub pnmlRefusal : List ℕ → ℕ
+pnmlRefusal s = refuse (ltb 65536 (length s)) 1 (refuse (not (ofProfile s)) 18 (refuse (misnamed s) 19 (refuse (unfit s) 20 0)))
+
+-- "an edition 1 plan file without note"
+unfoldable pub pnmlFile : List ℕ → List ℕ
+pnmlFile s = planBytes 1 (netNamed s)
+
+-- then 13 where the buffer of `room` bytes is shorter than that file
+unfoldable pub pnmlWriteRefusal : List ℕ → ℕ → ℕ
+pnmlWriteRefusal s room = orElse (pnmlRefusal s) (refuse (ltb room (length (pnmlFile s))) 13 0)
+
+-- "The call .. returns the file's length", the buffer having `room` bytes
+unfoldable pub pnmlAnswer : List ℕ → ℕ → FileAnswer
+pnmlAnswer s room = fileAnswer (pnmlWriteRefusal s room) (length (pnmlFile s))
+
+-- the buffer afterwards
+unfoldable pub pnmlBuffer : List ℕ → List ℕ → List ℕ
+pnmlBuffer s buffer = written (pnmlWriteRefusal s (length buffer)) (pnmlFile s) buffer
+
+-- "The converted net is the net that the text names": its places and transitions by order of appearance, and between the ids of each two the sums that the text draws
+pub record NetOfText (s : List ℕ) (N : Net) : Type 0 where
+  pub places : N .places ≡ length (entries Places s)
+  pub transitions : N .transitions ≡ length (entries Transitions s)
+  pub marking : (p : ℕ) → p < N .places → N .marking p ≡ getD (map numberOf (entries Places s)) p 0
+  pub uncapped : Uncapped N
+  pub taken : (p t : ℕ) → p < N .places → t < N .transitions → input N p t ≡ drawn (getD (ids Places s) p []) (getD (ids Transitions s) t []) (elements s)
+  pub given : (p t : ℕ) → p < N .places → t < N .transitions → output N p t ≡ drawn (getD (ids Transitions s) t []) (getD (ids Places s) p []) (elements s)
+  -- "parallels kept in order of appearance"
+  pub in-order : (k : ℕ) → parallels k (N .arcs) ≡ parallels k (arcsNamed s)
+
+-- what the call wrote, by its answer `a` and its buffer afterwards, `exit`: the file is `take (a .length) exit`
+pub record WritesNamed (s : List ℕ) (a : FileAnswer) (exit : List ℕ) : Type 0 where
+  pub read : a .refused ≡ false → fileRefusal due.Plan (take (a .length) exit) ≡ 0
+  pub net : a .refused ≡ false → netOf (take (a .length) exit) ≡ netNamed s
+  pub named : a .refused ≡ false → NetOfText s (netOf (take (a .length) exit))
+  -- "an edition 1 plan file without note"
+  pub edition : a .refused ≡ false → headerOf (take (a .length) exit) .edition ≡ 1
+  pub no-note : a .refused ≡ false → headerOf (take (a .length) exit) .markstart ≡ 0
