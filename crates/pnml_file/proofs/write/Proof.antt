@@ -1,0 +1,57 @@
+use native.Mathlib.Omega.{arith}
+use mathlib.Core.Path.{sym, _∙_}
+use Rattle.plan_put.proofs.Laws.{no-room, room}
+use Rattle.pnml_file.proofs.Laws as laws
+use Rattle.promise.specs.Pnml.{pnmlFile}
+use borrow.Author.Needs.{needs}
+use Rattle.pnml_file.proofs.write.Statement.{statement}
+use Rattle.pnml_file.proofs.write.Tie as tie
+
+mul-start : tie.Need-mul-start
+mul-start c = search needs
+
+mul-if1 : tie.Need-mul-if1
+mul-if1 c = search needs
+
+add-if1 : tie.Need-add-if1
+add-if1 c = search needs
+
+add-if1-2 : tie.Need-add-if1-2
+add-if1-2 c = search needs
+
+returns : tie.Need-returns
+returns c = no-room (pnmlFile (c .before .before .before .before .before .args .text .now)) (c .before .before .before .before .before .args .buffer .now) (omega (arith, laws.file-long (c .before .before .before .before .before .args .text .now) (c .before .before .before .before .before .pre), c .if1 .taken))
+
+write-places-requires : tie.Need-write-places-requires
+write-places-requires c κs = search needs
+
+write-arcs-requires : tie.Need-write-arcs-requires
+write-arcs-requires c κs = search needs
+
+put-end-requires : tie.Need-put-end-requires
+put-end-requires c κs = search needs
+
+cast-bytes : tie.Need-cast-bytes
+cast-bytes c = search needs
+
+same-length : tie.Need-same-length
+same-length c = search needs
+
+returns-2 : tie.Need-returns-2
+returns-2 c = let s = c .before .before .before .before .before .before .before .before .before .before .before .before .before .before .before .before .before .args .text .now in let l = laws.file-long s (c .before .before .before .before .before .before .before .before .before .before .before .before .before .before .before .before .before .pre) in room (pnmlFile s) (c .before .before .before .before .before .before .before .before .before .before .before .before .before .before .before .before .before .args .buffer .now) (omega (arith, l, c .before .before .before .before .before .before .before .before .before .before .before .before .if1 .left)) (laws.file-stored s (c .before .before .before .before .before .before .before .before .before .before .before .before .before .before .before .before .before .pre) (c .before .before .before .before .before .before .before .before .before .before .before .before .before .before .before .before .before .args .buffer .now) (c .before .before .before .before .before .before .before .before .before .before .write-places .ensures) (c .before .before .before .before .before .before .write-arcs .ensures) (c .before .before .put-end .ensures .1)) (c .before .before .put-end .ensures .0 ∙ sym l)
+
+pub write-spec : {M : Type 1} → statement M
+write-spec =
+    tie.close
+    (tie.spec
+    mul-start
+    mul-if1
+    add-if1
+    add-if1-2
+    returns
+    write-places-requires
+    write-arcs-requires
+    put-end-requires
+    cast-bytes
+    same-length
+    returns-2)
