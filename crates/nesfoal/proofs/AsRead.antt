@@ -16,6 +16,7 @@ use Rattle.promise.specs.Starts.{started, fromRefusal, cutUnless, safetyFromAns
 use Rattle.promise.specs.Exactness.{WritesExact}
 use Rattle.file_header.specs.declared.Due.the-variants as due
 use Rattle.promise.specs.Promise.{WritesSmallest}
+use Rattle.promise.specs.Pnml.{pnmlFile, pnmlWriteRefusal, pnmlAnswer, WritesNamed}
 use Rattle.promise.specs.Normal.{normalFile, normalWriteRefusal, FileAnswer, fileAnswer, normalAnswer, WritesNormal}
 use Rattle.promise.specs.RunCut.{RunAnswer, RunsBack}
 use Rattle.promise.specs.Together.{standing}
@@ -55,6 +56,13 @@ unfolding normalAnswer
 normal-for-c plan room {exit} e w er en =
     let same = (λ i. fileRead (er i) (en i)) ∙ file-as-read (normalWriteRefusal plan room) (length (normalFile plan)) ∙ sym e in
     subst⁻¹ (λ (x : FileAnswer). WritesNormal plan x exit) same w
+
+pub named-for-c : (s : List ℕ) (room : ℕ) {exit : List ℕ} {a : FileAnswer} {r n : ℕ} → a ≡ pnmlAnswer s room → WritesNamed s a exit
+    → r ≡ pnmlAnswer s room .refusal → n ≡ pnmlAnswer s room .length → WritesNamed s (fileRead r n) exit
+unfolding pnmlAnswer
+named-for-c s room {exit} e w er en =
+    let same = (λ i. fileRead (er i) (en i)) ∙ file-as-read (pnmlWriteRefusal s room) (length (pnmlFile s)) ∙ sym e in
+    subst⁻¹ (λ (x : FileAnswer). WritesNamed s x exit) same w
 
 -- from a start: the refusal of plan or start, or the answer
 unless-read : (n : ℕ) (a : CutAnswer) → cutRead (a .refusal) (a .length) (a .places) (a .transitions) ≡ a → let b = cutUnless n a in cutRead (b .refusal) (b .length) (b .places) (b .transitions) ≡ b
