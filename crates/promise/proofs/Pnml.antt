@@ -1,5 +1,7 @@
 -- The plan of a text in PNML reads back as the net that the text names (document 02, A10).
-use Prim.Native.Nat.{ℕ, zero, suc, _≤_, _<_}
+use Prim.Native.Nat.{ℕ, zero, suc, _+_, _≤_, _<_}
+use mathlib.Core.Logic.{_↔_, _≢_}
+use Rattle.net.proofs.Numbers.{by-cases}
 use mathlib.Core.Path.{_≡_, refl, sym, ap, subst⁻¹, _∙_}
 use mathlib.Core.Bool.{Bool, true, false, not, _||_, _&&_, true≢false}
 use mathlib.Core.List.{List, [], _∷_, _++_, map, append-assoc}
@@ -7,8 +9,8 @@ use native.Mathlib.Omega.{arith}
 use lib.Dec.{eqb, ltb}
 use lib.ListN.{length, take, drop, getD, length-map, List·getD-eq-default}
 use lib.Seq.{take-at}
-use borrow.Author.Tests.{ltb-false}
-use Rattle.net.specs.Net.{input, output, capped, Uncapped, WithinCaps}
+use borrow.Author.Tests.{ltb-false, le-ltb, lt-ltb, ne-eqb}
+use Rattle.net.specs.Net.{Net, input, output, capped, Uncapped, WithinCaps}
 use Rattle.net.specs.declared.Arc.{Arc}
 use Rattle.file_words.specs.Refusal.{refuse, orElse}
 use Rattle.file_header.specs.Layout.{headerOf}
@@ -29,7 +31,7 @@ use Rattle.pnml_net.proofs.Arcs.{AllFine, in-range, fine-sorted, length-sorted,
 use Rattle.pnml_net.proofs.Drawing.{taken-drawn, given-drawn}
 use Rattle.promise.specs.Calls.{written}
 use Rattle.promise.specs.Normal.{FileAnswer, fileAnswer}
-use Rattle.promise.specs.Pnml.{pnmlRefusal, pnmlFile, pnmlWriteRefusal, pnmlAnswer, pnmlBuffer, NetOfText, WritesNamed}
+use Rattle.promise.specs.Pnml.{pnmlRefusal, pnmlFile, pnmlWriteRefusal, pnmlAnswer, pnmlBuffer, NetOfText, WritesNamed, OneNet, Within, TextLimits}
 
 -- ---- what no refusal means
 
@@ -221,3 +223,96 @@ module _ (s buffer : List ℕ) where
   pub writes-named : {a : FileAnswer} {exit : List ℕ} → a ≡ pnmlAnswer s (length buffer) → exit ≡ pnmlBuffer s buffer → WritesNamed s a exit
   writes-named {a} {exit} e f =
       subst⁻¹ (λ (x : FileAnswer). WritesNamed s x exit) e (subst⁻¹ (λ (l : List ℕ). WritesNamed s (pnmlAnswer s (length buffer)) l) f writes)
+
+pub one-net : (s : List ℕ) (N N′ : Net) → NetOfText s N → NetOfText s N′ → OneNet N N′
+unfolding Uncapped
+one-net s N N′ x y =
+    let P : N .places ≡ N′ .places = x .places ∙ sym (y .places) in
+    let T : N .transitions ≡ N′ .transitions = x .transitions ∙ sym (y .transitions) in
+    record {
+      same = record {
+        places = P;
+        transitions = T;
+        markings = λ p l. x .marking p l ∙ sym (y .marking p (omega (arith, P)));
+        caps = λ p l. x .uncapped p ∙ sym (y .uncapped p);
+        inputs = λ p t l m. x .taken p t l m ∙ sym (y .taken p t (omega (arith, P)) (omega (arith, T)));
+        outputs = λ p t l m. x .given p t l m ∙ sym (y .given p t (omega (arith, P)) (omega (arith, T)));
+      };
+      in-order = λ k. x .in-order k ∙ sym (y .in-order k);
+    }
+
+-- ---- what 1 and 20 mean
+
+none-off : (least most : ℕ) (l : List Element) → ((k : ℕ) → k < length l → (least ≤ getD (map numberOf l) k 0) × (getD (map numberOf l) k 0 ≤ most)) → anyOff least most l ≡ false
+unfolding anyOff
+none-off least most [] f = refl
+none-off least most (e ∷ l) f =
+    let h = f 0 (omega arith) in
+    rw (le-ltb (numberOf e) least (h .0), le-ltb most (numberOf e) (h .1)) (none-off least most l (λ k b. f (suc k) (omega arith)))
+
+all-on : (least most : ℕ) (l : List Element) → anyOff least most l ≡ false → (k : ℕ) → k < length l → (least ≤ getD (map numberOf l) k 0) × (getD (map numberOf l) k 0 ≤ most)
+all-on least most [] e k b = absurd (omega arith)
+all-on least most (x ∷ l) e zero b = let m = not-off least most x l e in (m .0, m .1)
+all-on least most (x ∷ l) e (suc k) b = all-on least most l (not-off least most x l e .2) k (omega arith)
+
+module _ (s : List ℕ) where
+  told-1 : 65536 < length s → pnmlRefusal s ≡ 1
+  unfolding pnmlRefusal
+  told-1 h = rw (lt-ltb 65536 (length s) h)
+
+  later : (p m u : Bool) → refuse (not p) 18 (refuse m 19 (refuse u 20 0)) ≢ 1
+  later true true u e = absurd (omega (arith, e))
+  later true false true e = absurd (omega (arith, e))
+  later true false false e = absurd (omega (arith, e))
+  later false m u e = absurd (omega (arith, e))
+
+  not-1 : length s ≤ 65536 → pnmlRefusal s ≢ 1
+  unfolding pnmlRefusal
+  not-1 h e = later (ofProfile s) (misnamed s) (unfit s) (rw (le-ltb 65536 (length s) h) at e)
+
+  inside-limits : pnmlRefusal s ≡ 0 → Within s
+  inside-limits e =
+      let c = counts s e in
+      record {
+        places = c .0;
+        transitions = c .1;
+        arcs = c .2;
+        some = nodes (length (entries Places s)) (length (entries Transitions s)) (c .3);
+        markings = λ k. low-marking (entries Places s) (fits s e .1) k;
+        weights = all-on 1 65535 (entries Arcs s) (fits s e .2);
+      }
+    where
+      nodes : (P T : ℕ) → eqb P 0 && eqb T 0 ≡ false → 0 < P + T
+      nodes zero zero x = absurd (true≢false x)
+      nodes zero (suc T) x = omega arith
+      nodes (suc P) T x = omega arith
+
+      low-marking : (l : List Element) → anyOff 0 4294967295 l ≡ false → (k : ℕ) → getD (map numberOf l) k 0 ≤ 4294967295
+      low-marking [] x k = omega arith
+      low-marking (y ∷ l) x zero = not-off 0 4294967295 y l x .1
+      low-marking (y ∷ l) x (suc k) = low-marking l (not-off 0 4294967295 y l x .2) k
+
+  fitting : Within s → unfit s ≡ false
+  unfolding unfit
+  fitting w =
+      rw (
+        le-ltb 1024 (length (entries Places s)) (w .places),
+        le-ltb 1024 (length (entries Transitions s)) (w .transitions),
+        le-ltb 4096 (length (entries Arcs s)) (w .arcs),
+        nobody (length (entries Places s)) (length (entries Transitions s)) (w .some),
+        none-off 0 4294967295 (entries Places s) (λ k b. (omega arith, w .markings k)),
+        none-off 1 65535 (entries Arcs s) (w .weights),
+      ) refl
+    where
+      nobody : (P T : ℕ) → 0 < P + T → eqb P 0 && eqb T 0 ≡ false
+      nobody zero zero x = absurd (omega arith)
+      nobody zero (suc T) x = rw (ne-eqb (suc T) 0 (λ z. omega (arith, z))) refl
+      nobody (suc P) T x = rw (ne-eqb (suc P) 0 (λ z. omega (arith, z))) refl
+
+  pub text-limits : TextLimits s
+  unfolding pnmlRefusal
+  text-limits = record {
+    long = told-1;
+    short = not-1;
+    twenty = λ h p m. (inside-limits, λ w. rw (le-ltb 65536 (length s) h, p, m, fitting w) refl);
+  }

@@ -20,3 +20,4 @@ pub mod OrderExample
 pub mod RangeExample
 pub mod NormalExample
 pub mod StartExample
+pub mod PnmlExample

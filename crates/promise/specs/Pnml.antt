@@ -1,11 +1,13 @@
 -- Plans from PNML (document 02, A10), as a computation over bytes, and what the plan is. `s` is a text.
-use Prim.Native.Nat.{ℕ, _<_}
-use mathlib.Core.Bool.{false, not}
+use Prim.Native.Nat.{ℕ, _+_, _≤_, _<_}
+use mathlib.Core.Bool.{true, false, not}
 use mathlib.Core.List.{List, [], map}
 use mathlib.Core.Path.{_≡_}
+use mathlib.Core.Logic.{_↔_, _≢_}
 use lib.ListN.{length, take, getD}
 use lib.Dec.{ltb}
 use Rattle.net.specs.Net.{Net, input, output, Uncapped}
+use Rattle.net.specs.Normal.{SameNet}
 use Rattle.file_header.specs.Layout.{headerOf}
 use Rattle.file_header.specs.declared.Due.the-variants as due
 use Rattle.file.specs.Layout.{netOf}
@@ -13,7 +15,7 @@ use Rattle.file_words.specs.Refusal.{refuse, orElse}
 use Rattle.file.specs.Refusal.{fileRefusal}
 use Rattle.file_writing.specs.Writing.{planBytes}
 use Rattle.pnml_page.specs.Profile.{ofProfile}
-use Rattle.pnml_names.specs.declared.Which.the-variants.{Places, Transitions}
+use Rattle.pnml_names.specs.declared.Which.the-variants.{Places, Transitions, Arcs}
 use Rattle.pnml_net.specs.Named.{elements, entries, ids, misnamed, unfit, numberOf, arcsNamed, netNamed}
 use Rattle.pnml_net.specs.Drawn.{drawn, parallels}
 use Rattle.promise.specs.Calls.{written}
@@ -58,3 +60,23 @@ pub record WritesNamed (s : List ℕ) (a : FileAnswer) (exit : List ℕ) : Type 
   -- "an edition 1 plan file without note"
   pub edition : a .refused ≡ false → headerOf (take (a .length) exit) .edition ≡ 1
   pub no-note : a .refused ≡ false → headerOf (take (a .length) exit) .markstart ≡ 0
+
+-- what people conclude: a text names one net
+pub record OneNet (N N′ : Net) : Type 0 where
+  pub same : SameNet N N′
+  pub in-order : (k : ℕ) → parallels k (N .arcs) ≡ parallels k (N′ .arcs)
+
+-- no "count or number past its limit", no "weight of 0", and not "neither place nor transition"
+pub record Within (s : List ℕ) : Type 0 where
+  pub places : length (entries Places s) ≤ 1024
+  pub transitions : length (entries Transitions s) ≤ 1024
+  pub arcs : length (entries Arcs s) ≤ 4096
+  pub some : 0 < length (entries Places s) + length (entries Transitions s)
+  pub markings : (k : ℕ) → getD (map numberOf (entries Places s)) k 0 ≤ 4294967295
+  pub weights : (k : ℕ) → k < length (entries Arcs s) → (1 ≤ getD (map numberOf (entries Arcs s)) k 0) × (getD (map numberOf (entries Arcs s)) k 0 ≤ 65535)
+
+-- what 1 and 20 mean
+pub record TextLimits (s : List ℕ) : Type 0 where
+  pub long : 65536 < length s → pnmlRefusal s ≡ 1
+  pub short : length s ≤ 65536 → pnmlRefusal s ≢ 1
+  pub twenty : length s ≤ 65536 → ofProfile s ≡ true → misnamed s ≡ false → (pnmlRefusal s ≡ 0) ↔ Within s
