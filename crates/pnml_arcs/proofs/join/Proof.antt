@@ -17,7 +17,12 @@ between-requires : tie.Need-between-requires
 between-requires c κs = let g = c .before .before .before .before .before .before .before .pre .0 in omega (arith, joining.listing-long g, g .few)
 
 returns : tie.Need-returns
-returns c = joining.join-is (c .before .before .before .before .before .before .before .before .args .text .now) (c .before .before .before .before .before .before .before .before .pre .0) (c .before .before .before .before .before .before .before .before .pre .1) (c .before .before .before .before .before .before .before .before .args .at) (c .before .before .before .arc .ensures) (c .before .before .find .ensures) (c .before .find2 .ensures) (c .between .ensures)
+returns c =
+    let at-find2 = c .before in
+    let at-find = at-find2 .before in
+    let at-arc = at-find .before in
+    let call = at-arc .before .before .before .before .before in
+    joining.join-is (call .args .text .now) (call .pre .0) (call .pre .1) (call .args .at) (at-arc .arc .ensures) (at-find .find .ensures) (at-find2 .find2 .ensures) (c .between .ensures)
 
 pub join-spec : {M : Type 1} → statement M
 join-spec =

@@ -29,7 +29,12 @@ place-requires : tie.Need-place-requires Inv-loop μ-loop
 place-requires c κs = search needs
 
 returns : tie.Need-returns Inv-loop μ-loop
-returns c = laws.look-off (c .before .before .before .before .before .before .loop .inv) (c .before .before .before .before .before .loop-test .taken) (c .before .before .before .wide .ensures .0) (c .before .before .place .ensures .number) (c .if1 .taken)
+returns c =
+    let at-place = c .before .before in
+    let at-wide = at-place .before in
+    let test = at-wide .before .before in
+    let turn = test .before in
+    laws.look-off (turn .loop .inv) (test .loop-test .taken) (at-wide .wide .ensures .0) (at-place .place .ensures .number) (c .if1 .taken)
 
 add-k : tie.Need-add-k Inv-loop μ-loop
 add-k c = search needs
@@ -38,7 +43,12 @@ loop-less : tie.Need-loop-less Inv-loop μ-loop
 loop-less c = search needs
 
 loop-again : tie.Need-loop-again Inv-loop μ-loop
-loop-again c = laws.look-on (c .before .before .before .before .before .before .loop .inv) (c .before .before .before .before .before .loop-test .taken) (c .before .before .before .wide .ensures .0) (c .before .before .place .ensures .number) (c .if1 .left)
+loop-again c =
+    let at-place = c .before .before in
+    let at-wide = at-place .before in
+    let test = at-wide .before .before in
+    let turn = test .before in
+    laws.look-on (turn .loop .inv) (test .loop-test .taken) (at-wide .wide .ensures .0) (at-place .place .ensures .number) (c .if1 .left)
 
 returns-2 : tie.Need-returns-2 Inv-loop μ-loop
 returns-2 c = laws.look-end (c .before .loop .inv) (c .loop-test .left)

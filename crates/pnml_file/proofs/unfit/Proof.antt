@@ -35,7 +35,10 @@ marking-off-requires : tie.Need-marking-off-requires
 marking-off-requires c κs = search needs
 
 returns : tie.Need-returns
-returns c = let g = c .before .before .before .before .before .pre in let a : length (c .before .before .before .before .before .args .names .now) - (2 + c .before .before .before .before .before .args .places) - c .before .before .before .before .before .args .transitions ≡ length (entries Arcs (c .before .before .before .before .before .args .text .now)) = omega (arith, listing-long g) in laws.unfit-is (c .before .before .before .before .before .args .text .now) (c .before .before .before .before .before .args .off) (g .place-count) (g .transition-count) a (c .before .before .counts-off .ensures) (c .marking-off .ensures ∙ ap (anyOff 0 4294967295) (laws.places-part g))
+returns c =
+    let at-counts-off = c .before .before in
+    let call = at-counts-off .before .before .before in
+    let g = call .pre in let a : length (call .args .names .now) - (2 + call .args .places) - call .args .transitions ≡ length (entries Arcs (call .args .text .now)) = omega (arith, listing-long g) in laws.unfit-is (call .args .text .now) (call .args .off) (g .place-count) (g .transition-count) a (at-counts-off .counts-off .ensures) (c .marking-off .ensures ∙ ap (anyOff 0 4294967295) (laws.places-part g))
 
 pub unfit-spec : {M : Type 1} → statement M
 unfit-spec =

@@ -20,7 +20,9 @@ add-if1-2 : tie.Need-add-if1-2
 add-if1-2 c = search needs
 
 returns : tie.Need-returns
-returns c = no-room (pnmlFile (c .before .before .before .before .before .args .text .now)) (c .before .before .before .before .before .args .buffer .now) (omega (arith, laws.file-long (c .before .before .before .before .before .args .text .now) (c .before .before .before .before .before .pre), c .if1 .taken))
+returns c =
+    let call = c .before .before .before .before .before in
+    no-room (pnmlFile (call .args .text .now)) (call .args .buffer .now) (omega (arith, laws.file-long (call .args .text .now) (call .pre), c .if1 .taken))
 
 write-places-requires : tie.Need-write-places-requires
 write-places-requires c κs = search needs
@@ -38,7 +40,13 @@ same-length : tie.Need-same-length
 same-length c = search needs
 
 returns-2 : tie.Need-returns-2
-returns-2 c = let s = c .before .before .before .before .before .before .before .before .before .before .before .before .before .before .before .before .before .args .text .now in let l = laws.file-long s (c .before .before .before .before .before .before .before .before .before .before .before .before .before .before .before .before .before .pre) in room (pnmlFile s) (c .before .before .before .before .before .before .before .before .before .before .before .before .before .before .before .before .before .args .buffer .now) (omega (arith, l, c .before .before .before .before .before .before .before .before .before .before .before .before .if1 .left)) (laws.file-stored s (c .before .before .before .before .before .before .before .before .before .before .before .before .before .before .before .before .before .pre) (c .before .before .before .before .before .before .before .before .before .before .before .before .before .before .before .before .before .args .buffer .now) (c .before .before .before .before .before .before .before .before .before .before .write-places .ensures) (c .before .before .before .before .before .before .write-arcs .ensures) (c .before .before .put-end .ensures .1)) (c .before .before .put-end .ensures .0 ∙ sym l)
+returns-2 c =
+    let at-put-end = c .before .before in
+    let at-write-arcs = at-put-end .before .before .before .before in
+    let at-write-places = at-write-arcs .before .before .before .before in
+    let at-if1 = at-write-places .before .before in
+    let call = at-if1 .before .before .before .before .before in
+    let s = call .args .text .now in let l = laws.file-long s (call .pre) in room (pnmlFile s) (call .args .buffer .now) (omega (arith, l, at-if1 .if1 .left)) (laws.file-stored s (call .pre) (call .args .buffer .now) (at-write-places .write-places .ensures) (at-write-arcs .write-arcs .ensures) (at-put-end .put-end .ensures .1)) (at-put-end .put-end .ensures .0 ∙ sym l)
 
 pub write-spec : {M : Type 1} → statement M
 write-spec =

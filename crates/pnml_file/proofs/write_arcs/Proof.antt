@@ -32,7 +32,11 @@ unpacked-requires : tie.Need-unpacked-requires Inv-loop μ-loop
 unpacked-requires c κs = search needs
 
 put-arc-requires : tie.Need-put-arc-requires Inv-loop μ-loop
-put-arc-requires c κs = let i = c .before .before .before .before .loop .inv in (omega (arith, c .before .before .before .loop-test .taken, c .before .before .before .before .before .before .before .pre, i .1, i .2 .long), omega (arith, ap (λ (a : Arc). a .direction) (c .unpacked .ensures)))
+put-arc-requires c κs =
+    let test = c .before .before .before in
+    let turn = test .before in
+    let call = turn .before .before .before in
+    let i = turn .loop .inv in (omega (arith, test .loop-test .taken, call .pre, i .1, i .2 .long), omega (arith, ap (λ (a : Arc). a .direction) (c .unpacked .ensures)))
 
 add-at : tie.Need-add-at Inv-loop μ-loop
 add-at c = search needs
@@ -44,7 +48,13 @@ loop-less : tie.Need-loop-less Inv-loop μ-loop
 loop-less c = search needs
 
 loop-again : tie.Need-loop-again Inv-loop μ-loop
-loop-again c = let x = c .before .before .before .before .before .before .before .loop in let w = c .before .before .before .before .before .before .before .before .before .before .args .words .now in (omega (arith, c .before .before .before .before .before .before .loop-test .taken), omega (arith, x .inv .1), arc-stored (arcOf (getD w (x .k) 0)) (arcsIn (drop (x .k + 1) w)) (storing-as (x .inv .2) (ap arcsBytes (laws.arcs-next w (x .k) (c .before .before .before .before .before .before .loop-test .taken)))) (c .before .before .put-arc .ensures ∙ ap (λ (a : Arc). sets (x .buffer) (x .at) (arcBytes a)) (c .before .before .before .unpacked .ensures)) refl)
+loop-again c =
+    let at-put-arc = c .before .before in
+    let at-unpacked = at-put-arc .before in
+    let test = at-unpacked .before .before .before in
+    let turn = test .before in
+    let call = turn .before .before .before in
+    let x = turn .loop in let w = call .args .words .now in (omega (arith, test .loop-test .taken), omega (arith, x .inv .1), arc-stored (arcOf (getD w (x .k) 0)) (arcsIn (drop (x .k + 1) w)) (storing-as (x .inv .2) (ap arcsBytes (laws.arcs-next w (x .k) (test .loop-test .taken)))) (at-put-arc .put-arc .ensures ∙ ap (λ (a : Arc). sets (x .buffer) (x .at) (arcBytes a)) (at-unpacked .unpacked .ensures)) refl)
 
 same-length : tie.Need-same-length Inv-loop μ-loop
 same-length c = c .before .loop .inv .2 .long

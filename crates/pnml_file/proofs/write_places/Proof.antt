@@ -35,7 +35,11 @@ place-requires : tie.Need-place-requires Inv-loop μ-loop
 place-requires c κs = search needs
 
 put-place-requires : tie.Need-put-place-requires Inv-loop μ-loop
-put-place-requires c κs = (omega (arith, c .before .before .before .before .loop-test .taken, c .before .before .before .before .before .before .before .before .before .pre .0), omega (arith, c .before .before .before .before .loop-test .taken, c .before .before .before .before .before .before .before .before .before .pre .1, c .before .before .before .before .before .loop .inv .1 .long))
+put-place-requires c κs =
+    let test = c .before .before .before .before in
+    let turn = test .before in
+    let call = turn .before .before .before .before in
+    (omega (arith, test .loop-test .taken, call .pre .0), omega (arith, test .loop-test .taken, call .pre .1, turn .loop .inv .1 .long))
 
 add-p : tie.Need-add-p Inv-loop μ-loop
 add-p c = search needs
@@ -44,7 +48,14 @@ loop-less : tie.Need-loop-less Inv-loop μ-loop
 loop-less c = search needs
 
 loop-again : tie.Need-loop-again Inv-loop μ-loop
-loop-again c = let x = c .before .before .before .before .before .before .before .before .loop in let m = laws.marking-at (c .before .before .before .before .before .before .before .before .before .before .before .before .args .text .now) (c .before .before .before .before .before .before .before .before .before .before .before .before .args .places .now) (x .p) (c .before .before .before .before .before .wide .result) (c .before .before .before .before .before .before .before .loop-test .taken) (c .before .before .before .before .before .wide .ensures .0) (c .before .before .before .before .place .ensures .number) in (omega (arith, c .before .before .before .before .before .before .before .loop-test .taken), place-stored 1 _ _ _ _ (c .before .before .before .before .before .before .before .loop-test .taken) (x .inv .1) (c .before .before .put-place .ensures ∙ (λ i. sets (x .buffer) (4 * x .p) (placeBytes false (m i) 0))))
+loop-again c =
+    let at-put-place = c .before .before in
+    let at-place = at-put-place .before .before in
+    let at-wide = at-place .before in
+    let test = at-wide .before .before in
+    let turn = test .before in
+    let call = turn .before .before .before .before in
+    let x = turn .loop in let m = laws.marking-at (call .args .text .now) (call .args .places .now) (x .p) (at-wide .wide .result) (test .loop-test .taken) (at-wide .wide .ensures .0) (at-place .place .ensures .number) in (omega (arith, test .loop-test .taken), place-stored 1 _ _ _ _ (test .loop-test .taken) (x .inv .1) (at-put-place .put-place .ensures ∙ (λ i. sets (x .buffer) (4 * x .p) (placeBytes false (m i) 0))))
 
 same-length : tie.Need-same-length Inv-loop μ-loop
 same-length c = c .before .loop .inv .1 .long

@@ -48,25 +48,41 @@ same-length-2 : tie.Need-same-length-2 Inv-loop μ-loop
 same-length-2 c = search needs
 
 returns : tie.Need-returns Inv-loop μ-loop
-returns c = (searching.twice (c .before .before .before .before .before .before .before .before .before .loop .inv .0) (c .before .before .before .before .before .before .before .before .loop-test .taken) (c .before .before .before .before .before .before .wide .ensures .0) (c .before .before .before .before .before .sum .ensures .0) (c .before .before .before .before .before .sum .ensures .1) (c .before .before .wide2 .ensures .0) (c .before .seek .ensures) (c .if1 .taken), λ e. absurd (true≢false e))
+returns c =
+    let at-seek = c .before in
+    let at-wide2 = at-seek .before in
+    let at-sum = at-wide2 .before .before .before in
+    let at-wide = at-sum .before in
+    let test = at-wide .before .before in
+    let turn = test .before in
+    (searching.twice (turn .loop .inv .0) (test .loop-test .taken) (at-wide .wide .ensures .0) (at-sum .sum .ensures .0) (at-sum .sum .ensures .1) (at-wide2 .wide2 .ensures .0) (at-seek .seek .ensures) (c .if1 .taken), λ e. absurd (true≢false e))
 
 mul-next : tie.Need-mul-next Inv-loop μ-loop
 mul-next c = search needs
 
 slice-write-next : tie.Need-slice-write-next Inv-loop μ-loop
-slice-write-next c = omega (arith, c .before .before .before .before .before .before .before .before .loop-test .taken, c .before .before .before .before .before .before .before .before .before .loop .inv .0 .room)
+slice-write-next c =
+    let test = c .before .before .before .before .before .before .before .before in
+    let turn = test .before in
+    omega (arith, test .loop-test .taken, turn .loop .inv .0 .room)
 
 add-head : tie.Need-add-head Inv-loop μ-loop
 add-head c = search needs
 
 cast-head : tie.Need-cast-head Inv-loop μ-loop
-cast-head c = record { fits = omega (arith, c .before .before .before .before .before .before .before .before .before .before .before .before .before .before .pre .few, c .before .before .before .before .before .before .before .before .loop-test .taken) }
+cast-head c =
+    let test = c .before .before .before .before .before .before .before .before in
+    let call = test .before .before .before .before .before .before in
+    record { fits = omega (arith, call .pre .few, test .loop-test .taken) }
 
 mul-head : tie.Need-mul-head Inv-loop μ-loop
 mul-head c = omega (arith, c .before .before .before .before .before .sum .ensures .1)
 
 slice-write-head : tie.Need-slice-write-head Inv-loop μ-loop
-slice-write-head c = omega (arith, c .before .before .before .before .before .sum .ensures .1, c .before .before .before .before .before .before .before .before .before .loop .inv .0 .head-room)
+slice-write-head c =
+    let at-sum = c .before .before .before .before .before in
+    let turn = at-sum .before .before .before .before in
+    omega (arith, at-sum .sum .ensures .1, turn .loop .inv .0 .head-room)
 
 add-k : tie.Need-add-k Inv-loop μ-loop
 add-k c = search needs
@@ -75,7 +91,14 @@ loop-less : tie.Need-loop-less Inv-loop μ-loop
 loop-less c = search needs
 
 loop-again : tie.Need-loop-again Inv-loop μ-loop
-loop-again c = (searching.indexed-as (c .before .before .before .before .before .before .before .before .before .loop .inv .0) (c .before .before .before .before .before .before .before .before .loop-test .taken) (c .before .before .before .before .before .before .wide .ensures .0) (c .before .before .before .before .before .sum .ensures .0) (c .before .before .before .before .before .sum .ensures .1) (c .before .before .wide2 .ensures .0) (c .before .seek .ensures) (c .before .before .wide2 .ensures .0) (c .if1 .left), length-set (c .before .before .before .before .before .before .before .before .before .loop .head) (c .before .before .before .before .before .sum .result) (c .before .before .before .before .before .before .before .before .before .loop .k + 1) ∙ c .before .before .before .before .before .before .before .before .before .loop .inv .1, length-set (c .before .before .before .before .before .before .before .before .before .loop .next) (c .before .before .before .before .before .before .before .before .before .loop .k) _ ∙ c .before .before .before .before .before .before .before .before .before .loop .inv .2)
+loop-again c =
+    let at-seek = c .before in
+    let at-wide2 = at-seek .before in
+    let at-sum = at-wide2 .before .before .before in
+    let at-wide = at-sum .before in
+    let test = at-wide .before .before in
+    let turn = test .before in
+    (searching.indexed-as (turn .loop .inv .0) (test .loop-test .taken) (at-wide .wide .ensures .0) (at-sum .sum .ensures .0) (at-sum .sum .ensures .1) (at-wide2 .wide2 .ensures .0) (at-seek .seek .ensures) (at-wide2 .wide2 .ensures .0) (c .if1 .left), length-set (turn .loop .head) (at-sum .sum .result) (turn .loop .k + 1) ∙ turn .loop .inv .1, length-set (turn .loop .next) (turn .loop .k) _ ∙ turn .loop .inv .2)
 
 same-length-3 : tie.Need-same-length-3 Inv-loop μ-loop
 same-length-3 c = search needs

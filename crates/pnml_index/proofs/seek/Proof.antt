@@ -32,7 +32,13 @@ same-requires : tie.Need-same-requires Inv-loop μ-loop
 same-requires c κs = search needs
 
 returns : tie.Need-returns Inv-loop μ-loop
-returns c = searching.met (c .before .before .before .before .before .before .before .before .before .pre) (c .before .before .before .before .before .loop .inv) (c .before .before .before .before .loop-test .taken) (c .before .before .wide .ensures .0) (sym (c .before .same .ensures) ∙ c .if1 .taken)
+returns c =
+    let at-same = c .before in
+    let at-wide = at-same .before in
+    let test = at-wide .before .before in
+    let turn = test .before in
+    let call = turn .before .before .before .before in
+    searching.met (call .pre) (turn .loop .inv) (test .loop-test .taken) (at-wide .wide .ensures .0) (sym (at-same .same .ensures) ∙ c .if1 .taken)
 
 mul-wide-2 : tie.Need-mul-wide-2 Inv-loop μ-loop
 mul-wide-2 c = search needs
@@ -44,10 +50,21 @@ wide-requires-2 : tie.Need-wide-requires-2 Inv-loop μ-loop
 wide-requires-2 c κs = search needs
 
 loop-less : tie.Need-loop-less Inv-loop μ-loop
-loop-less c = omega (arith, c .wide2 .ensures .0, c .before .before .before .before .before .before .before .before .before .before .before .pre .falls (c .before .before .before .before .before .before .before .loop .m - 1), c .before .before .before .before .before .before .loop-test .taken)
+loop-less c =
+    let test = c .before .before .before .before .before .before in
+    let turn = test .before in
+    let call = turn .before .before .before .before in
+    omega (arith, c .wide2 .ensures .0, call .pre .falls (turn .loop .m - 1), test .loop-test .taken)
 
 loop-again : tie.Need-loop-again Inv-loop μ-loop
-loop-again c = searching.on (c .before .before .before .before .before .before .before .before .before .before .before .pre) (c .before .before .before .before .before .before .before .loop .inv) (c .before .before .before .before .before .before .loop-test .taken) (c .before .before .before .before .wide .ensures .0) (sym (c .before .before .before .same .ensures) ∙ c .before .before .if1 .left) (c .wide2 .ensures .0)
+loop-again c =
+    let at-if1 = c .before .before in
+    let at-same = at-if1 .before in
+    let at-wide = at-same .before in
+    let test = at-wide .before .before in
+    let turn = test .before in
+    let call = turn .before .before .before .before in
+    searching.on (call .pre) (turn .loop .inv) (test .loop-test .taken) (at-wide .wide .ensures .0) (sym (at-same .same .ensures) ∙ at-if1 .if1 .left) (c .wide2 .ensures .0)
 
 returns-2 : tie.Need-returns-2 Inv-loop μ-loop
 returns-2 c = searching.ended (c .before .before .before .before .before .pre) (c .before .loop .inv) (c .loop-test .left)

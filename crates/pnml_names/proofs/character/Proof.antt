@@ -19,10 +19,20 @@ goes-on-requires : tie.Need-goes-on-requires
 goes-on-requires c κs = search needs
 
 returns-2 : tie.Need-returns-2
-returns-2 c = let s = c .before .before .before .before .before .before .args in ids.character-in (s .text .now) (s .at) (c .before .before .before .before .if1 .left) (sym (c .before .goes-on .ensures ∙ ap (goesOn Id) (c .before .before .classify .ensures)) ∙ c .if2 .taken)
+returns-2 c =
+    let at-goes-on = c .before in
+    let at-classify = at-goes-on .before in
+    let at-if1 = at-classify .before .before in
+    let call = at-if1 .before .before in
+    let s = call .args in ids.character-in (s .text .now) (s .at) (at-if1 .if1 .left) (sym (at-goes-on .goes-on .ensures ∙ ap (goesOn Id) (at-classify .classify .ensures)) ∙ c .if2 .taken)
 
 returns-3 : tie.Need-returns-3
-returns-3 c = let s = c .before .before .before .before .before .before .args in ids.character-not (s .text .now) (s .at) (c .before .before .before .before .if1 .left) (sym (c .before .goes-on .ensures ∙ ap (goesOn Id) (c .before .before .classify .ensures)) ∙ c .if2 .left)
+returns-3 c =
+    let at-goes-on = c .before in
+    let at-classify = at-goes-on .before in
+    let at-if1 = at-classify .before .before in
+    let call = at-if1 .before .before in
+    let s = call .args in ids.character-not (s .text .now) (s .at) (at-if1 .if1 .left) (sym (at-goes-on .goes-on .ensures ∙ ap (goesOn Id) (at-classify .classify .ensures)) ∙ c .if2 .left)
 
 pub character-spec : {M : Type 1} → statement M
 character-spec =

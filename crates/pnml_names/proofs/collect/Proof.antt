@@ -38,10 +38,16 @@ wanted-requires : tie.Need-wanted-requires Inv-loop μ-loop
 wanted-requires c κs = search needs
 
 keep-requires : tie.Need-keep-requires Inv-loop μ-loop
-keep-requires c κs = λ t. (
-  filling.room-for (c .before .before .before .before .before .before .before .before .loop .inv) (c .before .before .before .before .before .before .element-at .result) (c .before .before .before .spaces .result) (c .before .before .before .before .before .before .before .loop-test .taken) (c .before .before .before .before .before .before .element-at .ensures) (c .before .before .before .before .if1 .left) (c .before .before .before .spaces .ensures) (c .wanted .ensures) t,
-  omega (arith, c .before .name-of .ensures, c .before .before .before .before .before .before .element-at .ensures .within (c .before .before .before .before .if1 .left), c .before .before .before .before .before .before .before .before .before .before .before .pre .0),
-)
+keep-requires c κs = λ t.
+    let at-spaces = c .before .before .before in
+    let at-if1 = at-spaces .before in
+    let at-element-at = at-if1 .before .before in
+    let test = at-element-at .before in
+    let turn = test .before in
+    let call = turn .before .before .before in (
+      filling.room-for (turn .loop .inv) (at-element-at .element-at .result) (at-spaces .spaces .result) (test .loop-test .taken) (at-element-at .element-at .ensures) (at-if1 .if1 .left) (at-spaces .spaces .ensures) (c .wanted .ensures) t,
+      omega (arith, c .before .name-of .ensures, at-element-at .element-at .ensures .within (at-if1 .if1 .left), call .pre .0),
+    )
 
 sub-left : tie.Need-sub-left Inv-loop μ-loop
 sub-left c = search needs
@@ -50,7 +56,16 @@ loop-less : tie.Need-loop-less Inv-loop μ-loop
 loop-less c = search needs
 
 loop-again : tie.Need-loop-again Inv-loop μ-loop
-loop-again c = filling.collected-on (c .before .before .before .before .before .before .before .before .before .before .before .loop .inv) (c .before .before .before .before .before .before .before .before .before .element-at .result) (c .before .before .before .before .before .before .spaces .result) (c .before .before .before .before .before .before .before .before .before .before .loop-test .taken) (c .before .before .before .before .before .before .before .before .before .element-at .ensures) (c .before .before .before .before .before .before .before .if1 .left) (c .before .before .before .before .before .before .spaces .ensures) (c .before .before .before .before .name-of .ensures) (c .before .before .before .wanted .ensures) (c .before .before .keep .ensures)
+loop-again c =
+    let at-keep = c .before .before in
+    let at-wanted = at-keep .before in
+    let at-name-of = at-wanted .before in
+    let at-spaces = at-name-of .before .before in
+    let at-if1 = at-spaces .before in
+    let at-element-at = at-if1 .before .before in
+    let test = at-element-at .before in
+    let turn = test .before in
+    filling.collected-on (turn .loop .inv) (at-element-at .element-at .result) (at-spaces .spaces .result) (test .loop-test .taken) (at-element-at .element-at .ensures) (at-if1 .if1 .left) (at-spaces .spaces .ensures) (at-name-of .name-of .ensures) (at-wanted .wanted .ensures) (at-keep .keep .ensures)
 
 same-length-2 : tie.Need-same-length-2 Inv-loop μ-loop
 same-length-2 c = search needs

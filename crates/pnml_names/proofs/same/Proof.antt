@@ -31,13 +31,26 @@ returns-2 : tie.Need-returns-2 Inv-loop μ-loop
 returns-2 c = ids.over (c .before .before .before .before .loop .inv) (c .before .before .before .character .ensures) (c .before .before .character2 .ensures) (c .before .if1 .left) (c .if2 .taken)
 
 add-i : tie.Need-add-i Inv-loop μ-loop
-add-i c = omega (arith, ids.within (c .before .before .before .before .before .before .args .text .now) (c .before .before .before .before .loop .i) (c .before .before .before .character .ensures) (c .if2 .left))
+add-i c =
+    let at-character = c .before .before .before in
+    let turn = at-character .before in
+    let call = turn .before .before in
+    omega (arith, ids.within (call .args .text .now) (turn .loop .i) (at-character .character .ensures) (c .if2 .left))
 
 add-j : tie.Need-add-j Inv-loop μ-loop
-add-j c = omega (arith, ids.within (c .before .before .before .before .before .before .args .text .now) (c .before .before .before .before .loop .j) (c .before .before .character2 .ensures) (λ z. c .if2 .left (c .before .if1 .left ∙ z)))
+add-j c =
+    let at-if1 = c .before in
+    let at-character2 = at-if1 .before in
+    let turn = at-character2 .before .before in
+    let call = turn .before .before in
+    omega (arith, ids.within (call .args .text .now) (turn .loop .j) (at-character2 .character2 .ensures) (λ z. c .if2 .left (at-if1 .if1 .left ∙ z)))
 
 loop-less : tie.Need-loop-less Inv-loop μ-loop
-loop-less c = omega (arith, ids.within (c .before .before .before .before .before .before .args .text .now) (c .before .before .before .before .loop .i) (c .before .before .before .character .ensures) (c .if2 .left))
+loop-less c =
+    let at-character = c .before .before .before in
+    let turn = at-character .before in
+    let call = turn .before .before in
+    omega (arith, ids.within (call .args .text .now) (turn .loop .i) (at-character .character .ensures) (c .if2 .left))
 
 loop-again : tie.Need-loop-again Inv-loop μ-loop
 loop-again c = ids.on (c .before .before .before .before .loop .inv) (c .before .before .before .character .ensures) (c .before .before .character2 .ensures) (c .before .if1 .left) (c .if2 .left)

@@ -33,7 +33,13 @@ spaces-requires-3 c κs = search needs
 
 returns : tie.Need-returns
 unfolding Profile.after
-returns c = rw (c .spaces3 .ensures, c .before .word3 .ensures, c .before .before .before .spaces2 .ensures, c .before .before .before .before .word2 .ensures, c .before .before .before .before .before .before .spaces .ensures, c .before .before .before .before .before .before .before .word .ensures)
+returns c =
+    let at-word3 = c .before in
+    let at-spaces2 = at-word3 .before .before in
+    let at-word2 = at-spaces2 .before in
+    let at-spaces = at-word2 .before .before in
+    let at-word = at-spaces .before in
+    rw (c .spaces3 .ensures, at-word3 .word3 .ensures, at-spaces2 .spaces2 .ensures, at-word2 .word2 .ensures, at-spaces .spaces .ensures, at-word .word .ensures)
 
 pub after-spec : {M : Type 1} → statement M
 after-spec =

@@ -41,7 +41,13 @@ tail-requires c κs = search needs
 
 returns : tie.Need-returns
 unfolding Profile.source Profile.target Profile.arc
-returns c = record { source = rw (c .before .before .before .before .before .before .before .before .word .ensures, c .before .before .before .before .before .before .before .before .before .before .id .ensures); target = rw (c .before .before .before .before .before .word2 .ensures, c .before .before .before .before .before .before .before .id2 .ensures, c .before .before .before .before .before .before .before .before .word .ensures, c .before .before .before .before .before .before .before .before .before .before .id .ensures); number = c .tail .ensures .number ∙ rw (c .before .before .before .before .id3 .ensures, c .before .before .before .before .before .word2 .ensures, c .before .before .before .before .before .before .before .id2 .ensures, c .before .before .before .before .before .before .before .before .word .ensures, c .before .before .before .before .before .before .before .before .before .before .id .ensures); rest = c .tail .ensures .rest ∙ rw (c .before .before .before .before .id3 .ensures, c .before .before .before .before .before .word2 .ensures, c .before .before .before .before .before .before .before .id2 .ensures, c .before .before .before .before .before .before .before .before .word .ensures, c .before .before .before .before .before .before .before .before .before .before .id .ensures) }
+returns c =
+    let at-id3 = c .before .before .before .before in
+    let at-word2 = at-id3 .before in
+    let at-id2 = at-word2 .before .before in
+    let at-word = at-id2 .before in
+    let at-id = at-word .before .before in
+    record { source = rw (at-word .word .ensures, at-id .id .ensures); target = rw (at-word2 .word2 .ensures, at-id2 .id2 .ensures, at-word .word .ensures, at-id .id .ensures); number = c .tail .ensures .number ∙ rw (at-id3 .id3 .ensures, at-word2 .word2 .ensures, at-id2 .id2 .ensures, at-word .word .ensures, at-id .id .ensures); rest = c .tail .ensures .rest ∙ rw (at-id3 .id3 .ensures, at-word2 .word2 .ensures, at-id2 .id2 .ensures, at-word .word .ensures, at-id .id .ensures) }
 
 pub arc-spec : {M : Type 1} → statement M
 arc-spec =

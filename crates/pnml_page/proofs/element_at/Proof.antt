@@ -15,7 +15,11 @@ place-requires : tie.Need-place-requires
 place-requires c κs = search needs
 
 returns : tie.Need-returns
-returns c = tags.place-read (c .before .before .before .before .before .args .text .now) (c .before .before .before .before .before .args .at) (c .before .before .word .result) (c .before .before .word .ensures) (c .before .if1 .taken) (c .place .ensures)
+returns c =
+    let at-if1 = c .before in
+    let at-word = at-if1 .before in
+    let call = at-word .before .before .before in
+    tags.place-read (call .args .text .now) (call .args .at) (at-word .word .result) (at-word .word .ensures) (at-if1 .if1 .taken) (c .place .ensures)
 
 slice-aggregate-word-2 : tie.Need-slice-aggregate-word-2
 slice-aggregate-word-2 c = search needs
@@ -27,7 +31,13 @@ transition-requires : tie.Need-transition-requires
 transition-requires c κs = search needs
 
 returns-2 : tie.Need-returns-2
-returns-2 c = tags.transition-read (c .before .before .before .before .before .before .before .before .args .text .now) (c .before .before .before .before .before .before .before .before .args .at) (c .before .before .before .before .before .word .result) (c .before .before .before .before .before .word .ensures) (c .before .before .word2 .result) (c .before .before .before .before .if1 .left) (c .before .before .word2 .ensures) (c .before .if2 .taken) (c .transition .ensures)
+returns-2 c =
+    let at-if2 = c .before in
+    let at-word2 = at-if2 .before in
+    let at-if1 = at-word2 .before .before in
+    let at-word = at-if1 .before in
+    let call = at-word .before .before .before in
+    tags.transition-read (call .args .text .now) (call .args .at) (at-word .word .result) (at-word .word .ensures) (at-word2 .word2 .result) (at-if1 .if1 .left) (at-word2 .word2 .ensures) (at-if2 .if2 .taken) (c .transition .ensures)
 
 slice-aggregate-word-3 : tie.Need-slice-aggregate-word-3
 slice-aggregate-word-3 c = search needs
@@ -39,7 +49,14 @@ arc-requires : tie.Need-arc-requires
 arc-requires c κs = search needs
 
 returns-3 : tie.Need-returns-3
-returns-3 c = tags.arc-read (c .before .before .before .before .before .before .before .before .before .before .args .text .now) (c .before .before .before .before .before .before .before .before .before .before .args .at) (c .before .before .before .before .before .before .before .word .result) (c .before .before .before .before .before .before .before .word .ensures) (c .before .before .before .before .word2 .result) (c .before .before .before .before .before .before .if1 .left) (c .before .before .before .before .word2 .ensures) (c .before .word3 .result) (c .before .before .before .if2 .left) (c .before .word3 .ensures) (c .arc .ensures)
+returns-3 c =
+    let at-word3 = c .before in
+    let at-if2 = at-word3 .before .before in
+    let at-word2 = at-if2 .before in
+    let at-if1 = at-word2 .before .before in
+    let at-word = at-if1 .before in
+    let call = at-word .before .before .before in
+    tags.arc-read (call .args .text .now) (call .args .at) (at-word .word .result) (at-word .word .ensures) (at-word2 .word2 .result) (at-if1 .if1 .left) (at-word2 .word2 .ensures) (at-word3 .word3 .result) (at-if2 .if2 .left) (at-word3 .word3 .ensures) (c .arc .ensures)
 
 pub element-at-spec : {M : Type 1} → statement M
 element-at-spec =

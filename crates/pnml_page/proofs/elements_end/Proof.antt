@@ -19,7 +19,12 @@ element-at-requires : tie.Need-element-at-requires Inv-loop μ-loop
 element-at-requires c κs = search needs
 
 returns : tie.Need-returns Inv-loop μ-loop
-returns c = sym (ap (λ (y : Profile.Content). y .rest) (tags.content-stop (c .before .before .before .before .before .before .args .text .now) (c .before .before .before .before .loop .left) (c .before .before .before .before .loop .a) (c .before .before .element-at .result) (c .before .before .before .loop-test .taken) (c .before .before .element-at .ensures) (c .if1 .taken))) ∙ c .before .before .before .before .loop .inv
+returns c =
+    let at-element-at = c .before .before in
+    let test = at-element-at .before in
+    let turn = test .before in
+    let call = turn .before .before in
+    sym (ap (λ (y : Profile.Content). y .rest) (tags.content-stop (call .args .text .now) (turn .loop .left) (turn .loop .a) (at-element-at .element-at .result) (test .loop-test .taken) (at-element-at .element-at .ensures) (c .if1 .taken))) ∙ turn .loop .inv
 
 spaces-requires : tie.Need-spaces-requires Inv-loop μ-loop
 spaces-requires c κs = search needs
@@ -31,7 +36,13 @@ loop-less : tie.Need-loop-less Inv-loop μ-loop
 loop-less c = search needs
 
 loop-again : tie.Need-loop-again Inv-loop μ-loop
-loop-again c = sym (ap (λ (y : Profile.Content). y .rest) (tags.content-on (c .before .before .before .before .before .before .before .args .text .now) (c .before .before .before .before .before .loop .left) (c .before .before .before .before .before .loop .a) (c .before .before .before .element-at .result) (c .spaces .result) (c .before .before .before .before .loop-test .taken) (c .before .before .before .element-at .ensures) (c .before .if1 .left) (c .spaces .ensures))) ∙ c .before .before .before .before .before .loop .inv
+loop-again c =
+    let at-if1 = c .before in
+    let at-element-at = at-if1 .before .before in
+    let test = at-element-at .before in
+    let turn = test .before in
+    let call = turn .before .before in
+    sym (ap (λ (y : Profile.Content). y .rest) (tags.content-on (call .args .text .now) (turn .loop .left) (turn .loop .a) (at-element-at .element-at .result) (c .spaces .result) (test .loop-test .taken) (at-element-at .element-at .ensures) (at-if1 .if1 .left) (c .spaces .ensures))) ∙ turn .loop .inv
 
 returns-2 : tie.Need-returns-2 Inv-loop μ-loop
 returns-2 c = sym (ap (λ (y : Profile.Content). y .rest) (tags.content-end (c .before .loop .left) (restAt (c .before .before .before .args .text .now) (c .before .loop .a)) (c .loop-test .left))) ∙ c .before .loop .inv

@@ -37,7 +37,15 @@ number-requires c κs = search needs
 
 returns : tie.Need-returns
 unfolding held
-returns c = record { number = c .number .ensures ∙ rw (c .before .before .before .before .before .before .before .word .ensures, c .before .before .before .before .before .before .before .before .before .spaces .ensures); rest = rw (c .before .spaces3 .ensures, c .before .before .word3 .ensures, c .before .before .before .spaces2 .ensures, c .before .before .before .before .word2 .ensures, c .before .before .before .before .before .before .digits .ensures, c .before .before .before .before .before .before .before .word .ensures, c .before .before .before .before .before .before .before .before .before .spaces .ensures) }
+returns c =
+    let at-spaces3 = c .before in
+    let at-word3 = at-spaces3 .before in
+    let at-spaces2 = at-word3 .before in
+    let at-word2 = at-spaces2 .before in
+    let at-digits = at-word2 .before .before in
+    let at-word = at-digits .before in
+    let at-spaces = at-word .before .before in
+    record { number = c .number .ensures ∙ rw (at-word .word .ensures, at-spaces .spaces .ensures); rest = rw (at-spaces3 .spaces3 .ensures, at-word3 .word3 .ensures, at-spaces2 .spaces2 .ensures, at-word2 .word2 .ensures, at-digits .digits .ensures, at-word .word .ensures, at-spaces .spaces .ensures) }
 
 pub held-spec : {M : Type 1} → statement M
 held-spec =

@@ -10,13 +10,20 @@ word-requires : tie.Need-word-requires
 word-requires c κs = search needs
 
 returns : tie.Need-returns
-returns c = tags.label-none (c .before .before .before .before .before .args .text .now) (c .before .before .before .before .before .args .at) (c .before .before .before .before .before .args .start .now) (c .before .before .before .before .before .args .stop .now) (c .before .before .before .before .before .args .missing) (c .before .word .result) _ (c .before .word .ensures) (c .if1 .taken) refl refl
+returns c =
+    let at-word = c .before in
+    let call = at-word .before .before .before .before in
+    tags.label-none (call .args .text .now) (call .args .at) (call .args .start .now) (call .args .stop .now) (call .args .missing) (at-word .word .result) _ (at-word .word .ensures) (c .if1 .taken) refl refl
 
 held-requires : tie.Need-held-requires
 held-requires c κs = search needs
 
 returns-2 : tie.Need-returns-2
-returns-2 c = tags.label-some (c .before .before .before .before .before .before .args .text .now) (c .before .before .before .before .before .before .args .at) (c .before .before .before .before .before .before .args .start .now) (c .before .before .before .before .before .before .args .stop .now) (c .before .before .before .before .before .before .args .missing) (c .before .before .word .result) (c .before .before .word .ensures) (c .before .if1 .left) (c .held .ensures)
+returns-2 c =
+    let at-if1 = c .before in
+    let at-word = at-if1 .before in
+    let call = at-word .before .before .before .before in
+    tags.label-some (call .args .text .now) (call .args .at) (call .args .start .now) (call .args .stop .now) (call .args .missing) (at-word .word .result) (at-word .word .ensures) (at-if1 .if1 .left) (c .held .ensures)
 
 pub label-spec : {M : Type 1} → statement M
 label-spec = tie.close (tie.spec word-requires returns held-requires returns-2)

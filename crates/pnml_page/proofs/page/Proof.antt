@@ -27,7 +27,12 @@ word-requires-2 c κs = search needs
 
 returns : tie.Need-returns
 unfolding Profile.page
-returns c = rw (c .word2 .ensures, c .before .before .spaces .ensures, c .before .before .before .word .ensures, c .before .before .before .before .before .id .ensures, c .before .before .before .before .before .before .net .ensures)
+returns c =
+    let at-spaces = c .before .before in
+    let at-word = at-spaces .before in
+    let at-id = at-word .before .before in
+    let at-net = at-id .before in
+    rw (c .word2 .ensures, at-spaces .spaces .ensures, at-word .word .ensures, at-id .id .ensures, at-net .net .ensures)
 
 pub page-spec : {M : Type 1} → statement M
 page-spec =

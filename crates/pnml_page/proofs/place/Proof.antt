@@ -21,7 +21,10 @@ tail-requires : tie.Need-tail-requires
 tail-requires c κs = search needs
 
 returns : tie.Need-returns
-returns c = tags.place-as (c .before .before .before .before .before .before .args .text .now) (c .before .before .before .before .before .before .args .at) (c .before .before .before .before .id .result) (c .before .before .before .before .id .ensures) (c .tail .ensures)
+returns c =
+    let at-id = c .before .before .before .before in
+    let call = at-id .before .before in
+    tags.place-as (call .args .text .now) (call .args .at) (at-id .id .result) (at-id .id .ensures) (c .tail .ensures)
 
 pub place-spec : {M : Type 1} → statement M
 place-spec =

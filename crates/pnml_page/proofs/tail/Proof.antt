@@ -13,7 +13,10 @@ word-requires : tie.Need-word-requires
 word-requires c κs = search needs
 
 returns : tie.Need-returns
-returns c = tags.tail-closed (c .before .before .before .before .before .before .before .args .text .now) (c .before .before .before .before .before .before .before .args .at) (c .before .before .before .before .before .before .before .args .start .now) (c .before .before .before .before .before .before .before .args .stop .now) (c .before .before .before .before .before .before .before .args .missing) (c .before .before .before .before .before .before .before .args .finish .now) (c .before .word .result) _ (c .before .word .ensures) (c .if1 .taken) refl refl
+returns c =
+    let at-word = c .before in
+    let call = at-word .before .before .before .before .before .before in
+    tags.tail-closed (call .args .text .now) (call .args .at) (call .args .start .now) (call .args .stop .now) (call .args .missing) (call .args .finish .now) (at-word .word .result) _ (at-word .word .ensures) (c .if1 .taken) refl refl
 
 slice-aggregate-word-2 : tie.Need-slice-aggregate-word-2
 slice-aggregate-word-2 c = search needs
@@ -31,7 +34,14 @@ word-requires-3 : tie.Need-word-requires-3
 word-requires-3 c κs = search needs
 
 returns-2 : tie.Need-returns-2
-returns-2 c = tags.tail-open (c .before .before .before .before .before .before .before .before .before .before .before .before .args .text .now) (c .before .before .before .before .before .before .before .before .before .before .before .before .args .at) (c .before .before .before .before .before .before .before .before .before .before .before .before .args .start .now) (c .before .before .before .before .before .before .before .before .before .before .before .before .args .stop .now) (c .before .before .before .before .before .before .before .before .before .before .before .before .args .missing) (c .before .before .before .before .before .before .before .before .before .before .before .before .args .finish .now) (c .before .before .before .before .before .before .word .result) (c .before .before .before .word2 .result) (c .before .before .spaces .result) _ (c .before .before .before .before .before .before .word .ensures) (c .before .before .before .before .before .if1 .left) (c .before .before .before .word2 .ensures) (c .before .before .spaces .ensures) (c .before .label .ensures) (c .word3 .ensures) refl
+returns-2 c =
+    let at-label = c .before in
+    let at-spaces = at-label .before in
+    let at-word2 = at-spaces .before in
+    let at-if1 = at-word2 .before .before in
+    let at-word = at-if1 .before in
+    let call = at-word .before .before .before .before .before .before in
+    tags.tail-open (call .args .text .now) (call .args .at) (call .args .start .now) (call .args .stop .now) (call .args .missing) (call .args .finish .now) (at-word .word .result) (at-word2 .word2 .result) (at-spaces .spaces .result) _ (at-word .word .ensures) (at-if1 .if1 .left) (at-word2 .word2 .ensures) (at-spaces .spaces .ensures) (at-label .label .ensures) (c .word3 .ensures) refl
 
 pub tail-spec : {M : Type 1} → statement M
 tail-spec =

@@ -14,7 +14,11 @@ word-requires : tie.Need-word-requires
 word-requires c κs = search needs
 
 returns : tie.Need-returns
-returns c = tags.transition-closed (c .before .before .before .before .before .args .text .now) (c .before .before .before .before .before .args .at) (c .before .before .before .id .result) (c .before .word .result) (c .before .before .before .id .ensures) (c .before .word .ensures) (c .if1 .taken)
+returns c =
+    let at-word = c .before in
+    let at-id = at-word .before .before in
+    let call = at-id .before .before in
+    tags.transition-closed (call .args .text .now) (call .args .at) (at-id .id .result) (at-word .word .result) (at-id .id .ensures) (at-word .word .ensures) (c .if1 .taken)
 
 slice-aggregate-word-2 : tie.Need-slice-aggregate-word-2
 slice-aggregate-word-2 c = search needs
@@ -32,7 +36,14 @@ word-requires-3 : tie.Need-word-requires-3
 word-requires-3 c κs = search needs
 
 returns-2 : tie.Need-returns-2
-returns-2 c = tags.transition-open (c .before .before .before .before .before .before .before .before .before .before .args .text .now) (c .before .before .before .before .before .before .before .before .before .before .args .at) (c .before .before .before .before .before .before .before .before .id .result) (c .before .before .before .before .before .before .word .result) (c .before .before .before .before .before .before .before .before .id .ensures) (c .before .before .before .before .before .before .word .ensures) (c .before .before .before .word2 .result) (c .before .before .spaces .result) _ (c .before .before .before .before .before .if1 .left) (c .before .before .before .word2 .ensures) (c .before .before .spaces .ensures) (c .word3 .ensures)
+returns-2 c =
+    let at-spaces = c .before .before in
+    let at-word2 = at-spaces .before in
+    let at-if1 = at-word2 .before .before in
+    let at-word = at-if1 .before in
+    let at-id = at-word .before .before in
+    let call = at-id .before .before in
+    tags.transition-open (call .args .text .now) (call .args .at) (at-id .id .result) (at-word .word .result) (at-id .id .ensures) (at-word .word .ensures) (at-word2 .word2 .result) (at-spaces .spaces .result) _ (at-if1 .if1 .left) (at-word2 .word2 .ensures) (at-spaces .spaces .ensures) (c .word3 .ensures)
 
 pub transition-spec : {M : Type 1} → statement M
 transition-spec =

@@ -29,13 +29,18 @@ array-share-prefix-names : tie.Need-array-share-prefix-names
 array-share-prefix-names c = search needs
 
 slice-aggregate-write-named : tie.Need-slice-aggregate-write-named
-slice-aggregate-write-named c = sym (length-take-le (2 + c .before .before .before .before .before .list .result .places + c .before .before .before .before .before .list .result .transitions + c .before .before .before .before .before .list .result .arcs) _ (c .before .before .before .before .before .list .ensures .room))
+slice-aggregate-write-named c =
+    let at-list = c .before .before .before .before .before in
+    sym (length-take-le (2 + at-list .list .result .places + at-list .list .result .transitions + at-list .list .result .arcs) _ (at-list .list .ensures .room))
 
 slice-aggregate-write-named-2 : tie.Need-slice-aggregate-write-named-2
 slice-aggregate-write-named-2 c = search needs
 
 write-named-requires : tie.Need-write-named-requires
-write-named-requires c κs = let g = c .before .before .before .before .before .before .before .list .ensures .table in (omega (arith, c .before .before .before .before .before .before .before .before .before .before .before .pre .0), (g, laws.blanks _ 4372 (omega (arith, c .before .before .before .before .before .before .before .before .before .before .before .pre .0, few-ids (c .before .before .before .before .before .before .before .before .before .before .before .args .text .now), listing-long g, g .place-count, g .transition-count))))
+write-named-requires c κs =
+    let at-list = c .before .before .before .before .before .before .before in
+    let call = at-list .before .before .before .before in
+    let g = at-list .list .ensures .table in (omega (arith, call .pre .0), (g, laws.blanks _ 4372 (omega (arith, call .pre .0, few-ids (call .args .text .now), listing-long g, g .place-count, g .transition-count))))
 
 same-length : tie.Need-same-length
 same-length c = search needs

@@ -14,13 +14,20 @@ same-length : tie.Need-same-length
 same-length c = search needs
 
 returns : tie.Need-returns
-returns c = laws.told (c .before .before .before .before .before .before .before .before .before .before .before .args .text .now) (c .before .before .before .before .before .before .before .before .before .before .before .args .buffer .now) 18 _ (sym (laws.twice-is (c .before .before .before .before .before .before .before .before .before .before .before .pre .1 .0) (c .before .before .before .before .index .ensures .0)) ∙ c .if1 .taken)
+returns c =
+    let at-index = c .before .before .before .before in
+    let call = at-index .before .before .before .before .before .before .before in
+    laws.told (call .args .text .now) (call .args .buffer .now) 18 _ (sym (laws.twice-is (call .pre .1 .0) (at-index .index .ensures .0)) ∙ c .if1 .taken)
 
 slice-aggregate-write-joined : tie.Need-slice-aggregate-write-joined
 slice-aggregate-write-joined c = search needs
 
 write-joined-requires : tie.Need-write-joined-requires
-write-joined-requires c κs = (c .before .before .before .before .before .before .before .before .before .before .before .before .before .before .pre .0, (c .before .before .before .before .before .before .before .before .before .before .before .before .before .before .pre .1 .0, c .before .before .before .before .before .before .before .index .ensures .1 (c .before .before .before .if1 .left)))
+write-joined-requires c κs =
+    let at-if1 = c .before .before .before in
+    let at-index = at-if1 .before .before .before .before in
+    let call = at-index .before .before .before .before .before .before .before in
+    (call .pre .0, (call .pre .1 .0, at-index .index .ensures .1 (at-if1 .if1 .left)))
 
 same-length-2 : tie.Need-same-length-2
 same-length-2 c = search needs
@@ -29,7 +36,12 @@ same-length-3 : tie.Need-same-length-3
 same-length-3 c = search needs
 
 returns-2 : tie.Need-returns-2
-returns-2 c = laws.passed (c .before .before .before .before .before .before .before .before .before .before .before .before .before .before .before .before .before .args .text .now) 19 _ (sym (laws.twice-is (c .before .before .before .before .before .before .before .before .before .before .before .before .before .before .before .before .before .pre .1 .0) (c .before .before .before .before .before .before .before .before .before .before .index .ensures .0)) ∙ c .before .before .before .before .before .before .if1 .left) (c .before .before .write-joined .ensures)
+returns-2 c =
+    let at-write-joined = c .before .before in
+    let at-if1 = at-write-joined .before .before .before .before in
+    let at-index = at-if1 .before .before .before .before in
+    let call = at-index .before .before .before .before .before .before .before in
+    laws.passed (call .args .text .now) 19 _ (sym (laws.twice-is (call .pre .1 .0) (at-index .index .ensures .0)) ∙ at-if1 .if1 .left) (at-write-joined .write-joined .ensures)
 
 pub write-named-spec : {M : Type 1} → statement M
 write-named-spec =

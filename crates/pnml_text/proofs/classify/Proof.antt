@@ -24,7 +24,10 @@ returns-4 c = kind-from Other 0 9 256 256 tt (c .before .before .before .args .b
 
 returns-5 : tie.Need-returns-5
 unfolding kindOf
-returns-5 c = kind-from Other 11 34 13 32 tt (c .before .before .before .before .before .args .b) (omega arith) (omega arith) (λ e. c .before .before .before .before .match .rest .1 (inl e)) (λ e. c .before .before .before .before .match .rest .1 (inr e))
+returns-5 c =
+    let at-match = c .before .before .before .before in
+    let call = at-match .before in
+    kind-from Other 11 34 13 32 tt (call .args .b) (omega arith) (omega arith) (λ e. at-match .match .rest .1 (inl e)) (λ e. at-match .match .rest .1 (inr e))
 
 returns-6 : tie.Need-returns-6
 unfolding kindOf
@@ -36,7 +39,10 @@ returns-7 c = kind-from Other 58 7 256 256 tt (c .before .before .before .args .
 
 returns-8 : tie.Need-returns-8
 unfolding kindOf
-returns-8 c = kind-from Other 91 6 95 95 tt (c .before .before .before .before .before .args .b) (omega arith) (omega arith) (c .before .before .before .before .match .rest .0 .1) (c .before .before .before .before .match .rest .0 .1)
+returns-8 c =
+    let at-match = c .before .before .before .before in
+    let call = at-match .before in
+    kind-from Other 91 6 95 95 tt (call .args .b) (omega arith) (omega arith) (at-match .match .rest .0 .1) (at-match .match .rest .0 .1)
 
 returns-9 : tie.Need-returns-9
 unfolding kindOf

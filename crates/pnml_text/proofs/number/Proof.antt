@@ -33,7 +33,11 @@ goes-on-requires : tie.Need-goes-on-requires Inv-loop μ-loop
 goes-on-requires c κs = search needs
 
 returns : tie.Need-returns Inv-loop μ-loop
-returns c = runs.number-stop (c .before .before .before .before .before .loop .inv) (c .before .before .before .before .loop-test .taken) (sym (going (c .before)) ∙ not-true _ (c .if1 .taken)) ∙ sym (runs.number-of (c .before .before .before .before .before .before .before .args .text .now) (c .before .before .before .before .before .before .before .args .at))
+returns c =
+    let test = c .before .before .before .before in
+    let turn = test .before in
+    let call = turn .before .before in
+    runs.number-stop (turn .loop .inv) (test .loop-test .taken) (sym (going (c .before)) ∙ not-true _ (c .if1 .taken)) ∙ sym (runs.number-of (call .args .text .now) (call .args .at))
 
 shared-slice-read-push : tie.Need-shared-slice-read-push Inv-loop μ-loop
 shared-slice-read-push c = search needs
@@ -48,7 +52,11 @@ loop-less : tie.Need-loop-less Inv-loop μ-loop
 loop-less c = search needs
 
 loop-again : tie.Need-loop-again Inv-loop μ-loop
-loop-again c = runs.number-on (c .before .before .before .before .before .before .before .loop .inv) (c .before .before .before .before .before .before .loop-test .taken) (sym (going (c .before .before .before)) ∙ not-false _ (c .before .before .if1 .left)) (c .push .ensures .1) (c .push .ensures .0)
+loop-again c =
+    let at-before = c .before .before in
+    let test = at-before .before .before .before .before in
+    let turn = test .before in
+    runs.number-on (turn .loop .inv) (test .loop-test .taken) (sym (going (at-before .before)) ∙ not-false _ (at-before .if1 .left)) (c .push .ensures .1) (c .push .ensures .0)
 
 returns-2 : tie.Need-returns-2 Inv-loop μ-loop
 returns-2 c = runs.number-end (c .before .loop .inv) (c .loop-test .left) ∙ sym (runs.number-of (c .before .before .before .args .text .now) (c .before .before .before .args .at))

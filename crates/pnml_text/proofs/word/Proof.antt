@@ -24,7 +24,11 @@ add-result : tie.Need-add-result Inv-loop μ-loop
 add-result c = search needs
 
 returns-2 : tie.Need-returns-2 Inv-loop μ-loop
-returns-2 c = runs.rest-out (c .before .before .before .before .args .text .now) _ (omega arith) ∙ sym (ap (word (c .before .before .before .before .args .w .now)) (runs.rest-in (c .before .before .before .before .args .text .now) (c .before .before .before .before .args .at) (omega (arith, c .before .before .loop .inv))) ∙ sym (c .before .before .loop .inv .4) ∙ runs.strip-short _ _ _ _ (c .if2 .taken) (c .before .loop-test .taken))
+returns-2 c =
+    let test = c .before in
+    let turn = test .before in
+    let call = turn .before .before in
+    runs.rest-out (call .args .text .now) _ (omega arith) ∙ sym (ap (word (call .args .w .now)) (runs.rest-in (call .args .text .now) (call .args .at) (omega (arith, turn .loop .inv))) ∙ sym (turn .loop .inv .4) ∙ runs.strip-short _ _ _ _ (c .if2 .taken) (test .loop-test .taken))
 
 shared-slice-read-if3 : tie.Need-shared-slice-read-if3 Inv-loop μ-loop
 shared-slice-read-if3 c = search needs
@@ -36,7 +40,12 @@ add-result-2 : tie.Need-add-result-2 Inv-loop μ-loop
 add-result-2 c = search needs
 
 returns-3 : tie.Need-returns-3 Inv-loop μ-loop
-returns-3 c = runs.rest-out (c .before .before .before .before .before .before .before .args .text .now) _ (omega arith) ∙ sym (ap (word (c .before .before .before .before .before .before .before .args .w .now)) (runs.rest-in (c .before .before .before .before .before .before .before .args .text .now) (c .before .before .before .before .before .before .before .args .at) (omega (arith, c .before .before .before .before .before .loop .inv))) ∙ sym (c .before .before .before .before .before .loop .inv .4) ∙ runs.strip-other _ _ _ _ (c .before .before .before .if2 .left) (c .before .before .before .before .loop-test .taken) (c .if3 .taken))
+returns-3 c =
+    let at-if2 = c .before .before .before in
+    let test = at-if2 .before in
+    let turn = test .before in
+    let call = turn .before .before in
+    runs.rest-out (call .args .text .now) _ (omega arith) ∙ sym (ap (word (call .args .w .now)) (runs.rest-in (call .args .text .now) (call .args .at) (omega (arith, turn .loop .inv))) ∙ sym (turn .loop .inv .4) ∙ runs.strip-other _ _ _ _ (at-if2 .if2 .left) (test .loop-test .taken) (c .if3 .taken))
 
 add-a : tie.Need-add-a Inv-loop μ-loop
 add-a c = search needs
@@ -51,7 +60,10 @@ loop-again : tie.Need-loop-again Inv-loop μ-loop
 loop-again c = (search needs, search needs, refl, search needs, sym (runs.strip-on _ _ _ _ (c .before .before .before .if2 .left) (c .before .before .before .before .loop-test .taken) (c .if3 .left)) ∙ c .before .before .before .before .before .loop .inv .4)
 
 returns-4 : tie.Need-returns-4 Inv-loop μ-loop
-returns-4 c = runs.rest-in (c .before .before .before .args .text .now) _ (omega (arith, c .before .loop .inv)) ∙ sym (ap (word (c .before .before .before .args .w .now)) (runs.rest-in (c .before .before .before .args .text .now) (c .before .before .before .args .at) (omega (arith, c .before .loop .inv))) ∙ sym (c .before .loop .inv .4) ∙ runs.strip-all (c .before .before .before .args .text .now) (c .before .before .before .args .w .now) (c .before .loop .a) (c .before .loop .i) (c .loop-test .left))
+returns-4 c =
+    let turn = c .before in
+    let call = turn .before .before in
+    runs.rest-in (call .args .text .now) _ (omega (arith, turn .loop .inv)) ∙ sym (ap (word (call .args .w .now)) (runs.rest-in (call .args .text .now) (call .args .at) (omega (arith, turn .loop .inv))) ∙ sym (turn .loop .inv .4) ∙ runs.strip-all (call .args .text .now) (call .args .w .now) (turn .loop .a) (turn .loop .i) (c .loop-test .left))
 
 pub word-spec : {M : Type 1} → statement M
 word-spec =
