@@ -12,15 +12,17 @@ use Rattle.net.proofs.Numbers.{by-cases, and-true}
 use Rattle.pnml_text.specs.Rest
 use Rattle.pnml_text.specs.Rest.{more, restAt}
 use Rattle.pnml_page.specs.Meant.{idAt, HasEnds}
-use Rattle.pnml_page.specs.Profile
-use Rattle.pnml_page.specs.Profile.{anArc}
+use Rattle.pnml_page.specs.Steps
+use Rattle.pnml_page.specs.Steps.{anArc}
 use Rattle.pnml_page.specs.declared.Ends.{Ends}
 use Rattle.pnml_page.proofs.Tags.{id-at}
-use Rattle.pnml_names.specs.Names.{idOf, position, among, repeats}
+use Rattle.pnml_names.specs.Names.{position, among, repeats}
 use Rattle.pnml_names.specs.Tables.{idsIn, readAt}
 use Rattle.pnml_names.specs.declared.Which.the-variants.{Places, Transitions, Arcs}
 use Rattle.pnml_names.proofs.Ids.{among-append, position-among, position-in, position-not, no-other}
-use Rattle.pnml_net.specs.Named.{entries, ids, names, joined}
+use Rattle.pnml_net.specs.Named
+use Rattle.pnml_net.specs.Read.{readOf, idOf, entries, ids, names}
+use Rattle.pnml_net.specs.Named.{joined}
 use Rattle.pnml_list.specs.Listing.{Listing}
 use Rattle.pnml_index.specs.Rows.{Indexed}
 use Rattle.pnml_arcs.specs.Ends.{betweenAt}
@@ -60,7 +62,7 @@ module _ (x : List ℕ) (l m r : List (List ℕ)) (once : repeats (l ++ (m ++ r)
 
 -- the table of ids
 pub listing-long : {s table : List ℕ} {P T : ℕ} → Listing s table P T → length table ≡ 2 + P + T + length (entries Arcs s)
-unfolding names
+unfolding Named.names readOf
 listing-long {s} {table} {P} {T} g =
     let a = length-append (ids Places s) (ids Transitions s ++ ids Arcs s) in
     let b = length-append (ids Transitions s) (ids Arcs s) in
@@ -84,7 +86,7 @@ all-four i j m e t =
 
 module _ (s : List ℕ) {table : List ℕ} {P T : ℕ} (g : Listing s table P T) {head next : List ℕ} (h : Indexed s table head next) where
   abbrev hs : List (List ℕ)
-  hs = Rest.idOf (Profile.net (more s)) ∷ Rest.idOf (Profile.page (more s)) ∷ []
+  hs = Rest.idOf (Steps.net (more s)) ∷ Rest.idOf (Steps.page (more s)) ∷ []
 
   abbrev ps : List (List ℕ)
   ps = ids Places s
@@ -93,7 +95,7 @@ module _ (s : List ℕ) {table : List ℕ} {P T : ℕ} (g : Listing s table P T)
   ts = ids Transitions s
 
   once : repeats (hs ++ (ps ++ (ts ++ ids Arcs s))) ≡ false
-  unfolding names
+  unfolding Named.names readOf
   once = sym (ap repeats (g .ids)) ∙ h .once
 
   once-2 : repeats ((hs ++ ps) ++ (ts ++ ids Arcs s)) ≡ false
@@ -107,7 +109,7 @@ module _ (s : List ℕ) {table : List ℕ} {P T : ℕ} (g : Listing s table P T)
 
   module _ (x : List ℕ) {i : ℕ} (e : i ≡ position x (idsIn s table)) where
     place-i : i ≡ position x (hs ++ (ps ++ (ts ++ ids Arcs s)))
-    unfolding names
+    unfolding Named.names readOf
     place-i = e ∙ ap (position x) (g .ids)
 
     transition-i : i ≡ position x ((hs ++ ps) ++ (ts ++ ids Arcs s))

@@ -8,12 +8,13 @@ use lib.Dec.{ltb}
 use lib.ListN.{length, getD, set, take, drop, length-set, length-map, length-drop}
 use lib.Seq.{take-suc-set}
 use Rattle.net.specs.declared.Arc.{Arc}
-use Rattle.pnml_names.specs.Names.{idOf}
 use Rattle.pnml_names.specs.Tables.{readAt, entriesIn}
 use Rattle.pnml_names.specs.declared.Which.the-variants.{Places, Transitions, Arcs}
 use Rattle.pnml_names.proofs.Ids.{map-append, map-cons, map-none}
 use Rattle.pnml_net.proofs.Arcs.{joined-known}
-use Rattle.pnml_net.specs.Named.{entries, ids, joined, arcsOf, anyApart, endWrong, numberOf, anyOff, arcsNamed}
+use Rattle.pnml_net.specs.Named
+use Rattle.pnml_net.specs.Read.{idOf, entries, ids, anyApart, endWrong, numberOf, arcsNamed}
+use Rattle.pnml_net.specs.Named.{joined, arcsOf, anyOff}
 use Rattle.pnml_list.specs.Listing.{Listing}
 use Rattle.pnml_sort.specs.Words.{wordOf}
 use Rattle.pnml_arcs.specs.Ends.{arcIn, Lowest, Weighed}
@@ -39,7 +40,7 @@ first P T = 2 + P + T
 
 module _ {s names : List ℕ} {P T : ℕ} (g : Listing s names P T) where
   pub packing-none : (words : List ℕ) → first P T ≤ length names → length names ≤ 2 + P + T + length words → Packing s names P T (length words) words false (2 + P + T)
-  unfolding arcsNamed endWrong
+  unfolding Named.arcsNamed endWrong
   packing-none words h f = record {
     done = [];
     least = omega arith;

@@ -7,7 +7,9 @@ use lib.Dec.{ltb, leb}
 use lib.ListN.{length, take}
 use Rattle.net.specs.declared.Arc.{Arc}
 use Rattle.pnml_names.specs.declared.Which.the-variants.{Arcs}
-use Rattle.pnml_net.specs.Named.{entries, ifArcs, endWrong, anyOff, arcsNamed}
+use Rattle.pnml_net.specs.Read.{entries, endWrong, arcsNamed}
+use Rattle.pnml_names.specs.Names.{pick}
+use Rattle.pnml_net.specs.Named.{anyOff}
 use Rattle.pnml_sort.specs.Words.{wordOf}
 use Rattle.pnml_arcs.specs.declared.Joined.{Joined}
 use Rattle.pnml_arcs.specs.declared.Joined.the-variants.{Between, Apart}
@@ -21,9 +23,9 @@ arcIn Apart = []
 -- the arc from the id of number i to that of number j: two ids, then P places, then T transitions
 abbrev pub betweenAt : ℕ → ℕ → ℕ → ℕ → ℕ → List Arc
 betweenAt P T i j n =
-    ifArcs (leb 2 i && ltb i (2 + P) && leb (2 + P) j && ltb j (2 + P + T))
+    pick (leb 2 i && ltb i (2 + P) && leb (2 + P) j && ltb j (2 + P + T))
     (record { transition = j - (2 + P); direction = 0; place = i - 2; weight = n } ∷ [])
-    (ifArcs (leb 2 j && ltb j (2 + P) && leb (2 + P) i && ltb i (2 + P + T))
+    (pick (leb 2 j && ltb j (2 + P) && leb (2 + P) i && ltb i (2 + P + T))
     (record { transition = i - (2 + P); direction = 1; place = j - 2; weight = n } ∷ [])
     [])
 

@@ -13,17 +13,17 @@ use Rattle.file_writing.specs.Writing.{placesBytes, arcsBytes, trailerBytes}
 use Rattle.file_writing.proofs.PlanTrip.{length-plan}
 use Rattle.plan_put.proofs.Laws.{plan-stored}
 use Rattle.pnml_text.specs.Rest.{restAt}
-use Rattle.pnml_page.specs.Profile.{place}
-use Rattle.pnml_names.specs.Names.{idOf}
+use Rattle.pnml_page.specs.Steps.{place}
 use Rattle.pnml_names.specs.Tables.{readAt, entriesIn}
 use Rattle.pnml_names.specs.declared.Which.the-variants.{Places, Transitions, Arcs}
 use Rattle.pnml_names.proofs.Ids.{map-cons, map-none}
-use Rattle.pnml_net.specs.Named.{entries, ids, endWrong, unfit, countsOff, numberOf, anyOff, sorted, arcsNamed, netNamed}
+use Rattle.pnml_net.specs.Named
+use Rattle.pnml_net.specs.Read.{idOf, entries, ids, endWrong, unfit, numberOf, arcsNamed, netNamed, countsOff, sorted}
+use Rattle.pnml_net.specs.Named.{anyOff}
 use Rattle.pnml_net.proofs.Arcs.{AllFine, Fine, fine-sorted, arcs-fine, length-sorted, arcs-count}
 use Rattle.pnml_sort.specs.Words.{wordOf}
 use Rattle.pnml_list.specs.Listing.{Listing}
-use Rattle.promise.specs.Pnml.{pnmlFile}
-use Rattle.pnml_file.specs.Ready.{markingIn, arcOf, arcsIn, Ready, Sorted, unfitBut}
+use Rattle.pnml_file.specs.Ready.{readFile, markingIn, arcOf, arcsIn, Ready, Sorted, unfitBut}
 
 -- ---- the loop over markings
 
@@ -91,15 +91,15 @@ module _ (s : List ℕ) {places : List ℕ} {T : ℕ} {words : List ℕ} (r : Re
   arc-count : length words ≡ length (sorted (arcsNamed s))
   arc-count = sym (length-map words arcOf) ∙ ap length (r .arcs-are)
 
-  pub file-long : length (pnmlFile s) ≡ 4 * length places + 8 * length words + 16
-  unfolding pnmlFile netNamed
+  pub file-long : length (readFile s) ≡ 4 * length places + 8 * length words + 16
+  unfolding readFile Named.netNamed
   file-long = let p = place-count in let a = arc-count in omega (arith, length-plan 1 (netNamed s))
 
   pub file-stored : (b : List ℕ) {b₁ b₂ b₃ : List ℕ} → b₁ ≡ sets b 0 (placesBytes 1 (markingIn s places) (λ p. 0) 0 (length places))
       → b₂ ≡ sets b₁ (4 * length places) (arcsBytes (arcsIn words))
       → b₃ ≡ sets b₂ (4 * length places + 8 * length words) (trailerBytes 0 1 (4 * length places + 8 * length words) (length places) T (length words))
-      → b₃ ≡ sets b 0 (pnmlFile s)
-  unfolding pnmlFile netNamed
+      → b₃ ≡ sets b 0 (readFile s)
+  unfolding readFile Named.netNamed
   file-stored b {b₁} {b₂} f g h =
       plan-stored 1 (netNamed s) b
       (f ∙ (λ i. sets b 0 (placesBytes 1 (λ p. getD (map numberOf (r .places-are i)) p 0) (λ p. 0) 0 (place-count i))))
@@ -118,7 +118,7 @@ places-part {s} {table} {P} g = let e : 2 + P - 2 ≡ P = omega arith in ap (λ 
 
 module _ (s : List ℕ) (fit : unfit s ≡ false) where
   pub parts : (countsOff (length (entries Places s)) (length (entries Transitions s)) (length (entries Arcs s)) ≡ false) × (anyOff 0 4294967295 (entries Places s) ≡ false) × (anyOff 1 65535 (entries Arcs s) ≡ false)
-  unfolding unfit
+  unfolding Named.unfit
   parts = three (countsOff (length (entries Places s)) (length (entries Transitions s)) (length (entries Arcs s))) (anyOff 0 4294967295 (entries Places s)) (anyOff 1 65535 (entries Arcs s)) fit
     where
       three : (a b c : Bool) → (a || b || c) ≡ false → (a ≡ false) × (b ≡ false) × (c ≡ false)
@@ -143,7 +143,7 @@ module _ (s : List ℕ) (fit : unfit s ≡ false) where
 
   -- the numbers of the arcs, in order
   pub words-are : endWrong s ≡ false → {words : List ℕ} → words ≡ map wordOf (sorted (arcsNamed s)) → Sorted s words
-  unfolding arcsNamed endWrong
+  unfolding Named.arcsNamed endWrong
   words-are joins {words} e =
       let l = limits in
       let fine = fine-sorted (length (ids Places s)) (length (ids Transitions s)) (arcsNamed s) (arcs-fine (ids Places s) (ids Transitions s) (entries Arcs s) joins (parts .2)) in

@@ -7,7 +7,13 @@ use lib.ListN.{length, getD}
 use Rattle.net.specs.declared.Arc.{Arc}
 use Rattle.pnml_names.specs.Tables.{entriesIn}
 use Rattle.pnml_names.specs.declared.Which.the-variants.{Places, Transitions, Arcs}
-use Rattle.pnml_net.specs.Named.{entries, unfit, countsOff, anyOff, numberOf, sorted, arcsNamed}
+use Rattle.file_writing.specs.Writing.{planBytes}
+use Rattle.pnml_net.specs.Read.{entries, unfit, numberOf, arcsNamed, netNamed, countsOff, sorted}
+use Rattle.pnml_net.specs.Named.{anyOff}
+
+-- the plan file of what the code reads of a text
+unfoldable pub readFile : List ℕ → List ℕ
+readFile s = planBytes 1 (netNamed s)
 
 -- the markings of the places whose ids stand at the positions of a table
 abbrev pub markingIn : List ℕ → List ℕ → ℕ → ℕ

@@ -8,9 +8,9 @@ ghost use Rattle.plan_put.specs.Told.{Answers, roomRefusal};
 ghost use Rattle.pnml_list.specs.Listing.{Listing};
 ghost use Rattle.pnml_names.specs.Tables.{entriesIn};
 ghost use Rattle.pnml_names.specs.declared.Which.the-variants.{Places};
-ghost use Rattle.pnml_net.specs.Named.{anyOff, countsOff};
-ghost use Rattle.promise.specs.Pnml.{pnmlFile};
-ghost use Rattle.pnml_file.specs.Ready.{Ready, Sorted, arcOf, arcsIn, markingIn, unfitBut};
+ghost use Rattle.pnml_net.specs.Read.{countsOff};
+ghost use Rattle.pnml_net.specs.Named.{anyOff};
+ghost use Rattle.pnml_file.specs.Ready.{Ready, Sorted, arcOf, arcsIn, markingIn, readFile, unfitBut};
 use net::Arc;
 use plan_put::File;
 use pnml_page::place;
@@ -101,7 +101,7 @@ fn write(
     buffer: &mut [u8],
 ) -> File
     requires { ⌜ Ready (now text) (now places) transitions (now words) ⌝ }
-    ensures { λ r. ⌜ Answers (roomRefusal (length (now (buffer .entry))) (pnmlFile (now (text .entry)))) (pnmlFile (now (text .entry))) (now (buffer .entry)) (now (buffer .exit)) r ⌝ }
+    ensures { λ r. ⌜ Answers (roomRefusal (length (now (buffer .entry))) (readFile (now (text .entry)))) (readFile (now (text .entry))) (now (buffer .entry)) (now (buffer .exit)) r ⌝ }
 {
     let start = 4 * places.len();
     let arcs = words.len();
@@ -126,7 +126,7 @@ pub fn write_listed(
 ) -> File
     requires { ⌜ Listing (now text) (now names) places transitions ⌝ }
     requires { ⌜ Sorted (now text) (now words) ⌝ }
-    ensures { λ r. ⌜ Answers (roomRefusal (length (now (buffer .entry))) (pnmlFile (now (text .entry)))) (pnmlFile (now (text .entry))) (now (buffer .entry)) (now (buffer .exit)) r ⌝ }
+    ensures { λ r. ⌜ Answers (roomRefusal (length (now (buffer .entry))) (readFile (now (text .entry)))) (readFile (now (text .entry))) (now (buffer .entry)) (now (buffer .exit)) r ⌝ }
 {
     let middle = 2 + places;
     write(text, &names[2..middle], transitions, words, buffer)

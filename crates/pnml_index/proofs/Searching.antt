@@ -12,7 +12,8 @@ use lib.Seq.{getD-set-same, getD-set-other, length-take-le, take-length, getD-ta
 use borrow.Author.Tests.{eqb-true, eqb-false}
 use Rattle.net.proofs.Numbers.{by-cases}
 use Rattle.pnml_page.specs.Meant.{idAt}
-use Rattle.pnml_names.specs.Names.{sameId, firstOf, position, among, repeats}
+use Rattle.pnml_names.specs.Names.{sameId, position, among, repeats}
+use Rattle.pnml_names.specs.Tables.{firstOf}
 use Rattle.pnml_names.specs.Tables.{idsIn}
 use Rattle.pnml_names.proofs.Ids.{Starts, starts, empty, character, same-eq, among-at, position-at, position-none, repeats-more, repeats-front, map-more, map-append}
 use Rattle.pnml_index.specs.Rows.{sumOf, Has, here, later, Row, Sought, Blank, Indexed}

@@ -5,7 +5,7 @@ use mathlib.Core.List.{List}
 use lib.ListN.{length, take, drop}
 use Rattle.pnml_names.specs.Tables.{idsIn, entriesIn}
 use Rattle.pnml_names.specs.declared.Which.the-variants.{Places, Transitions, Arcs}
-use Rattle.pnml_net.specs.Named.{entries, names}
+use Rattle.pnml_net.specs.Read.{entries, names}
 use Rattle.pnml_list.specs.declared.Counts.{Counts}
 
 -- `table` has the positions of the ids of the text s, which has P places and T transitions

@@ -3,7 +3,7 @@ ghost use mathlib.Core.Path.{_≡_};
 ghost use mathlib.Core.Bool.{true};
 ghost use Prim.Native.Nat.{_+_, _/_, _≤_};
 ghost use lib.ListN.{length};
-ghost use Rattle.pnml_page.specs.Profile.{ofProfile};
+ghost use Rattle.pnml_page.specs.Steps.{readWhole};
 ghost use Rattle.pnml_list.specs.Listing.{Listed};
 use pnml_names::Which;
 use pnml_names::collect;
@@ -21,7 +21,7 @@ pub struct Counts {
 // Lists the positions of the ids of a text. An element takes 15 bytes or more.
 pub fn list(text: &[u8], names: &mut [u16]) -> Counts
     requires { ⌜ length (now text) ≤ 65536 ⌝ }
-    requires { ⌜ ofProfile (now text) ≡ true ⌝ }
+    requires { ⌜ readWhole (now text) ≡ true ⌝ }
     requires { ⌜ 2 + length (now text) / 15 ≤ length (now names) ⌝ }
     ensures { λ r. ⌜ Listed (now (text .entry)) (now (names .exit)) r ⌝ }
 {

@@ -11,12 +11,13 @@ use Rattle.net.proofs.Numbers.{by-cases}
 use Rattle.pnml_text.specs.Rest.{restAt, spaces}
 use Rattle.pnml_page.specs.Meant.{meant, fromId, nameAt, Reads}
 use Rattle.pnml_page.specs.Profile
+use Rattle.pnml_page.specs.Steps
 use Rattle.pnml_page.specs.declared.Found.{Found}
 use Rattle.pnml_page.specs.declared.Element.{Element}
 use Rattle.pnml_page.specs.declared.Element.the-variants.{Place, Transition, Arc}
 use Rattle.pnml_page.proofs.Tags.{content-stop, content-on, content-end}
-use Rattle.pnml_names.specs.Names.{isWanted, keptIf, entriesOf}
-use Rattle.pnml_names.specs.Tables.{wantedAt, Kept, readAt, entriesIn}
+use Rattle.pnml_names.specs.Names.{entriesOf}
+use Rattle.pnml_names.specs.Tables.{keptIf, isWanted, wantedAt, Kept, readAt, entriesIn}
 use Rattle.pnml_names.specs.declared.Which.{Which}
 use Rattle.pnml_names.specs.declared.Which.the-variants.{Places, Transitions, Arcs}
 use Rattle.pnml_names.proofs.Ids.{map-append}
@@ -67,37 +68,37 @@ kept-at s w e h =
 pub record Collecting (s : List ℕ) (w : Which) (table₀ : List ℕ) (k : ℕ) (answer : List Profile.Element) (table : List ℕ) (a n left : ℕ) : Type 0 where
   pub found : List ℕ
   pub taken : take n table ≡ take k table₀ ++ found
-  pub so : entriesIn w s found ++ entriesOf w (Profile.content left (restAt s a) .elements) ≡ answer
+  pub so : entriesIn w s found ++ entriesOf w (Steps.content left (restAt s a) .elements) ≡ answer
   pub count : n ≡ k + length found
   pub room : length table ≡ length table₀
   pub fits : k + length answer ≤ length table₀
 
 module _ {s : List ℕ} {w : Which} {table₀ : List ℕ} {k : ℕ} {answer : List Profile.Element} {table : List ℕ} {a n left : ℕ} (inv : Collecting s w table₀ k answer table a n left) where
-  done : Profile.content left (restAt s a) .elements ≡ [] → entriesIn w s (inv .found) ≡ answer
+  done : Steps.content left (restAt s a) .elements ≡ [] → entriesIn w s (inv .found) ≡ answer
   unfolding entriesOf
   done e = sym (append-nil (entriesIn w s (inv .found))) ∙ sym (ap (λ (l : List Profile.Element). entriesIn w s (inv .found) ++ entriesOf w l) e) ∙ inv .so
 
-  pub collected-stop : (f : Found) → 0 < left → Reads s f (Profile.element (restAt s a)) → length s < f .next → entriesIn w s (inv .found) ≡ answer
-  collected-stop f h g o = done (ap (λ (y : Profile.Content). y .elements) (content-stop s left a f h g o))
+  pub collected-stop : (f : Found) → 0 < left → Reads s f (Steps.element (restAt s a)) → length s < f .next → entriesIn w s (inv .found) ≡ answer
+  collected-stop f h g o = done (ap (λ (y : Steps.Content). y .elements) (content-stop s left a f h g o))
 
   pub collected-end : left ≤ 0 → entriesIn w s (inv .found) ≡ answer
-  collected-end h = done (ap (λ (y : Profile.Content). y .elements) (content-end left (restAt s a) h))
+  collected-end h = done (ap (λ (y : Steps.Content). y .elements) (content-end left (restAt s a) h))
 
-  module _ (f : Found) (b : ℕ) (h : 0 < left) (g : Reads s f (Profile.element (restAt s a))) (i : f .next ≤ length s) (e : restAt s b ≡ spaces (restAt s (f .next))) where
+  module _ (f : Found) (b : ℕ) (h : 0 < left) (g : Reads s f (Steps.element (restAt s a))) (i : f .next ≤ length s) (e : restAt s b ≡ spaces (restAt s (f .next))) where
     -- what is left to be found: this element, where it is asked for, and those after it
-    next : entriesOf w (Profile.content left (restAt s a) .elements)
-        ≡ map (readAt w s) (keptIf (wantedAt w (f .element)) (nameAt (f .element))) ++ entriesOf w (Profile.content (left - 1) (restAt s b) .elements)
+    next : entriesOf w (Steps.content left (restAt s a) .elements)
+        ≡ map (readAt w s) (keptIf (wantedAt w (f .element)) (nameAt (f .element))) ++ entriesOf w (Steps.content (left - 1) (restAt s b) .elements)
     unfolding entriesOf
     next =
-        ap (λ (y : Profile.Content). entriesOf w (y .elements)) (content-on s left a f b h g i e)
-        ∙ ap (λ (y : List Profile.Element). y ++ entriesOf w (Profile.content (left - 1) (restAt s b) .elements)) (kept-at s w (f .element) (g .here))
+        ap (λ (y : Steps.Content). entriesOf w (y .elements)) (content-on s left a f b h g i e)
+        ∙ ap (λ (y : List Profile.Element). y ++ entriesOf w (Steps.content (left - 1) (restAt s b) .elements)) (kept-at s w (f .element) (g .here))
 
     pub room-for : {x : Bool} → x ≡ wantedAt w (f .element) → x ≡ true → n < length table
     room-for {x} p t =
         let l = ap length (inv .so) in
-        let m = length-append (entriesIn w s (inv .found)) (entriesOf w (Profile.content left (restAt s a) .elements)) in
+        let m = length-append (entriesIn w s (inv .found)) (entriesOf w (Steps.content left (restAt s a) .elements)) in
         let q = length-map (inv .found) (readAt w s) in
-        let o : length (entriesOf w (Profile.content left (restAt s a) .elements)) ≡ suc (length (entriesOf w (Profile.content (left - 1) (restAt s b) .elements))) = ap length next ∙ rw (sym p ∙ t) in
+        let o : length (entriesOf w (Steps.content left (restAt s a) .elements)) ≡ suc (length (entriesOf w (Steps.content (left - 1) (restAt s b) .elements))) = ap length next ∙ rw (sym p ∙ t) in
         omega (arith, inv .count, inv .room, inv .fits)
 
     pub collected-on : {name : ℕ} {x : Bool} {later : List ℕ} {r : ℕ} → name ≡ nameAt (f .element) → x ≡ wantedAt w (f .element) → Kept table n name x later r
@@ -108,10 +109,10 @@ module _ {s : List ℕ} {w : Which} {table₀ : List ℕ} {k : ℕ} {answer : Li
           found = inv .found ++ more;
           taken = m .taken ∙ ap (λ (y : List ℕ). y ++ more) (inv .taken) ∙ append-assoc (take k table₀) (inv .found) more;
           so =
-              ap (λ (y : List Profile.Element). y ++ entriesOf w (Profile.content (left - 1) (restAt s b) .elements)) (map-append (readAt w s) (inv .found) more)
-              ∙ append-assoc (entriesIn w s (inv .found)) (map (readAt w s) more) (entriesOf w (Profile.content (left - 1) (restAt s b) .elements))
+              ap (λ (y : List Profile.Element). y ++ entriesOf w (Steps.content (left - 1) (restAt s b) .elements)) (map-append (readAt w s) (inv .found) more)
+              ∙ append-assoc (entriesIn w s (inv .found)) (map (readAt w s) more) (entriesOf w (Steps.content (left - 1) (restAt s b) .elements))
               ∙ ap (λ (y : List Profile.Element). entriesIn w s (inv .found) ++ y)
-              ((λ j. map (readAt w s) (keptIf (q j) (p j)) ++ entriesOf w (Profile.content (left - 1) (restAt s b) .elements)) ∙ sym next)
+              ((λ j. map (readAt w s) (keptIf (q j) (p j)) ++ entriesOf w (Steps.content (left - 1) (restAt s b) .elements)) ∙ sym next)
               ∙ inv .so;
           count = omega (arith, m .count, inv .count, length-append (inv .found) more);
           room = m .room ∙ inv .room;

@@ -14,7 +14,8 @@ use Rattle.pnml_text.specs.Characters.{kindOf, goesOn}
 use Rattle.pnml_text.specs.declared.Run.the-variants.{Id}
 use Rattle.pnml_text.proofs.Runs.{front-on, front-stop, front-end}
 use Rattle.pnml_page.specs.Meant.{idAt}
-use Rattle.pnml_names.specs.Names.{sameId, firstOf, position, among, repeats}
+use Rattle.pnml_names.specs.Names.{sameId, position, among, repeats}
+use Rattle.pnml_names.specs.Tables.{firstOf}
 
 -- the character of an id
 module _ (s : List ℕ) (i : ℕ) where

@@ -2,17 +2,31 @@
 use Prim.Native.Nat.{ℕ, _+_}
 use mathlib.Core.Path.{_≡_}
 use mathlib.Core.Bool.{Bool, true, false}
-use mathlib.Core.List.{List, _++_, map}
+use mathlib.Core.List.{List, [], _∷_, _++_, map}
+use lib.Dec.{eqb}
 use lib.ListN.{length, take}
 use Rattle.pnml_text.specs.Rest.{restAt}
 use Rattle.pnml_page.specs.Meant.{idAt}
 use Rattle.pnml_page.specs.Profile
-use Rattle.pnml_page.specs.Profile.{content, most, placeRead, transitionRead, arcRead}
+use Rattle.pnml_page.specs.Steps.{content, most, placeRead, transitionRead, arcRead}
 use Rattle.pnml_page.specs.declared.Element.{Element}
 use Rattle.pnml_page.specs.declared.Element.the-variants.{Place, Transition, Arc}
-use Rattle.pnml_names.specs.Names.{keptIf, entriesOf}
+use Rattle.pnml_names.specs.Names.{pick, sortOf, entriesOf}
 use Rattle.pnml_names.specs.declared.Which.{Which}
 use Rattle.pnml_names.specs.declared.Which.the-variants.{Places, Transitions, Arcs}
+
+-- x where the test holds
+abbrev pub keptIf : {A : Type 0} → Bool → A → List A
+keptIf b x = pick b (x ∷ []) []
+
+-- the first character of an id; 0 where there is none
+abbrev pub firstOf : List ℕ → ℕ
+firstOf [] = 0
+firstOf (b ∷ x) = b
+
+-- whether an element is one of those that are asked for: as the text has it, and as the code holds it
+abbrev pub isWanted : Which → Profile.Element → Bool
+isWanted w e = eqb (e .sort) (sortOf w)
 
 abbrev pub wantedAt : Which → Element → Bool
 wantedAt Places (Place a n) = true

@@ -6,15 +6,16 @@ use mathlib.Core.List.{List, [], _∷_, _++_}
 use native.Mathlib.Omega.{arith}
 use lib.Dec.{ltb}
 use lib.ListN.{length}
-use borrow.Author.Tests.{ltb-false}
+use borrow.Author.Tests.{ltb-true, ltb-false, lt-ltb, le-ltb}
 use Rattle.net.specs.declared.Arc.{Arc}
 use Rattle.net.proofs.Numbers.{by-cases, and-true}
 use Rattle.file_arcs.specs.Refusal.{key}
 use Rattle.file_arcs.specs.Facts.{ArcGood, InRange}
-use Rattle.pnml_page.specs.Profile.{Element, aPlace, aTransition, anArc}
+use Rattle.pnml_page.specs.Profile.{Element}
 use Rattle.pnml_names.specs.Names.{position, among}
 use Rattle.pnml_names.proofs.Ids.{or-false, position-among}
-use Rattle.pnml_net.specs.Named.{joined, arcsOf, isNone, anyApart, numberOf, anyOff, insert, sortOnto, sorted}
+use Rattle.pnml_net.specs.Read.{isNone, anyApart, numberOf, sorted}
+use Rattle.pnml_net.specs.Named.{joined, arcsOf, anyOff, insert, sortOnto}
 
 abbrev headOr : Arc → List Arc → Arc
 headOr d [] = d
@@ -39,18 +40,18 @@ pub data One (places transitions : List (List ℕ)) (e : Element) : Type 0 where
   one : (a : Arc) → joined places transitions e ≡ a ∷ [] → Known (length places) (length transitions) (numberOf e) a → One places transitions e
 
 pub one-of : (places transitions : List (List ℕ)) (e : Element) → One places transitions e
-one-of places transitions (aPlace k n) = none refl
-one-of places transitions (aTransition k) = none refl
-one-of places transitions (anArc k x y n) =
+one-of places transitions e =
+    let x = e .source in
+    let y = e .target in
     by-cases (among x places && among y transitions)
     (λ t.
     let u = and-true (among x places) (among y transitions) t in
-    one (record { transition = position y transitions; direction = 0; place = position x places; weight = n }) (rw t)
+    one (record { transition = position y transitions; direction = 0; place = position x places; weight = e .number }) (rw t)
     (record { weight = refl; transition = position-among y transitions (u .1); direction = omega arith; place = position-among x places (u .0) }))
     (λ f. by-cases (among y places && among x transitions)
     (λ t.
     let u = and-true (among y places) (among x transitions) t in
-    one (record { transition = position x transitions; direction = 1; place = position y places; weight = n }) (rw (f, t))
+    one (record { transition = position x transitions; direction = 1; place = position y places; weight = e .number }) (rw (f, t))
     (record { weight = refl; transition = position-among x transitions (u .1); direction = omega arith; place = position-among y places (u .0) }))
     (λ t. none (rw (f, t))))
 
@@ -112,6 +113,12 @@ not-off least most e l f =
     let b = or-false (ltb (numberOf e) least) (ltb most (numberOf e)) (a .0) in
     (ltb-false (numberOf e) least (b .0), ltb-false most (numberOf e) (b .1), a .1)
 
+next-ltb : (m n : ℕ) → ltb m n ≡ ltb (suc m) (suc n)
+next-ltb m n =
+    by-cases (ltb m n)
+    (λ t. t ∙ sym (lt-ltb (suc m) (suc n) (let g = ltb-true m n t in omega arith)))
+    (λ f. f ∙ sym (le-ltb (suc m) (suc n) (let g = ltb-false m n f in omega arith)))
+
 module _ (places transitions : List (List ℕ)) where
   -- the arcs of elements that all join, of which no weight is off
   pub arcs-fine : (l : List Element) → anyApart places transitions l ≡ false → anyOff 1 65535 l ≡ false → AllFine (length places) (length transitions) (arcsOf places transitions l)
@@ -140,3 +147,23 @@ module _ (places transitions : List (List ℕ)) where
           → length (joined places transitions e ++ arcsOf places transitions l) ≡ suc (length l)
       go (none q) h i = absurd (true≢false (sym (ap isNone q) ∙ h))
       go (one x q k) h i = rw q (ap suc i)
+
+  -- elements of which one does not join have fewer arcs than they are
+  few-arcs : (l : List Element) → length (arcsOf places transitions l) ≤ length l
+  unfolding arcsOf
+  few-arcs [] = omega arith
+  few-arcs (e ∷ l) = go (one-of places transitions e) (few-arcs l)
+    where
+      go : One places transitions e → length (arcsOf places transitions l) ≤ length l → length (joined places transitions e ++ arcsOf places transitions l) ≤ suc (length l)
+      go (none q) i = rw q (omega arith)
+      go (one x q k) i = rw q (omega arith)
+
+  pub apart-is : (l : List Element) → anyApart places transitions l ≡ ltb (length (arcsOf places transitions l)) (length l)
+  unfolding anyApart arcsOf
+  apart-is [] = refl
+  apart-is (e ∷ l) = go (one-of places transitions e) (few-arcs l) (apart-is l)
+    where
+      go : One places transitions e → length (arcsOf places transitions l) ≤ length l → anyApart places transitions l ≡ ltb (length (arcsOf places transitions l)) (length l)
+          → (isNone (joined places transitions e) || anyApart places transitions l) ≡ ltb (length (joined places transitions e ++ arcsOf places transitions l)) (suc (length l))
+      go (none q) h i = rw q (sym (lt-ltb (length (arcsOf places transitions l)) (suc (length l)) (omega arith)))
+      go (one x q k) h i = rw q (i ∙ next-ltb (length (arcsOf places transitions l)) (length l))

@@ -10,11 +10,11 @@ use borrow.Author.Tests.{eqb-true, eq-eqb, ne-eqb}
 use Rattle.net.specs.Net.{counted, weightOn}
 use Rattle.net.specs.declared.Arc.{Arc}
 use Rattle.net.proofs.Numbers.{by-cases, and-true}
-use Rattle.pnml_page.specs.Profile.{Element, aPlace, aTransition, anArc}
-use Rattle.pnml_names.specs.Names.{entriesOf, sameId, position, among, repeats}
-use Rattle.pnml_names.specs.declared.Which.the-variants.{Arcs}
+use Rattle.pnml_page.specs.Profile.{Element}
+use Rattle.pnml_names.specs.Names.{sameId, position, among, repeats}
 use Rattle.pnml_names.proofs.Ids.{same-eq, same-refl, or-false, no-other, repeats-front, repeats-back}
-use Rattle.pnml_net.specs.Named.{joined, arcsOf, isNone, anyApart}
+use Rattle.pnml_net.specs.Read.{isNone, anyApart}
+use Rattle.pnml_net.specs.Named.{joined, arcsOf}
 use Rattle.pnml_net.specs.Drawn.{drawn}
 
 -- where no id stands twice, an id has the number of an id exactly if it is that id
@@ -84,9 +84,18 @@ module _ (ps ts : List (List ℕ)) (once : repeats (ps ++ ts) ≡ false) (p t : 
   is-transition : (x : List ℕ) → among x ts ≡ true → eqb (position x ts) t ≡ sameId x transition
   is-transition x a = same-number x ts t (repeats-back ps ts once) a ht
 
-  -- one arc, from x to y
-  module _ (i x y : List ℕ) (n : ℕ) (there : isNone (joined ps ts (anArc i x y n)) ≡ false) where
-    one-taken : weightOn 0 p t (joined ps ts (anArc i x y n)) ≡ counted (sameId x place && sameId y transition) n
+  -- one arc
+  module _ (a : Element) (there : isNone (joined ps ts a) ≡ false) where
+    abbrev x : List ℕ
+    x = a .source
+
+    abbrev y : List ℕ
+    y = a .target
+
+    abbrev n : ℕ
+    n = a .number
+
+    one-taken : weightOn 0 p t (joined ps ts a) ≡ counted (sameId x place && sameId y transition) n
     unfolding weightOn
     one-taken = by-cases (among x ps && among y ts)
         (λ e.
@@ -101,7 +110,7 @@ module _ (ps ts : List (List ℕ)) (once : repeats (ps ++ ts) ≡ false) (p t : 
         plus-none : (k : ℕ) → k + 0 ≡ k
         plus-none k = omega arith
 
-    one-given : weightOn 1 p t (joined ps ts (anArc i x y n)) ≡ counted (sameId x transition && sameId y place) n
+    one-given : weightOn 1 p t (joined ps ts a) ≡ counted (sameId x transition && sameId y place) n
     unfolding weightOn
     one-given = by-cases (among x ps && among y ts)
         (λ e.
@@ -116,22 +125,18 @@ module _ (ps ts : List (List ℕ)) (once : repeats (ps ++ ts) ≡ false) (p t : 
         plus-none : (k : ℕ) → k + 0 ≡ k
         plus-none k = omega arith
 
-  pub taken-drawn : (l : List Element) → anyApart ps ts (entriesOf Arcs l) ≡ false → weightOn 0 p t (arcsOf ps ts (entriesOf Arcs l)) ≡ drawn place transition l
-  unfolding entriesOf anyApart arcsOf drawn weightOn
+  pub taken-drawn : (l : List Element) → anyApart ps ts l ≡ false → weightOn 0 p t (arcsOf ps ts l) ≡ drawn place transition l
+  unfolding anyApart arcsOf drawn weightOn
   taken-drawn [] f = refl
-  taken-drawn (aPlace i n ∷ l) f = taken-drawn l f
-  taken-drawn (aTransition i ∷ l) f = taken-drawn l f
-  taken-drawn (anArc i x y n ∷ l) f =
-      let a = or-false (isNone (joined ps ts (anArc i x y n))) (anyApart ps ts (entriesOf Arcs l)) f in
-      let w = weight-append 0 p t (joined ps ts (anArc i x y n)) (arcsOf ps ts (entriesOf Arcs l)) in
-      w ∙ (λ j. one-taken i x y n (a .0) j + taken-drawn l (a .1) j)
+  taken-drawn (e ∷ l) f =
+      let a = or-false (isNone (joined ps ts e)) (anyApart ps ts l) f in
+      let w = weight-append 0 p t (joined ps ts e) (arcsOf ps ts l) in
+      w ∙ (λ j. one-taken e (a .0) j + taken-drawn l (a .1) j)
 
-  pub given-drawn : (l : List Element) → anyApart ps ts (entriesOf Arcs l) ≡ false → weightOn 1 p t (arcsOf ps ts (entriesOf Arcs l)) ≡ drawn transition place l
-  unfolding entriesOf anyApart arcsOf drawn weightOn
+  pub given-drawn : (l : List Element) → anyApart ps ts l ≡ false → weightOn 1 p t (arcsOf ps ts l) ≡ drawn transition place l
+  unfolding anyApart arcsOf drawn weightOn
   given-drawn [] f = refl
-  given-drawn (aPlace i n ∷ l) f = given-drawn l f
-  given-drawn (aTransition i ∷ l) f = given-drawn l f
-  given-drawn (anArc i x y n ∷ l) f =
-      let a = or-false (isNone (joined ps ts (anArc i x y n))) (anyApart ps ts (entriesOf Arcs l)) f in
-      let w = weight-append 1 p t (joined ps ts (anArc i x y n)) (arcsOf ps ts (entriesOf Arcs l)) in
-      w ∙ (λ j. one-given i x y n (a .0) j + given-drawn l (a .1) j)
+  given-drawn (e ∷ l) f =
+      let a = or-false (isNone (joined ps ts e)) (anyApart ps ts l) f in
+      let w = weight-append 1 p t (joined ps ts e) (arcsOf ps ts l) in
+      w ∙ (λ j. one-given e (a .0) j + given-drawn l (a .1) j)

@@ -1,4 +1,3 @@
 pub mod Sorted
 pub mod Arcs
 pub mod Drawing
-pub mod Examples

@@ -11,8 +11,14 @@ use Rattle.net.specs.declared.Arc.{Arc}
 use Rattle.net.proofs.Numbers.{by-cases}
 use Rattle.file_arcs.specs.Refusal.{key}
 use Rattle.file_arcs.specs.Facts.{OrderedFrom}
-use Rattle.pnml_net.specs.Drawn.{ifKept, parallels}
-use Rattle.pnml_net.specs.Named.{insert, sortOnto, sorted}
+use Rattle.pnml_names.specs.Names.{pick}
+use Rattle.pnml_net.specs.Drawn.{parallels}
+use Rattle.pnml_net.specs.Read.{sorted}
+use Rattle.pnml_net.specs.Named.{insert, sortOnto}
+
+-- a list with one more before it, where the test holds
+abbrev ifKept : Bool → Arc → List Arc → List Arc
+ifKept t a l = pick t (a ∷ l) l
 
 insert-ordered : (least : ℕ) (a : Arc) (l : List Arc) → least ≤ key a → OrderedFrom least (map key l) → OrderedFrom least (map key (insert a l))
 unfolding insert

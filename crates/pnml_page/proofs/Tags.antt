@@ -8,7 +8,7 @@ use lib.Dec.{eqb, leb}
 use lib.ListN.{length, drop}
 use Rattle.pnml_text.specs.Words.{bytes}
 use Rattle.pnml_text.specs.Rest.{Rest, outside, more, word, spaces, id, restAt, idOf, front}
-use Rattle.pnml_page.specs.Profile
+use Rattle.pnml_page.specs.Steps
 use Rattle.pnml_page.specs.Meant.{Reads, HasEnds, idAt, meant}
 use Rattle.pnml_page.specs.declared.Found.{Found}
 use Rattle.pnml_page.specs.declared.Ends.{Ends}
@@ -22,7 +22,7 @@ use Rattle.net.proofs.Numbers.{by-cases}
 use Rattle.pnml_page.proofs.Sizes.{size, before-within, place-size, transition-size, arc-size}
 use Rattle.pnml_text.proofs.Runs.{left-rest, rest-in, rest-out}
 use Rattle.pnml_text.specs.declared.Run.the-variants.{Id}
-use Rattle.pnml_page.specs.Profile.{Number, Holds, held, label, tail, place, orMissing, orClosed, ended}
+use Rattle.pnml_page.specs.Steps.{Number, Holds, held, label, tail, place, orMissing, orClosed, ended}
 use Rattle.pnml_page.specs.declared.Numbered.{Numbered}
 
 module _ (s : List ℕ) (a : ℕ) (start stop : List ℕ) (missing : ℕ) where
@@ -90,33 +90,33 @@ place-as s a finish {r} e h =
 
 -- choices by whether a word stands at a position
 module _ (s : List ℕ) (p : ℕ) {x : Rest} (e : restAt s p ≡ x) where
-  pub or-stands : (other : Rest) → p ≤ length s → Profile.orElse x other ≡ restAt s p
+  pub or-stands : (other : Rest) → p ≤ length s → Steps.orElse x other ≡ restAt s p
   or-stands other i = rw (← e, rest-in s p i)
 
-  pub or-not : (other : Rest) → length s < p → Profile.orElse x other ≡ other
+  pub or-not : (other : Rest) → length s < p → Steps.orElse x other ≡ other
   or-not other o = rw (← e, rest-out s p o)
 
-  pub stands : (f : Rest → Profile.Read) (other : Profile.Read) → p ≤ length s → Profile.ifStands x f other ≡ f (restAt s p)
+  pub stands : (f : Rest → Steps.Read) (other : Steps.Read) → p ≤ length s → Steps.ifStands x f other ≡ f (restAt s p)
   stands f other i = rw (← e, rest-in s p i)
 
-  pub stands-not : (f : Rest → Profile.Read) (other : Profile.Read) → length s < p → Profile.ifStands x f other ≡ other
+  pub stands-not : (f : Rest → Steps.Read) (other : Steps.Read) → length s < p → Steps.ifStands x f other ≡ other
   stands-not f other o = rw (← e, rest-out s p o)
 
-  pub is-read : (none some : Profile.Content) → p ≤ length s → Profile.ifRead x none some ≡ some
+  pub is-read : (none some : Steps.Content) → p ≤ length s → Steps.ifRead x none some ≡ some
   is-read none some i = rw (← e, rest-in s p i)
 
-  pub not-read : (none some : Profile.Content) → length s < p → Profile.ifRead x none some ≡ none
+  pub not-read : (none some : Steps.Content) → length s < p → Steps.ifRead x none some ≡ none
   not-read none some o = rw (← e, rest-out s p o)
 
 module _ (s : List ℕ) (a named closed : ℕ) (e1 : restAt s named ≡ id (restAt s a)) (e2 : restAt s closed ≡ word (bytes "\"/>") (restAt s named)) where
-  pub transition-closed : closed ≤ length s → restAt s closed ≡ Profile.transition (restAt s a)
-  unfolding Profile.transition
+  pub transition-closed : closed ≤ length s → restAt s closed ≡ Steps.transition (restAt s a)
+  unfolding Steps.transition
   transition-closed i = sym (or-stands s closed (e2 ∙ ap (word (bytes "\"/>")) e1) _ i)
 
   pub transition-open : (opened inside last : ℕ) → length s < closed → restAt s opened ≡ word (bytes "\">") (restAt s named)
       → restAt s inside ≡ spaces (restAt s opened) → restAt s last ≡ word (bytes "</transition>") (restAt s inside)
-      → restAt s last ≡ Profile.transition (restAt s a)
-  unfolding Profile.transition
+      → restAt s last ≡ Steps.transition (restAt s a)
+  unfolding Steps.transition
   transition-open opened inside last o e3 e4 e5 =
       rw (e5, e4, e3, e1) (sym (or-not s closed (e2 ∙ ap (word (bytes "\"/>")) e1) _ o))
 
@@ -127,75 +127,75 @@ id-at s a = ap (front Id) (sym (left-rest s a))
 
 module _ (s : List ℕ) (a p : ℕ) (e1 : restAt s p ≡ word (bytes "<place id=\"") (restAt s a)) where
   pub place-read : {h : Numbered} → p ≤ length s → Holds s h (place (restAt s p))
-      → Reads s (record { element = Place p (h .number); next = h .next }) (Profile.element (restAt s a))
-  unfolding Profile.element
+      → Reads s (record { element = Place p (h .number); next = h .next }) (Steps.element (restAt s a))
+  unfolding Steps.element
   place-read {h} i g =
-      let w = stands s p e1 Profile.placeRead _ i in
+      let w = stands s p e1 Steps.placeRead _ i in
       record {
-        here = ap (λ (y : List ℕ). Profile.aPlace y (h .number)) (id-at s p) ∙ ap (Profile.aPlace (idOf (restAt s p))) (g .number);
-        element = ap (λ (y : List ℕ). Profile.aPlace y (h .number)) (id-at s p) ∙ ap (Profile.aPlace (idOf (restAt s p))) (g .number) ∙ ap (λ (y : Profile.Read). y .element) (sym w);
-        rest = g .rest ∙ ap (λ (y : Profile.Read). y .rest) (sym w);
+        here = ap (λ (y : List ℕ). Steps.aPlace y (h .number)) (id-at s p) ∙ ap (Steps.aPlace (idOf (restAt s p))) (g .number);
+        element = ap (λ (y : List ℕ). Steps.aPlace y (h .number)) (id-at s p) ∙ ap (Steps.aPlace (idOf (restAt s p))) (g .number) ∙ ap (λ (y : Steps.Read). y .element) (sym w);
+        rest = g .rest ∙ ap (λ (y : Steps.Read). y .rest) (sym w);
         within = λ k. omega (arith, before-within s p (h .next) 3 (omega (arith, ap size (g .rest), place-size (restAt s p))) k);
       }
 
   module _ (t : ℕ) (o : length s < p) (e2 : restAt s t ≡ word (bytes "<transition id=\"") (restAt s a)) where
-    pub transition-read : {next : ℕ} → t ≤ length s → restAt s next ≡ Profile.transition (restAt s t)
-        → Reads s (record { element = Transition t; next = next }) (Profile.element (restAt s a))
-    unfolding Profile.element
+    pub transition-read : {next : ℕ} → t ≤ length s → restAt s next ≡ Steps.transition (restAt s t)
+        → Reads s (record { element = Transition t; next = next }) (Steps.element (restAt s a))
+    unfolding Steps.element
     transition-read {next} i g =
-        let w = stands-not s p e1 Profile.placeRead _ o ∙ stands s t e2 Profile.transitionRead _ i in
+        let w = stands-not s p e1 Steps.placeRead _ o ∙ stands s t e2 Steps.transitionRead _ i in
         record {
-          here = ap Profile.aTransition (id-at s t);
-          element = ap Profile.aTransition (id-at s t) ∙ ap (λ (y : Profile.Read). y .element) (sym w);
-          rest = g ∙ ap (λ (y : Profile.Read). y .rest) (sym w);
+          here = ap Steps.aTransition (id-at s t);
+          element = ap Steps.aTransition (id-at s t) ∙ ap (λ (y : Steps.Read). y .element) (sym w);
+          rest = g ∙ ap (λ (y : Steps.Read). y .rest) (sym w);
           within = λ k. omega (arith, before-within s t next 3 (omega (arith, ap size g, transition-size (restAt s t))) k);
         }
 
     pub arc-read : (r : ℕ) {h : Ends} → length s < t → restAt s r ≡ word (bytes "<arc id=\"") (restAt s a) → HasEnds s h (restAt s r)
-        → Reads s (record { element = Arc r (h .source) (h .target) (h .number); next = h .next }) (Profile.element (restAt s a))
-    unfolding Profile.element
+        → Reads s (record { element = Arc r (h .source) (h .target) (h .number); next = h .next }) (Steps.element (restAt s a))
+    unfolding Steps.element
     arc-read r {h} n e3 g =
-        let w = stands-not s p e1 Profile.placeRead _ o ∙ stands-not s t e2 Profile.transitionRead _ n ∙ ap Profile.arcRead (sym e3) in
-        let b : idAt s (h .source) ≡ idOf (Profile.source (restAt s r)) = id-at s (h .source) ∙ ap idOf (g .source) in
-        let d : idAt s (h .target) ≡ idOf (Profile.target (restAt s r)) = id-at s (h .target) ∙ ap idOf (g .target) in
+        let w = stands-not s p e1 Steps.placeRead _ o ∙ stands-not s t e2 Steps.transitionRead _ n ∙ ap Steps.arcRead (sym e3) in
+        let b : idAt s (h .source) ≡ idOf (Steps.source (restAt s r)) = id-at s (h .source) ∙ ap idOf (g .source) in
+        let d : idAt s (h .target) ≡ idOf (Steps.target (restAt s r)) = id-at s (h .target) ∙ ap idOf (g .target) in
         record {
-          here = λ j. Profile.anArc (id-at s r j) (b j) (d j) (g .number j);
+          here = λ j. Steps.anArc (id-at s r j) (b j) (d j) (g .number j);
           element =
-              (λ j. Profile.anArc (id-at s r j) (b j) (d j) (g .number j)) ∙ ap (λ (y : Profile.Read). y .element) (sym w);
-          rest = g .rest ∙ ap (λ (y : Profile.Read). y .rest) (sym w);
+              (λ j. Steps.anArc (id-at s r j) (b j) (d j) (g .number j)) ∙ ap (λ (y : Steps.Read). y .element) (sym w);
+          rest = g .rest ∙ ap (λ (y : Steps.Read). y .rest) (sym w);
           within = λ k. omega (arith, before-within s r (h .next) 25 (omega (arith, ap size (g .rest), arc-size (restAt s r))) k);
         }
 
 -- the elements, one at a time
 content-step : (n : ℕ) (r : Rest) → 0 < n
-    → Profile.content n r
-    ≡ Profile.ifRead (Profile.element r .rest) (record { elements = []; rest = r })
-    (Profile.before (Profile.element r .element) (Profile.content (n - 1) (spaces (Profile.element r .rest))))
-unfolding Profile.content
+    → Steps.content n r
+    ≡ Steps.ifRead (Steps.element r .rest) (record { elements = []; rest = r })
+    (Steps.before (Steps.element r .element) (Steps.content (n - 1) (spaces (Steps.element r .rest))))
+unfolding Steps.content
 content-step zero r h = absurd (lt-irrefl 0 h)
 content-step (suc n) r h = rw sub-one
 
-pub content-stop : (s : List ℕ) (n a : ℕ) (f : Found) → 0 < n → Reads s f (Profile.element (restAt s a)) → length s < f .next
-    → Profile.content n (restAt s a) ≡ record { elements = []; rest = restAt s a }
+pub content-stop : (s : List ℕ) (n a : ℕ) (f : Found) → 0 < n → Reads s f (Steps.element (restAt s a)) → length s < f .next
+    → Steps.content n (restAt s a) ≡ record { elements = []; rest = restAt s a }
 content-stop s n a f h g o = content-step n (restAt s a) h ∙ not-read s (f .next) (g .rest) _ _ o
 
-pub content-on : (s : List ℕ) (n a : ℕ) (f : Found) (b : ℕ) → 0 < n → Reads s f (Profile.element (restAt s a)) → f .next ≤ length s
+pub content-on : (s : List ℕ) (n a : ℕ) (f : Found) (b : ℕ) → 0 < n → Reads s f (Steps.element (restAt s a)) → f .next ≤ length s
     → restAt s b ≡ spaces (restAt s (f .next))
-    → Profile.content n (restAt s a) ≡ Profile.before (meant s (f .element)) (Profile.content (n - 1) (restAt s b))
+    → Steps.content n (restAt s a) ≡ Steps.before (meant s (f .element)) (Steps.content (n - 1) (restAt s b))
 content-on s n a f b h g i e =
     content-step n (restAt s a) h ∙ is-read s (f .next) (g .rest) _ _ i
-    ∙ sym (λ j. Profile.before (g .element j) (Profile.content (n - 1) ((e ∙ ap spaces (g .rest)) j)))
+    ∙ sym (λ j. Steps.before (g .element j) (Steps.content (n - 1) ((e ∙ ap spaces (g .rest)) j)))
 
-pub content-end : (n : ℕ) (r : Rest) → n ≤ 0 → Profile.content n r ≡ record { elements = []; rest = r }
-unfolding Profile.content
+pub content-end : (n : ℕ) (r : Rest) → n ≤ 0 → Steps.content n r ≡ record { elements = []; rest = r }
+unfolding Steps.content
 content-end n r h = rw (le-zero h)
 
-pub nothing-left : (s : List ℕ) (p : ℕ) → eqb p (length s) ≡ Profile.nothing (restAt s p)
+pub nothing-left : (s : List ℕ) (p : ℕ) → eqb p (length s) ≡ Steps.nothing (restAt s p)
 nothing-left s p =
     by-cases (leb p (length s))
-    (λ t. go (leb-true p (length s) t) (eqb p (length s)) refl ∙ ap Profile.nothing (sym (rest-in s p (leb-true p (length s) t))))
-    (λ f. ne-eqb p (length s) (λ e. (let h = leb-false p (length s) f in omega arith)) ∙ ap Profile.nothing (sym (rest-out s p (leb-false p (length s) f))))
+    (λ t. go (leb-true p (length s) t) (eqb p (length s)) refl ∙ ap Steps.nothing (sym (rest-in s p (leb-true p (length s) t))))
+    (λ f. ne-eqb p (length s) (λ e. (let h = leb-false p (length s) f in omega arith)) ∙ ap Steps.nothing (sym (rest-out s p (leb-false p (length s) f))))
   where
-    go : p ≤ length s → (b : Bool) → eqb p (length s) ≡ b → eqb p (length s) ≡ Profile.nothing (more (drop p s))
+    go : p ≤ length s → (b : Bool) → eqb p (length s) ≡ b → eqb p (length s) ≡ Steps.nothing (more (drop p s))
     go i true e = let q = eqb-true p (length s) e in rw q (eq-eqb (length s) (length s) refl ∙ rw (drop-length s))
     go i false e = let q = eqb-false p (length s) e in let h : p < length s = omega (arith, q) in e ∙ rw (drop-cons s p 0 h)

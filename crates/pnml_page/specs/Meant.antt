@@ -5,7 +5,8 @@ use mathlib.Core.List.{List}
 use lib.ListN.{length, drop}
 use Rattle.pnml_text.specs.Rest.{Rest, front, restAt}
 use Rattle.pnml_page.specs.Profile
-use Rattle.pnml_page.specs.Profile.{aPlace, aTransition, anArc}
+use Rattle.pnml_page.specs.Steps
+use Rattle.pnml_page.specs.Steps.{aPlace, aTransition, anArc}
 use Rattle.pnml_text.specs.declared.Run.the-variants.{Id}
 use Rattle.pnml_page.specs.declared.Element.{Element}
 use Rattle.pnml_page.specs.declared.Element.the-variants.{Place, Transition, Arc}
@@ -24,9 +25,9 @@ meant s (Arc a b e n) = anArc (idAt s a) (idAt s b) (idAt s e) n
 
 -- what stands from an element's id on
 abbrev pub fromId : List ℕ → Element → Profile.Element
-fromId s (Place a n) = Profile.placeRead (restAt s a) .element
-fromId s (Transition a) = Profile.transitionRead (restAt s a) .element
-fromId s (Arc a b e n) = Profile.arcRead (restAt s a) .element
+fromId s (Place a n) = Steps.placeRead (restAt s a) .element
+fromId s (Transition a) = Steps.transitionRead (restAt s a) .element
+fromId s (Arc a b e n) = Steps.arcRead (restAt s a) .element
 
 -- where the id of an element stands
 abbrev pub nameAt : Element → ℕ
@@ -35,7 +36,7 @@ nameAt (Transition a) = a
 nameAt (Arc a b e n) = a
 
 -- what was found is the element that stands there
-pub record Reads (s : List ℕ) (f : Found) (r : Profile.Read) : Type 0 where
+pub record Reads (s : List ℕ) (f : Found) (r : Steps.Read) : Type 0 where
   pub element : meant s (f .element) ≡ r .element
   pub here : meant s (f .element) ≡ fromId s (f .element)
   pub rest : restAt s (f .next) ≡ r .rest
@@ -43,7 +44,7 @@ pub record Reads (s : List ℕ) (f : Found) (r : Profile.Read) : Type 0 where
 
 -- the ends and the number of an arc
 pub record HasEnds (s : List ℕ) (e : Ends) (r : Rest) : Type 0 where
-  pub source : restAt s (e .source) ≡ Profile.source r
-  pub target : restAt s (e .target) ≡ Profile.target r
-  pub number : e .number ≡ Profile.arc r .number
-  pub rest : restAt s (e .next) ≡ Profile.arc r .rest
+  pub source : restAt s (e .source) ≡ Steps.source r
+  pub target : restAt s (e .target) ≡ Steps.target r
+  pub number : e .number ≡ Steps.arc r .number
+  pub rest : restAt s (e .next) ≡ Steps.arc r .rest

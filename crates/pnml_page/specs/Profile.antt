@@ -1,159 +1,145 @@
--- The strict profile of PNML that is taken (document 02, A10), as the steps that read it. In each step a tag is written out, so "Attributes stand in the order given, in double
--- quotes, one space before each", and `spaces` stands where "White space .. stands only before the first tag, after the last, and between two tags with no digits between them".
-use Prim.Native.Nat.{ℕ, zero, suc}
-use mathlib.Core.Path.{_≡_}
-use mathlib.Core.List.{List, [], _∷_}
-use mathlib.Core.Bool.{Bool, true, false}
-use Rattle.pnml_page.specs.declared.Numbered.{Numbered}
+-- The strict profile of PNML that is taken (document 02, A10): which pieces stand in a text, one after the other. "Nothing else is taken".
+-- A tag is written out in full: "Attributes stand in the order given, in double quotes, one space before each".
+use Prim.Native.Nat.{ℕ, zero, suc, _+_, _-_, _*_}
+use Prim.Native.String.{String}
+use mathlib.Core.Bool.{Bool, true, false, _||_, _&&_}
+use mathlib.Core.List.{List, [], _∷_, _++_}
+use lib.ListN.{length, take, drop, getD}
+use lib.Dec.{eqb, ltb}
 use Rattle.pnml_text.specs.Words.{bytes}
-use Rattle.pnml_text.specs.Rest.{Rest, outside, more, word, spaces, id, idOf, digits, numberOf, restAt}
+use Rattle.pnml_text.specs.Characters.{isSpace, isDigit, isId}
+use Rattle.pnml_text.specs.Rest.{decimal}
 
--- a number and what stands after it
-pub record Number : Type 0 where
+-- a text starts with a word
+unfoldable pub starts : List ℕ → List ℕ → Bool
+starts [] s = true
+starts (a ∷ w) [] = false
+starts (a ∷ w) (b ∷ s) = eqb b a && starts w s
+
+-- the longest run of such characters at the start of a text
+unfoldable pub run : (ℕ → Bool) → List ℕ → List ℕ
+run f [] = []
+run f (b ∷ s) = elim (f b) [ true ↦ b ∷ run f s | false ↦ [] ]
+
+-- and what stands after it
+abbrev pub past : (ℕ → Bool) → List ℕ → List ℕ
+past f s = drop (length (run f s)) s
+
+-- what a text is made of: these bytes; white space or none; an id; digits
+pub data Piece : Type 0 where
+  tag : String → Piece
+  blank : Piece
+  name : Piece
+  number : Piece
+
+-- the ids and the digits that were read, and what is left; or the text is outside the profile
+pub data Parse : Type 0 where
+  failed : Parse
+  parsed : List (List ℕ) → List ℕ → Parse
+
+-- a piece is read. "ids have 1 to 32 characters"; "one or more decimal digits"
+unfoldable pub next : Parse → Piece → Parse
+next failed p = failed
+next (parsed held s) (tag w) = elim (starts (bytes w) s) [ true ↦ parsed held (drop (length (bytes w)) s) | false ↦ failed ]
+next (parsed held s) blank = parsed held (past isSpace s)
+next (parsed held s) name = elim (eqb (length (run isId s)) 0 || ltb 32 (length (run isId s))) [ true ↦ failed | false ↦ parsed (held ++ (run isId s ∷ [])) (past isId s) ]
+next (parsed held s) number = elim (eqb (length (run isDigit s)) 0) [ true ↦ failed | false ↦ parsed (held ++ (run isDigit s ∷ [])) (past isDigit s) ]
+
+unfoldable pub reads : Parse → List Piece → Parse
+reads r [] = r
+reads r (p ∷ l) = reads (next r p) l
+
+-- a place (sort 0) with its marking, a transition (1), or an arc (2) with the ids of its ends and its weight
+pub record Element : Type 0 where
+  pub sort : ℕ
+  pub id : List ℕ
+  pub source : List ℕ
+  pub target : List ℕ
   pub number : ℕ
-  pub rest : Rest
 
--- the code's number and position are those
-pub record Holds (s : List ℕ) (r : Numbered) (n : Number) : Type 0 where
-  pub number : r .number ≡ n .number
-  pub rest : restAt s (r .next) ≡ n .rest
+-- a form of an element: its sort, how many ids it has, its number where no digits stand, its pieces
+pub record Form : Type 0 where
+  pub sort : ℕ
+  pub ids : ℕ
+  pub missing : ℕ
+  pub pieces : List Piece
 
--- in a label, "holding one text of one or more decimal digits", up to its closing tag
-unfoldable pub held : List ℕ → Rest → Number
-held stop r =
-    record { number = numberOf (word (bytes "<text>") (spaces r)); rest = spaces (word stop (spaces (word (bytes "</text>") (digits (word (bytes "<text>") (spaces r)))))) }
+-- the element by the ids and the digits that were read
+abbrev pub made : Form → List (List ℕ) → Element
+made f held = record {
+  sort = f .sort;
+  id = getD held 0 [];
+  source = getD (take (f .ids) held) 1 [];
+  target = getD (take (f .ids) held) 2 [];
+  number = elim (drop (f .ids) held) [ [] ↦ f .missing | n ∷ l ↦ decimal 0 n ];
+}
 
--- the label where it stands, else the number for a missing one
-abbrev pub orMissing : ℕ → List ℕ → Rest → Rest → Number
-orMissing missing stop r outside = record { number = missing; rest = r }
-orMissing missing stop r (more s) = held stop (more s)
+-- "place and transition (id) and arc (id, source, target, each written as an id)"; "A missing marking is 0, a missing inscription 1"
+abbrev pub place : List Piece → Form
+place l = record { sort = 0; ids = 1; missing = 0; pieces = tag "<place id=\"" ∷ name ∷ l }
 
--- "at most one" label, from its opening tag to its closing one
-unfoldable pub label : List ℕ → List ℕ → ℕ → Rest → Number
-label start stop missing r = orMissing missing stop r (word start r)
+abbrev pub transition : List Piece → Form
+transition l = record { sort = 1; ids = 1; missing = 0; pieces = tag "<transition id=\"" ∷ name ∷ l }
 
--- then the closing tag
-abbrev pub ended : List ℕ → Number → Number
-ended finish n = record { number = n .number; rest = word finish (n .rest) }
+abbrev pub arc : List Piece → Form
+arc l = record { sort = 2; ids = 3; missing = 1; pieces = tag "<arc id=\"" ∷ name ∷ tag "\" source=\"" ∷ name ∷ tag "\" target=\"" ∷ name ∷ l }
 
--- closed in its own tag where that stands, else as read otherwise
-abbrev pub orClosed : ℕ → Rest → Number → Number
-orClosed missing outside n = n
-orClosed missing (more s) n = record { number = missing; rest = more s }
+-- "at most one initialMarking to a place and inscription to an arc, holding one text of one or more decimal digits each";
+-- one "with no content may also close in its own tag, by />"
+abbrev pub forms : List Form
+forms =
+    place (tag "\"/>" ∷ [])
+    ∷ place (tag "\">" ∷ blank ∷ tag "</place>" ∷ [])
+    ∷ place (tag "\">" ∷ blank ∷ tag "<initialMarking>" ∷ blank ∷ tag "<text>" ∷ number ∷ tag "</text>" ∷ blank ∷ tag "</initialMarking>" ∷ blank ∷ tag "</place>" ∷ [])
+    ∷ transition (tag "\"/>" ∷ [])
+    ∷ transition (tag "\">" ∷ blank ∷ tag "</transition>" ∷ [])
+    ∷ arc (tag "\"/>" ∷ [])
+    ∷ arc (tag "\">" ∷ blank ∷ tag "</arc>" ∷ [])
+    ∷ arc (tag "\">" ∷ blank ∷ tag "<inscription>" ∷ blank ∷ tag "<text>" ∷ number ∷ tag "</text>" ∷ blank ∷ tag "</inscription>" ∷ blank ∷ tag "</arc>" ∷ [])
+    ∷ []
 
--- the end of a place or an arc, from the quote after its last attribute on: one "with no content may also close in its own tag, by />"; else a label or none, and the closing tag
-unfoldable pub tail : List ℕ → List ℕ → List ℕ → ℕ → Rest → Number
-tail start stop finish missing r =
-    orClosed missing (word (bytes "\"/>") r)
-    (ended finish (label start stop missing (spaces (word (bytes "\">") r))))
+-- an element that stands next, and what is left after it; or none does
+pub data Next : Type 0 where
+  none : Next
+  stands : Element → List ℕ → Next
 
--- a place, from its id on: "at most one initialMarking to a place"; "A missing marking is 0"
-unfoldable pub place : Rest → Number
-place r = tail (bytes "<initialMarking>") (bytes "</initialMarking>") (bytes "</place>") 0 (id r)
+-- in the first of these forms in which one stands
+unfoldable pub element : List Form → List ℕ → Next
+element [] s = none
+element (f ∷ l) s = elim (reads (parsed [] s) (f .pieces)) [ failed ↦ element l s | parsed held r ↦ stands (made f held) r ]
 
--- the first where it stands, else the second
-abbrev pub orElse : Rest → Rest → Rest
-orElse outside other = other
-orElse (more s) other = more s
-
--- a transition, from its id on
-unfoldable pub transition : Rest → Rest
-transition r =
-    orElse (word (bytes "\"/>") (id r)) (word (bytes "</transition>") (spaces (word (bytes "\">") (id r))))
-
--- in an arc, from its id on, where its source and its target stand: "arc (id, source, target, each written as an id)"
-unfoldable pub source : Rest → Rest
-source r = word (bytes "\" source=\"") (id r)
-
-unfoldable pub target : Rest → Rest
-target r = word (bytes "\" target=\"") (id (source r))
-
--- an arc: "inscription to an arc"; "a missing inscription 1"
-unfoldable pub arc : Rest → Number
-arc r = tail (bytes "<inscription>") (bytes "</inscription>") (bytes "</arc>") 1 (id (target r))
-
--- what the text says of an element: a place with its marking, a transition, an arc from one id to another with its weight
-pub data Element : Type 0 where
-  aPlace : List ℕ → ℕ → Element
-  aTransition : List ℕ → Element
-  anArc : List ℕ → List ℕ → List ℕ → ℕ → Element
-
--- an element, and what is left after it
-pub record Read : Type 0 where
-  pub element : Element
-  pub rest : Rest
-
-abbrev pub placeRead : Rest → Read
-placeRead r = record { element = aPlace (idOf r) (place r .number); rest = place r .rest }
-
-abbrev pub transitionRead : Rest → Read
-transitionRead r = record { element = aTransition (idOf r); rest = transition r }
-
-abbrev pub arcRead : Rest → Read
-arcRead r = record { element = anArc (idOf r) (idOf (source r)) (idOf (target r)) (arc r .number); rest = arc r .rest }
-
--- read so where a word stands, else otherwise
-abbrev pub ifStands : Rest → (Rest → Read) → Read → Read
-ifStands outside f other = other
-ifStands (more s) f other = f (more s)
-
--- "place and transition (id) and arc (id, source, target ..)"
-unfoldable pub element : Rest → Read
-element r =
-    ifStands (word (bytes "<place id=\"") r) placeRead
-    (ifStands (word (bytes "<transition id=\"") r) transitionRead (arcRead (word (bytes "<arc id=\"") r)))
-
--- the elements of a page, and what is left after them
-pub record Content : Type 0 where
+-- elements, and what is left after them
+pub record Body : Type 0 where
   pub elements : List Element
-  pub rest : Rest
+  pub rest : List ℕ
 
--- one more, before them
-abbrev pub before : Element → Content → Content
-before e c = record { elements = e ∷ c .elements; rest = c .rest }
+-- "in that, in any order", as long as one stands next, at most n; white space after each
+unfoldable pub content : ℕ → List ℕ → Body
+content zero s = record { elements = []; rest = s }
+content (suc n) s = elim (element forms s) [ none ↦ record { elements = []; rest = s } | stands e r ↦ record { elements = e ∷ content n (past isSpace r) .elements; rest = content n (past isSpace r) .rest } ]
 
--- none where no element stands, else some
-abbrev pub ifRead : Rest → Content → Content → Content
-ifRead outside none some = none
-ifRead (more s) none some = some
+-- "pnml (xmlns http://www.pnml.org/version-2009/grammar/pnml), in it one net (id; type, the same address with ptnet for its final pnml), in it one page (id)".
+-- "White space .. stands only before the first tag, after the last, and between two tags with no digits between them"
+abbrev pub head : List Piece
+head =
+    blank ∷ tag "<pnml xmlns=\"http://www.pnml.org/version-2009/grammar/pnml\">" ∷ blank ∷ tag "<net id=\"" ∷ name ∷ tag "\" type=\"http://www.pnml.org/version-2009/grammar/ptnet\">"
+    ∷ blank ∷ tag "<page id=\"" ∷ name ∷ tag "\">" ∷ blank ∷ []
 
--- the elements of the page, "in any order", with white space after each; at most n
-unfoldable pub content : ℕ → Rest → Content
-content zero r = record { elements = []; rest = r }
-content (suc n) r =
-    ifRead (element r .rest) (record { elements = []; rest = r }) (before (element r .element) (content n (spaces (element r .rest))))
+abbrev pub foot : List Piece
+foot = tag "</page>" ∷ blank ∷ tag "</net>" ∷ blank ∷ tag "</pnml>" ∷ blank ∷ []
 
--- an element takes 15 bytes or more, so a text of 65,536 bytes has fewer than this: more of them change nothing (proofs/Enough, most-enough)
-abbrev pub most : ℕ
-most = 4370
+-- the body of a text: an element has more than one byte, so as many as the text has bytes are enough
+unfoldable pub body : List ℕ → Body
+body s = content (length s) (elim (reads (parsed [] s) head) [ failed ↦ [] | parsed held r ↦ r ])
 
--- where the id of the net stands: "pnml (xmlns http://www.pnml.org/version-2009/grammar/pnml), in it one net"
-unfoldable pub net : Rest → Rest
-net r =
-    word (bytes "<net id=\"")
-    (spaces (word (bytes "<pnml xmlns=\"http://www.pnml.org/version-2009/grammar/pnml\">") (spaces r)))
-
--- where the id of the page stands: "net (id; type, the same address with ptnet for its final pnml), in it one page"
-unfoldable pub page : Rest → Rest
-page r =
-    word (bytes "<page id=\"")
-    (spaces (word (bytes "\" type=\"http://www.pnml.org/version-2009/grammar/ptnet\">") (id (net r))))
-
--- where the elements start: "page (id); in that"
-unfoldable pub inside : Rest → Rest
-inside r = spaces (word (bytes "\">") (id (page r)))
-
--- after the elements: three closing tags
-unfoldable pub after : Rest → Rest
-after r =
-    spaces (word (bytes "</pnml>") (spaces (word (bytes "</net>") (spaces (word (bytes "</page>") r)))))
-
--- nothing is left
-abbrev pub nothing : Rest → Bool
-nothing outside = false
-nothing (more []) = true
-nothing (more (b ∷ s)) = false
-
--- the text is of the profile; else "18: text outside the profile"
+-- nothing is left: the text is of the profile; else "18: text outside the profile"
 unfoldable pub ofProfile : List ℕ → Bool
-ofProfile s = nothing (after (content most (inside (more s)) .rest))
+ofProfile s = elim (reads (parsed [] (body s .rest)) foot) [ failed ↦ false | parsed held r ↦ eqb (length r) 0 ]
+
+-- what a text of the profile says: the ids of its net and its page, and its elements in order of appearance
+pub record Drawing : Type 0 where
+  pub heads : List (List ℕ)
+  pub elements : List Element
+
+unfoldable pub drawing : List ℕ → Drawing
+drawing s = record { heads = elim (reads (parsed [] s) head) [ failed ↦ [] | parsed held r ↦ held ]; elements = body s .elements }

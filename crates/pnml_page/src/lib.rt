@@ -1,7 +1,7 @@
 // The elements of a text in PNML, and whether it is of the profile that is taken.
 ghost use mathlib.Core.Path.{_≡_};
 ghost use Rattle.pnml_text.specs.Rest.{restAt};
-ghost use Rattle.pnml_page.specs.Profile.{Holds, after, content, element, held, inside, label, most, net, ofProfile, page, place, tail, transition};
+ghost use Rattle.pnml_page.specs.Steps.{Holds, after, content, element, held, inside, label, most, net, readWhole, page, place, tail, transition};
 ghost use Rattle.pnml_page.specs.Meant.{HasEnds, Reads};
 use pnml_text::digits;
 use pnml_text::id;
@@ -241,7 +241,7 @@ fn after(text: &[u8], at: usize) -> usize
 
 // Is the text of the profile?
 pub fn of_profile(text: &[u8]) -> bool
-    ensures { λ r. ⌜ r ≡ ofProfile (now (text .entry)) ⌝ }
+    ensures { λ r. ⌜ r ≡ readWhole (now (text .entry)) ⌝ }
 {
     let first = inside(text);
     let end = elements_end(text, first);

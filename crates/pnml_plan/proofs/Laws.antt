@@ -14,24 +14,24 @@ use Rattle.tables.proofs.Zeros.{zeros-at}
 use Rattle.pnml_names.specs.declared.Which.the-variants.{Arcs}
 use Rattle.pnml_names.specs.Names.{repeats}
 use Rattle.pnml_names.specs.Tables.{idsIn}
-use Rattle.pnml_net.specs.Named.{entries, idTwice, unfit, arcsNamed}
+use Rattle.pnml_net.specs.Named
+use Rattle.pnml_net.specs.Read.{entries, idTwice, unfit, arcsNamed}
 use Rattle.pnml_sort.specs.Words.{sortWords}
 use Rattle.pnml_sort.proofs.Sorting.{sort-words}
 use Rattle.pnml_index.specs.Rows.{Blank}
 use Rattle.pnml_list.specs.Listing.{Listing}
 use Rattle.pnml_arcs.specs.Ends.{Weighed}
 use Rattle.pnml_arcs.specs.declared.Ends.{Ends}
-use Rattle.pnml_file.specs.Ready.{Sorted, unfitBut}
+use Rattle.pnml_file.specs.Ready.{readFile, Sorted, unfitBut}
 use Rattle.pnml_file.proofs.Laws.{words-are}
-use Rattle.promise.specs.Pnml.{pnmlFile}
 use Rattle.pnml_plan.specs.Chain.{Blanks}
 
 -- a test that passes, and one that does not
-pub passed : (s : List ℕ) {entry exit : List ℕ} {r : File} {b : Bool} (n k : ℕ) → b ≡ false → Answers k (pnmlFile s) entry exit r → Answers (refuse b n k) (pnmlFile s) entry exit r
+pub passed : (s : List ℕ) {entry exit : List ℕ} {r : File} {b : Bool} (n k : ℕ) → b ≡ false → Answers k (readFile s) entry exit r → Answers (refuse b n k) (readFile s) entry exit r
 passed s n k e a = rw e a
 
-pub told : (s entry : List ℕ) {b : Bool} (n k : ℕ) → b ≡ true → Answers (refuse b (suc n) k) (pnmlFile s) entry entry (Refused (suc n))
-told s entry n k e = rw e (refused (pnmlFile s) entry (suc n) (λ z. omega arith))
+pub told : (s entry : List ℕ) {b : Bool} (n k : ℕ) → b ≡ true → Answers (refuse b (suc n) k) (readFile s) entry entry (Refused (suc n))
+told s entry n k e = rw e (refused (readFile s) entry (suc n) (λ z. omega arith))
 
 -- tables of zeros have no rows
 pub blank : {names next : List ℕ} → length names ≤ 4372 → Blanks names next → Blank names (replicate 2048 0) next
@@ -49,12 +49,11 @@ blanks names n h = record { room = omega (arith, length-replicate {A = ℕ} n 0)
 
 -- an id used twice, by the table of the ids
 pub twice-is : {s table : List ℕ} {P T : ℕ} {b : Bool} → Listing s table P T → b ≡ repeats (idsIn s table) → b ≡ idTwice s
-unfolding idTwice
 twice-is g e = e ∙ ap repeats (g .ids)
 
 -- refusal 20 by the weights that were looked at
 pub unfit-by : {s entry later : List ℕ} {r : Ends} → Weighed s entry later r → r .apart ≡ false → unfitBut s (r .off) ≡ unfit s
-unfolding unfit
+unfolding Named.unfit
 unfit-by {s} w e = ap (unfitBut s) (w .off e)
 
 -- the numbers that were sorted

@@ -5,12 +5,12 @@ use mathlib.Core.List.{List}
 use lib.ListN.{length, getD}
 use Rattle.file_words.specs.Refusal.{refuse}
 use Rattle.plan_put.specs.Told.{roomRefusal}
-use Rattle.pnml_net.specs.Named.{idTwice, endWrong, unfit}
-use Rattle.promise.specs.Pnml.{pnmlFile}
+use Rattle.pnml_net.specs.Read.{idTwice, endWrong, unfit}
+use Rattle.pnml_file.specs.Ready.{readFile}
 
 -- once no id is used twice
 abbrev pub afterIds : List ℕ → ℕ → ℕ
-afterIds s room = refuse (endWrong s) 19 (refuse (unfit s) 20 (roomRefusal room (pnmlFile s)))
+afterIds s room = refuse (endWrong s) 19 (refuse (unfit s) 20 (roomRefusal room (readFile s)))
 
 -- once the text is of the profile
 abbrev pub afterProfile : List ℕ → ℕ → ℕ

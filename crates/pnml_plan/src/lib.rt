@@ -6,8 +6,8 @@ ghost use lib.ListN.{length};
 ghost use Rattle.plan_put.specs.Told.{Answers};
 ghost use Rattle.pnml_index.specs.Rows.{Indexed};
 ghost use Rattle.pnml_list.specs.Listing.{Listing};
-ghost use Rattle.pnml_page.specs.Profile.{ofProfile};
-ghost use Rattle.promise.specs.Pnml.{pnmlFile};
+ghost use Rattle.pnml_page.specs.Steps.{readWhole};
+ghost use Rattle.pnml_file.specs.Ready.{readFile};
 ghost use Rattle.pnml_plan.specs.Chain.{Blanks, afterIds, afterProfile};
 use plan_put::File;
 use pnml_arcs::pack;
@@ -41,7 +41,7 @@ fn write_joined(
     requires { ⌜ length (now text) ≤ 65536 ⌝ }
     requires { ⌜ Listing (now text) (now names) places transitions ⌝ }
     requires { ⌜ Indexed (now text) (now names) (now head) (now next) ⌝ }
-    ensures { λ r. ⌜ Answers (afterIds (now (text .entry)) (length (now (buffer .entry)))) (pnmlFile (now (text .entry))) (now (buffer .entry)) (now (buffer .exit)) r ⌝ }
+    ensures { λ r. ⌜ Answers (afterIds (now (text .entry)) (length (now (buffer .entry)))) (readFile (now (text .entry))) (now (buffer .entry)) (now (buffer .exit)) r ⌝ }
 {
     let count = names.len() - 2 - places - transitions;
     let mut words = [0usize; ARCS];
@@ -68,7 +68,7 @@ fn write_named(
     requires { ⌜ length (now text) ≤ 65536 ⌝ }
     requires { ⌜ Listing (now text) (now names) places transitions ⌝ }
     requires { ⌜ Blanks (now names) (now next) ⌝ }
-    ensures { λ r. ⌜ Answers (afterProfile (now (text .entry)) (length (now (buffer .entry)))) (pnmlFile (now (text .entry))) (now (buffer .entry)) (now (buffer .exit)) r ⌝ }
+    ensures { λ r. ⌜ Answers (afterProfile (now (text .entry)) (length (now (buffer .entry)))) (readFile (now (text .entry))) (now (buffer .entry)) (now (buffer .exit)) r ⌝ }
 {
     let mut head = [0u16; SUMS];
     if index(text, names, &mut head, next) {
@@ -80,8 +80,8 @@ fn write_named(
 // With tables for a small text.
 fn write_small(text: &[u8], buffer: &mut [u8]) -> File
     requires { ⌜ length (now text) ≤ 960 ⌝ }
-    requires { ⌜ ofProfile (now text) ≡ true ⌝ }
-    ensures { λ r. ⌜ Answers (afterProfile (now (text .entry)) (length (now (buffer .entry)))) (pnmlFile (now (text .entry))) (now (buffer .entry)) (now (buffer .exit)) r ⌝ }
+    requires { ⌜ readWhole (now text) ≡ true ⌝ }
+    ensures { λ r. ⌜ Answers (afterProfile (now (text .entry)) (length (now (buffer .entry)))) (readFile (now (text .entry))) (now (buffer .entry)) (now (buffer .exit)) r ⌝ }
 {
     let mut names = [0u16; SMALL_IDS];
     let mut next = [0u16; SMALL_IDS];
@@ -100,8 +100,8 @@ fn write_small(text: &[u8], buffer: &mut [u8]) -> File
 // With tables for any text.
 fn write_large(text: &[u8], buffer: &mut [u8]) -> File
     requires { ⌜ length (now text) ≤ 65536 ⌝ }
-    requires { ⌜ ofProfile (now text) ≡ true ⌝ }
-    ensures { λ r. ⌜ Answers (afterProfile (now (text .entry)) (length (now (buffer .entry)))) (pnmlFile (now (text .entry))) (now (buffer .entry)) (now (buffer .exit)) r ⌝ }
+    requires { ⌜ readWhole (now text) ≡ true ⌝ }
+    ensures { λ r. ⌜ Answers (afterProfile (now (text .entry)) (length (now (buffer .entry)))) (readFile (now (text .entry))) (now (buffer .entry)) (now (buffer .exit)) r ⌝ }
 {
     let mut names = [0u16; LARGE_IDS];
     let mut next = [0u16; LARGE_IDS];
@@ -120,8 +120,8 @@ fn write_large(text: &[u8], buffer: &mut [u8]) -> File
 // Writes the plan of a text of the profile. Refused: 19, 20, and 13 where the buffer is shorter than the file.
 pub fn write_plan(text: &[u8], buffer: &mut [u8]) -> File
     requires { ⌜ length (now text) ≤ 65536 ⌝ }
-    requires { ⌜ ofProfile (now text) ≡ true ⌝ }
-    ensures { λ r. ⌜ Answers (afterProfile (now (text .entry)) (length (now (buffer .entry)))) (pnmlFile (now (text .entry))) (now (buffer .entry)) (now (buffer .exit)) r ⌝ }
+    requires { ⌜ readWhole (now text) ≡ true ⌝ }
+    ensures { λ r. ⌜ Answers (afterProfile (now (text .entry)) (length (now (buffer .entry)))) (readFile (now (text .entry))) (now (buffer .entry)) (now (buffer .exit)) r ⌝ }
 {
     if text.len() <= SMALL_TEXT {
         return write_small(text, buffer);

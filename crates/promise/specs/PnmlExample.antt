@@ -53,3 +53,28 @@ pub record PnmlRows : Type 0 where
   pub outside-first : pnmlRefusal (text (bytes "<place id=\"n\"/><place>")) ≡ 18
   pub name-next : pnmlRefusal (text (bytes "<place id=\"n\"><initialMarking><text>4294967296</text></initialMarking></place>")) ≡ 19
   pub number-next : pnmlAnswer (text []) 0 ≡ record { refused = true; refusal = 20; length = 0 }
+
+-- texts outside the profile: each is 18
+pub record OutsideRows : Type 0 where
+  pub declaration : pnmlRefusal (bytes "<?xml version=\"1.0\"?>" ++ text (bytes "<place id=\"p\"/>")) ≡ 18
+  pub comment : pnmlRefusal (text (bytes "<!-- --><place id=\"p\"/>")) ≡ 18
+  pub entity : pnmlRefusal (text (bytes "<place id=\"p&amp;q\"/>")) ≡ 18
+  pub other-character : pnmlRefusal (text (bytes "<place id=\"p^q\"/>")) ≡ 18
+  pub spaced-name : pnmlRefusal (text (bytes "<place id=\"p q\"/>")) ≡ 18
+  pub name-element : pnmlRefusal (text (bytes "<place id=\"p\"><name><text>p</text></name></place>")) ≡ 18
+  pub single-quotes : pnmlRefusal (text (bytes "<place id='p'/>")) ≡ 18
+  pub two-spaces : pnmlRefusal (text (bytes "<place  id=\"p\"/>")) ≡ 18
+  pub space-before-close : pnmlRefusal (text (bytes "<place id=\"p\" />")) ≡ 18
+  pub other-attribute : pnmlRefusal (text (bytes "<place id=\"p\" x=\"y\"/>")) ≡ 18
+  pub attributes-exchanged : pnmlRefusal (text (bytes "<place id=\"p\"/><transition id=\"t\"/><arc id=\"a\" target=\"t\" source=\"p\"/>")) ≡ 18
+  pub marking-twice : pnmlRefusal (text (bytes "<place id=\"p\"><initialMarking><text>1</text></initialMarking><initialMarking><text>1</text></initialMarking></place>")) ≡ 18
+  pub marking-of-transition : pnmlRefusal (text (bytes "<transition id=\"t\"><initialMarking><text>1</text></initialMarking></transition>")) ≡ 18
+  pub inscription-of-place : pnmlRefusal (text (bytes "<place id=\"p\"><inscription><text>1</text></inscription></place>")) ≡ 18
+  pub empty-text : pnmlRefusal (text (bytes "<place id=\"p\"><initialMarking><text/></initialMarking></place>")) ≡ 18
+  pub blank-after-digits : pnmlRefusal (text (bytes "<place id=\"p\"><initialMarking><text>1 </text></initialMarking></place>")) ≡ 18
+  pub sign : pnmlRefusal (text (bytes "<place id=\"p\"><initialMarking><text>+1</text></initialMarking></place>")) ≡ 18
+  pub upper-case : pnmlRefusal (text (bytes "<Place id=\"p\"/>")) ≡ 18
+  pub other-text : pnmlRefusal (text (bytes "<place id=\"p\"/>x")) ≡ 18
+  pub second-page : pnmlRefusal (text (bytes "<place id=\"p\"/></page><page id=\"h\">")) ≡ 18
+  pub other-space : pnmlRefusal (text (14 ∷ bytes "<place id=\"p\"/>")) ≡ 18
+  pub after-the-end : pnmlRefusal (text (bytes "<place id=\"p\"/>") ++ bytes "<") ≡ 18

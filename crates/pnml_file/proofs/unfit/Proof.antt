@@ -1,4 +1,5 @@
-use Rattle.pnml_net.specs.Named.{anyOff, entries}
+use Rattle.pnml_net.specs.Read.{entries}
+use Rattle.pnml_net.specs.Named.{anyOff}
 use Rattle.pnml_names.specs.declared.Which.the-variants.{Arcs}
 use native.Mathlib.Omega.{arith}
 use Prim.Native.Nat.{_+_, _-_}

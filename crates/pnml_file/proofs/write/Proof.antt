@@ -2,7 +2,7 @@ use native.Mathlib.Omega.{arith}
 use mathlib.Core.Path.{sym, _∙_}
 use Rattle.plan_put.proofs.Laws.{no-room, room}
 use Rattle.pnml_file.proofs.Laws as laws
-use Rattle.promise.specs.Pnml.{pnmlFile}
+use Rattle.pnml_file.specs.Ready.{readFile}
 use borrow.Author.Needs.{needs}
 use Rattle.pnml_file.proofs.write.Statement.{statement}
 use Rattle.pnml_file.proofs.write.Tie as tie
@@ -22,7 +22,7 @@ add-if1-2 c = search needs
 returns : tie.Need-returns
 returns c =
     let call = c .before .before .before .before .before in
-    no-room (pnmlFile (call .args .text .now)) (call .args .buffer .now) (omega (arith, laws.file-long (call .args .text .now) (call .pre), c .if1 .taken))
+    no-room (readFile (call .args .text .now)) (call .args .buffer .now) (omega (arith, laws.file-long (call .args .text .now) (call .pre), c .if1 .taken))
 
 write-places-requires : tie.Need-write-places-requires
 write-places-requires c κs = search needs
@@ -46,7 +46,7 @@ returns-2 c =
     let at-write-places = at-write-arcs .before .before .before .before in
     let at-if1 = at-write-places .before .before in
     let call = at-if1 .before .before .before .before .before in
-    let s = call .args .text .now in let l = laws.file-long s (call .pre) in room (pnmlFile s) (call .args .buffer .now) (omega (arith, l, at-if1 .if1 .left)) (laws.file-stored s (call .pre) (call .args .buffer .now) (at-write-places .write-places .ensures) (at-write-arcs .write-arcs .ensures) (at-put-end .put-end .ensures .1)) (at-put-end .put-end .ensures .0 ∙ sym l)
+    let s = call .args .text .now in let l = laws.file-long s (call .pre) in room (readFile s) (call .args .buffer .now) (omega (arith, l, at-if1 .if1 .left)) (laws.file-stored s (call .pre) (call .args .buffer .now) (at-write-places .write-places .ensures) (at-write-arcs .write-arcs .ensures) (at-put-end .put-end .ensures .1)) (at-put-end .put-end .ensures .0 ∙ sym l)
 
 pub write-spec : {M : Type 1} → statement M
 write-spec =

@@ -3,7 +3,7 @@ use mathlib.Core.Path.{refl, sym}
 use mathlib.Core.List.{[], append-nil}
 use lib.ListN.{take}
 use Rattle.pnml_text.specs.Rest.{restAt}
-use Rattle.pnml_page.specs.Profile
+use Rattle.pnml_page.specs.Steps
 use Rattle.pnml_names.specs.Names.{entriesOf}
 use Rattle.pnml_names.proofs.Filling as filling
 use borrow.Author.Needs.{needs}
@@ -11,7 +11,7 @@ use Rattle.pnml_names.proofs.collect.Statement.{statement}
 use Rattle.pnml_names.proofs.collect.Tie as tie
 
 abbrev Inv-loop : tie.InvT-loop
-Inv-loop text at which table₀ k a₀ n₀ left₀ table a n left = filling.Collecting text which table₀ k (entriesOf which (Profile.content 4370 (restAt text at) .elements)) table a n left
+Inv-loop text at which table₀ k a₀ n₀ left₀ table a n left = filling.Collecting text which table₀ k (entriesOf which (Steps.content 4370 (restAt text at) .elements)) table a n left
 
 abbrev μ-loop : tie.MeasureT-loop
 μ-loop text at which table₀ k a₀ n₀ left₀ table a n left = left

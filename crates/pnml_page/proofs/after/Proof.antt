@@ -1,4 +1,4 @@
-use Rattle.pnml_page.specs.Profile
+use Rattle.pnml_page.specs.Steps
 use Rattle.pnml_text.specs.Rest.{word, spaces}
 use borrow.Author.Needs.{needs}
 use Rattle.pnml_page.proofs.after.Statement.{statement}
@@ -32,7 +32,7 @@ spaces-requires-3 : tie.Need-spaces-requires-3
 spaces-requires-3 c κs = search needs
 
 returns : tie.Need-returns
-unfolding Profile.after
+unfolding Steps.after
 returns c =
     let at-word3 = c .before in
     let at-spaces2 = at-word3 .before .before in

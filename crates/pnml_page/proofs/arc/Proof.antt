@@ -1,5 +1,5 @@
-use Rattle.pnml_page.specs.Profile
-use Rattle.pnml_page.specs.Profile.{tail}
+use Rattle.pnml_page.specs.Steps
+use Rattle.pnml_page.specs.Steps.{tail}
 use Rattle.pnml_text.specs.Rest.{word, id}
 use mathlib.Core.Path.{_∙_}
 use borrow.Author.Needs.{needs}
@@ -40,7 +40,7 @@ tail-requires : tie.Need-tail-requires
 tail-requires c κs = search needs
 
 returns : tie.Need-returns
-unfolding Profile.source Profile.target Profile.arc
+unfolding Steps.source Steps.target Steps.arc
 returns c =
     let at-id3 = c .before .before .before .before in
     let at-word2 = at-id3 .before in

@@ -1,5 +1,5 @@
 use Rattle.pnml_page.proofs.Tags as tags
-use Rattle.pnml_page.specs.Profile.{place}
+use Rattle.pnml_page.specs.Steps.{place}
 use Rattle.pnml_text.specs.Rest.{word}
 use borrow.Author.Needs.{needs}
 use Rattle.pnml_page.proofs.element_at.Statement.{statement}

@@ -1,4 +1,4 @@
-use Rattle.pnml_page.specs.Profile.{held}
+use Rattle.pnml_page.specs.Steps.{held}
 use Rattle.pnml_text.specs.Rest.{word, spaces, digits}
 use mathlib.Core.Path.{_∙_}
 use borrow.Author.Needs.{needs}

@@ -1,4 +1,4 @@
-use Rattle.pnml_page.specs.Profile
+use Rattle.pnml_page.specs.Steps
 use Rattle.pnml_text.specs.Rest.{word, spaces, id}
 use borrow.Author.Needs.{needs}
 use Rattle.pnml_page.proofs.inside.Statement.{statement}
@@ -20,7 +20,7 @@ spaces-requires : tie.Need-spaces-requires
 spaces-requires c κs = search needs
 
 returns : tie.Need-returns
-unfolding Profile.inside
+unfolding Steps.inside
 returns c = rw (c .spaces .ensures, c .before .word .ensures, c .before .before .before .id .ensures, c .before .before .before .before .page .ensures)
 
 pub inside-spec : {M : Type 1} → statement M

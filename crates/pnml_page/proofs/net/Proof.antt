@@ -1,4 +1,4 @@
-use Rattle.pnml_page.specs.Profile
+use Rattle.pnml_page.specs.Steps
 use Rattle.pnml_text.specs.Rest.{word, spaces}
 use borrow.Author.Needs.{needs}
 use Rattle.pnml_page.proofs.net.Statement.{statement}
@@ -23,7 +23,7 @@ word-requires-2 : tie.Need-word-requires-2
 word-requires-2 c κs = search needs
 
 returns : tie.Need-returns
-unfolding Profile.net
+unfolding Steps.net
 returns c = rw (c .word2 .ensures, c .before .before .spaces2 .ensures, c .before .before .before .word .ensures, c .before .before .before .before .before .spaces .ensures)
 
 pub net-spec : {M : Type 1} → statement M

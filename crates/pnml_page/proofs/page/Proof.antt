@@ -1,4 +1,4 @@
-use Rattle.pnml_page.specs.Profile
+use Rattle.pnml_page.specs.Steps
 use Rattle.pnml_text.specs.Rest.{word, spaces, id}
 use borrow.Author.Needs.{needs}
 use Rattle.pnml_page.proofs.page.Statement.{statement}
@@ -26,7 +26,7 @@ word-requires-2 : tie.Need-word-requires-2
 word-requires-2 c κs = search needs
 
 returns : tie.Need-returns
-unfolding Profile.page
+unfolding Steps.page
 returns c =
     let at-spaces = c .before .before in
     let at-word = at-spaces .before in

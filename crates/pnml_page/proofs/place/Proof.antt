@@ -1,5 +1,5 @@
 use Rattle.pnml_page.proofs.Tags as tags
-use Rattle.pnml_page.specs.Profile.{tail}
+use Rattle.pnml_page.specs.Steps.{tail}
 use Rattle.pnml_text.specs.Rest.{id}
 use borrow.Author.Needs.{needs}
 use Rattle.pnml_page.proofs.place.Statement.{statement}

@@ -1,5 +1,5 @@
 use Rattle.pnml_names.specs.declared.Which.the-variants.{Arcs}
-use Rattle.pnml_net.specs.Named.{entries}
+use Rattle.pnml_net.specs.Read.{entries}
 use native.Mathlib.Omega.{arith}
 use Prim.Native.Nat.{ℕ, _-_}
 use mathlib.Core.Path.{_≡_, sym, _∙_}
