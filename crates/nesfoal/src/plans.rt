@@ -1,4 +1,4 @@
-// The normal form of a plan.
+// Plans that are written: the normal form of one, and one from a text in PNML.
 ghost use mathlib.Core.Path.{_≡_};
 ghost use lib.ListN.{length};
 ghost use Rattle.promise.specs.Pnml.{pnmlAnswer, pnmlBuffer, WritesNamed};
