@@ -1,3 +1,4 @@
 pub mod Pieces
 pub mod Elements
 pub mod Reading
+pub mod Returning

@@ -31,29 +31,29 @@ use Rattle.pnml_same.proofs.Elements.{cap, same}
 -- ---- a text
 
 -- what is left, what was held, and whether nothing is left
-abbrev left : Parse → List ℕ
+abbrev pub left : Parse → List ℕ
 left failed = []
 left (parsed held s) = s
 
-abbrev names : Parse → List (List ℕ)
+abbrev pub names : Parse → List (List ℕ)
 names failed = []
 names (parsed held s) = held
 
-abbrev ended : Parse → Bool
+abbrev pub ended : Parse → Bool
 ended failed = false
 ended (parsed held s) = eqb (length s) 0
 
-body-so : (s : List ℕ) (p : Parse) → reads (parsed [] s) head ≡ p → body s ≡ content (length s) (left p)
+pub body-so : (s : List ℕ) (p : Parse) → reads (parsed [] s) head ≡ p → body s ≡ content (length s) (left p)
 unfolding body
 body-so s failed e = rw (e, body)
 body-so s (parsed held r) e = rw (e, body)
 
-heads-so : (s : List ℕ) (p : Parse) → reads (parsed [] s) head ≡ p → drawing s .heads ≡ names p
+pub heads-so : (s : List ℕ) (p : Parse) → reads (parsed [] s) head ≡ p → drawing s .heads ≡ names p
 unfolding drawing
 heads-so s failed e = rw (e, drawing)
 heads-so s (parsed held r) e = rw (e, drawing)
 
-profile-so : (s : List ℕ) (p : Parse) → reads (parsed [] (body s .rest)) foot ≡ p → ofProfile s ≡ ended p
+pub profile-so : (s : List ℕ) (p : Parse) → reads (parsed [] (body s .rest)) foot ≡ p → ofProfile s ≡ ended p
 unfolding ofProfile
 profile-so s failed e = rw (e, ofProfile)
 profile-so s (parsed held r) e = rw (e, ofProfile)
