@@ -61,7 +61,7 @@ fn write_places(text: &[u8], places: &[u16], buffer: &mut [u8])
     let mut p: usize = 0;
     while p < places.len() {
         let e = place(text, wide(places[p]));
-        plan_put::put_place(EDITION, p, e.number, 0, buffer);
+        slice_put::put_place(EDITION, p, e.number, 0, buffer);
         p += 1;
     }
 }

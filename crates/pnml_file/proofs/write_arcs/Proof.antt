@@ -6,7 +6,7 @@ use lib.Seq.{sets}
 use Rattle.net.specs.declared.Arc.{Arc}
 use Rattle.file_writing.specs.Writing.{arcBytes, arcsBytes}
 use Rattle.tables.proofs.Storing.{Storing, storing-all, storing-as, storing-none}
-use Rattle.plan_put.proofs.Laws.{arc-stored}
+use Rattle.slice_put.proofs.Placing.{arc-stored}
 use Rattle.pnml_file.specs.Ready.{arcsIn, arcOf}
 use Rattle.pnml_file.proofs.Laws as laws
 use borrow.Author.Needs.{needs}

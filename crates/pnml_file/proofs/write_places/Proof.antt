@@ -6,7 +6,7 @@ use lib.ListN.{length}
 use lib.Seq.{sets}
 use Rattle.file_writing.specs.Writing.{placeBytes, placesBytes}
 use Rattle.tables.proofs.Storing.{Storing, storing-all, storing-as, storing-none}
-use Rattle.plan_put.proofs.Laws.{placesFrom, places-all, places-end, place-stored}
+use Rattle.slice_put.proofs.Placing.{placesFrom, places-all, places-end, place-stored}
 use Rattle.pnml_file.specs.Ready.{markingIn}
 use Rattle.pnml_file.proofs.Laws as laws
 use borrow.Author.Needs.{needs}
@@ -39,7 +39,7 @@ put-place-requires c κs =
     let test = c .before .before .before .before in
     let turn = test .before in
     let call = turn .before .before .before .before in
-    (omega (arith, test .loop-test .taken, call .pre .0), omega (arith, test .loop-test .taken, call .pre .1, turn .loop .inv .1 .long))
+    omega (arith, test .loop-test .taken, call .pre .1, turn .loop .inv .1 .long)
 
 add-p : tie.Need-add-p Inv-loop μ-loop
 add-p c = search needs
