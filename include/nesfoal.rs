@@ -37,6 +37,7 @@ pub const NESFOAL_STACK_REPLAY_FROM: usize = 30720;
 pub const NESFOAL_STACK_SAFETY_FROM: usize = 27648;
 pub const NESFOAL_STACK_BRANCHING_FROM: usize = 27648;
 pub const NESFOAL_STACK_VERDICT_FROM: usize = 23552;
+pub const NESFOAL_STACK_FROM_PNML: usize = 39936;
 
 pub const NESFOAL_DONE: u32 = 0;
 pub const NESFOAL_ACCEPTED: u32 = 0;
@@ -57,6 +58,9 @@ pub const NESFOAL_REFUSED_STUCK: u32 = 14;
 pub const NESFOAL_REFUSED_MARKING: u32 = 15;
 pub const NESFOAL_REFUSED_CAP: u32 = 16;
 pub const NESFOAL_REFUSED_CAPPED: u32 = 17;
+pub const NESFOAL_REFUSED_PROFILE: u32 = 18;
+pub const NESFOAL_REFUSED_ID: u32 = 19;
+pub const NESFOAL_REFUSED_NUMBER: u32 = 20;
 pub const NESFOAL_REFUSED_UPPER: u32 = 21;
 pub const NESFOAL_REFUSED_ENTRIES: u32 = 22;
 pub const NESFOAL_REFUSED_STRANDED: u32 = 23;
@@ -239,6 +243,8 @@ extern "C" {
         q_len: usize,
         number: *mut u32,
     ) -> u32;
+    pub fn nesfoal_from_pnml(text: *const u8, text_len: usize, plan: *mut u8, plan_len: usize, length: *mut u32)
+        -> u32;
     pub fn nesfoal_check(
         plan: *const u8,
         plan_len: usize,

@@ -29,7 +29,7 @@ pub enum Value {
     Numbers(Vec<u64>),
     /// Arcs, in words after a colon.
     Arcs(Vec<Arc>),
-    /// Texts, in JSON alone.
+    /// Texts, in words each after a space.
     Texts(Vec<String>),
 }
 
@@ -172,7 +172,7 @@ impl Value {
                     put(out, format_args!("{join}{verb} {} {way} place {}", arc.weight, arc.place));
                 }
             }
-            Value::Texts(_) => (),
+            Value::Texts(texts) => texts.iter().for_each(|text| put(out, format_args!(" {text}"))),
         }
     }
 
@@ -328,6 +328,12 @@ impl Answer {
     /// A firing's answer with its shadow on a line below.
     pub fn with_shadow(self, shadow: &[u16]) -> Answer {
         self.and_says("\nshadow{shadow}", vec![shadow.into()])
+    }
+
+    /// A plan's answer with the ids of its places and of its transitions, on a line each.
+    pub fn with_ids(self, places: Vec<String>, transitions: Vec<String>) -> Answer {
+        let values = vec![Value::Texts(places), Value::Texts(transitions)];
+        self.and_says("\nplaces{place_ids}\ntransitions{transition_ids}", values)
     }
 
     /// A cut's answer with the chosen positions on a line below.

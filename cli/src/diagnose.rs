@@ -7,6 +7,7 @@ use crate::library::{
     self, Refusal, Start, MAX_ARCS, MAX_FILE_BYTES, MAX_LIST_ENTRIES, MAX_PLACES, MAX_TRANSITIONS, NO_PLACE,
 };
 use crate::net::{places, transitions, Arc, Net, Trailer};
+use crate::pnml;
 
 /// What a call was asked about.
 #[derive(Clone, Copy, Default)]
@@ -61,6 +62,13 @@ impl Asked<'_> {
                 of_file("a plan with caps; there more tokens can block a firing, and no marking is the least".into())
             }
             Refusal::Capped => of_file("a plan with caps; the cut for a run is of plans without".into()),
+            Refusal::Profile | Refusal::Id | Refusal::Number => match pnml::why(refusal, &file.bytes) {
+                Some((why, Some(at))) => {
+                    of_file(format!("{at}: {why}")).data("line", at.line).data("column", at.column)
+                }
+                Some((why, None)) => of_file(why),
+                None => of_file("it is refused".into()),
+            },
             _ => of_file(of_bytes(refusal, &file.bytes)),
         }
     }

@@ -47,6 +47,9 @@ refusals! {
     Marking = NESFOAL_REFUSED_MARKING,
     Cap = NESFOAL_REFUSED_CAP,
     Capped = NESFOAL_REFUSED_CAPPED,
+    Profile = NESFOAL_REFUSED_PROFILE,
+    Id = NESFOAL_REFUSED_ID,
+    Number = NESFOAL_REFUSED_NUMBER,
     Upper = NESFOAL_REFUSED_UPPER,
     Entries = NESFOAL_REFUSED_ENTRIES,
     Stranded = NESFOAL_REFUSED_STRANDED,
@@ -360,6 +363,11 @@ fn plan_of(call: PlanCall, from: &[u8]) -> Result<Vec<u8>, Refusal> {
 /// The normal form of a plan.
 pub fn normal(plan: &[u8]) -> Result<Vec<u8>, Refusal> {
     plan_of(nesfoal_normal, plan)
+}
+
+/// The plan that a text in PNML draws.
+pub fn from_pnml(text: &[u8]) -> Result<Vec<u8>, Refusal> {
+    plan_of(nesfoal_from_pnml, text)
 }
 
 /// A list that sticks has its stop beside the refusal.

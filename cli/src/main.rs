@@ -17,6 +17,7 @@ mod net;
 mod numbers;
 mod picture;
 mod plans;
+mod pnml;
 mod progress;
 mod show;
 mod verbs;

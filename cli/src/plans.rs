@@ -1,4 +1,4 @@
-//! normal and transfer: a plan in its normal form, and from an old plan to a new one.
+//! transfer, normal and pnml: from an old plan to a new one, and the two verbs that write a plan.
 
 use crate::answers::{self, Answer};
 use crate::call::{Call, Done};
@@ -6,6 +6,7 @@ use crate::diagnose::Asked;
 use crate::library;
 use crate::net::{places, Net};
 use crate::numbers::{MARKING, TABLE};
+use crate::pnml::Drawing;
 
 /// normal PLAN OUT
 pub fn normal(call: &mut Call) -> Done {
@@ -15,6 +16,19 @@ pub fn normal(call: &mut Call) -> Done {
     let normal = asked.granted(library::normal(&plan.bytes))?;
     let answer = written(call, &normal, "plan")?;
     call.tell(answer)
+}
+
+/// pnml TEXT OUT
+pub fn pnml(call: &mut Call) -> Done {
+    call.has_out()?;
+    let text = call.file(0)?;
+    let asked = Asked { files: &[&text], ..Asked::default() };
+    let plan = asked.granted(library::from_pnml(&text.bytes))?;
+    let answer = written(call, &plan, "text")?;
+    call.tell(match Drawing::of(&text.bytes) {
+        Some(drawing) => answer.with_ids(drawing.places(), drawing.transitions()),
+        None => answer,
+    })
 }
 
 /// Writes the plan, and says so.

@@ -425,6 +425,46 @@ Answers:
 ",
     },
     Verb {
+        name: "pnml",
+        forms: &[
+            ("TEXT OUT", "writes the plan that a text in PNML draws"),
+        ],
+        takes: 2..=2,
+        run: plans::pnml,
+        text: "\
+TEXT is a net in PNML (ISO/IEC 15909-2, the grammar of 2009) in this form, and in no other:
+
+    <pnml xmlns=\"http://www.pnml.org/version-2009/grammar/pnml\">
+      <net id=\"n\" type=\"http://www.pnml.org/version-2009/grammar/ptnet\">
+        <page id=\"g\">
+          <place id=\"waiting\"><initialMarking><text>2</text></initialMarking></place>
+          <transition id=\"arrive\"/>
+          <arc id=\"a\" source=\"waiting\" target=\"arrive\"><inscription><text>1</text></inscription></arc>
+        </page>
+      </net>
+    </pnml>
+
+It has one net with one page, and there places, transitions and arcs in any order. Without an
+initialMarking a place has 0 tokens, without an inscription an arc has the weight 1. Attributes stand in
+this order, with one space before each. White space may stand between two tags, but not beside a number.
+Remove what else a tool has written: declarations, comments, entities, names, graphics, parts of its own.
+An id has 1 to 32 characters, each a letter from A to Z or a to z, a digit, - _ or . and is used once. The
+text has at most 65536 bytes.
+Places and transitions are numbered in the order in which they appear; the answer has their ids in
+that order. OUT as with safety: an older plan there is replaced with --force alone.
+
+Example:
+    nesfoal pnml plans/small-kerb.pnml kerb.plan
+
+Answers:
+    written OUT: N bytes, N places, N transitions, N arcs
+    places ..                  below it: the ids of places 0, 1, ..
+    transitions ..             and of transitions 0, 1, ..
+    refused N: ..              the text is too long (1) or not in that form (18: line, column and what is
+                               expected there), an id is wrong (19), or a number (20); nothing is written
+",
+    },
+    Verb {
         name: "demo",
         forms: &[
             ("", "the verbs on a small kerb"),

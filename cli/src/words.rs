@@ -58,12 +58,17 @@ const SHOWN: usize = 40;
 
 /// A word as an answer can show it: not long, and without control characters.
 pub fn brief(word: &[u8]) -> String {
+    at_most(SHOWN, word)
+}
+
+/// The same with so many characters.
+pub fn at_most(shown: usize, word: &[u8]) -> String {
     let text = String::from_utf8_lossy(word);
-    let mut shown: String = text.chars().take(SHOWN).map(|c| if c.is_control() { '?' } else { c }).collect();
-    if text.chars().nth(SHOWN).is_some() {
-        shown.push_str("..");
+    let mut start: String = text.chars().take(shown).map(|c| if c.is_control() { '?' } else { c }).collect();
+    if text.chars().nth(shown).is_some() {
+        start.push_str("..");
     }
-    shown
+    start
 }
 
 /// The name with the fewest letters put in, taken out or changed; the first of several.

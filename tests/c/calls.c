@@ -943,6 +943,39 @@ static void normals(void)
     expect("normal, a slice", nesfoal_normal(cut, 78, NULL, 0, &length), NESFOAL_REFUSED_KIND);
 }
 
+/* Texts in PNML (02, A10). */
+static void texts(void)
+{
+#define HEAD \
+    "<pnml xmlns=\"http://www.pnml.org/version-2009/grammar/pnml\">\n" \
+    "<net id=\"n\" type=\"http://www.pnml.org/version-2009/grammar/ptnet\"><page id=\"g\">"
+#define TAIL "</page></net></pnml>"
+    static const struct {
+        const char *what, *text;
+        uint32_t answer;
+    } cases[] = {
+        {"pnml", HEAD "<place id=\"p\"><initialMarking><text>3</text></initialMarking></place>" TAIL, 0},
+        {"pnml, empty", "", NESFOAL_REFUSED_PROFILE},
+        {"pnml, a name", HEAD "<place id=\"p\"><name/></place>" TAIL, NESFOAL_REFUSED_PROFILE},
+        {"pnml, an id twice", HEAD "<place id=\"n\"/>" TAIL, NESFOAL_REFUSED_ID},
+        {"pnml, an end of nothing", HEAD "<place id=\"p\"/><arc id=\"a\" source=\"p\" target=\"t\"/>" TAIL, NESFOAL_REFUSED_ID},
+        {"pnml, nothing", HEAD TAIL, NESFOAL_REFUSED_NUMBER},
+    };
+    static const uint8_t one[20] = {3, 0, 0, 0,  4, 0, 0, 0,  1, 0,  0, 0,  0, 0,  0, 1,  'B', 'E', 'L', 'L'};
+    static uint8_t much[NESFOAL_MAX_FILE_BYTES + 1];
+    uint32_t length;
+    for (size_t i = 0; i < sizeof cases / sizeof cases[0]; i++) {
+        uint8_t file[21];
+        memset(file, 7, sizeof file);
+        length = 9;
+        expect(cases[i].what, nesfoal_from_pnml((const uint8_t *)cases[i].text, strlen(cases[i].text), file, 21, &length), cases[i].answer);
+        expect(cases[i].what, length, cases[i].answer ? 0 : 20);
+        expect(cases[i].what, file[20] == 7 && (cases[i].answer ? file[0] == 7 : memcmp(file, one, 20) == 0), 1);
+    }
+    expect("pnml, too little room", nesfoal_from_pnml((const uint8_t *)cases[0].text, strlen(cases[0].text), NULL, 0, &length), NESFOAL_REFUSED_BUFFER);
+    expect("pnml, too long", nesfoal_from_pnml(much, sizeof much, NULL, 0, &length), NESFOAL_REFUSED_LENGTH);
+}
+
 int main(void)
 {
     effects();
@@ -964,6 +997,7 @@ int main(void)
     ranges();
     transfers();
     normals();
+    texts();
     printf("%u passed, %u failed\n", passed, failed);
     return failed != 0;
 }
