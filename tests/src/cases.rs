@@ -7,7 +7,7 @@ use crate::range::Extent;
 use crate::replay::{Hindrance, Replayed};
 use crate::run_cut::RunCut;
 use crate::together::Together;
-use crate::{arcs, check, effect, normal, range, replay, run_cut, shadow, together, transfer};
+use crate::{arcs, check, effect, normal, pnml, range, replay, run_cut, shadow, together, transfer};
 use std::fmt::Write;
 
 /// Entries that are lent to a call, standing inside a larger piece of memory.
@@ -612,5 +612,27 @@ impl Case for VerdictFromCase {
 
     fn show(&self) -> String {
         self.plain.show() + &show_tokens("start", &self.start)
+    }
+}
+
+#[derive(Clone, Debug)]
+pub struct PnmlCase {
+    pub text: Lent<u8>,
+    pub plan: Lent<u8>,
+}
+
+impl Case for PnmlCase {
+    fn second(&self) -> Answer {
+        let mut lent = self.plan.clone();
+        let (number, length) = match pnml::from_pnml(self.text.part(), lent.part_mut()) {
+            Ok(length) => (0, length as i64),
+            Err(refusal) => (refusal, 0),
+        };
+        Answer::new(number, [length], vec![Cells::Bytes(lent.cells)])
+    }
+
+    fn show(&self) -> String {
+        let text = String::from_utf8_lossy(self.text.part());
+        format!("  text ({} bytes): {text:?}\n  plan: {} bytes lent\n", self.text.len, self.plan.len)
     }
 }

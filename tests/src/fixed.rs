@@ -9,10 +9,12 @@ use crate::read::read;
 
 pub mod capped;
 mod normal;
+mod pnml;
 mod range;
 mod starts;
 
 pub use normal::normals;
+pub use pnml::{every_form, texts};
 pub use range::ranges;
 pub use starts::{cuts_from, replays_from, transfers, verdicts_from};
 
@@ -1265,6 +1267,11 @@ mod tests {
         hold(cuts_from(Cut::Safety));
         hold(cuts_from(Cut::Branching));
         hold(verdicts_from());
+    }
+
+    #[test]
+    fn text_examples() {
+        hold(texts());
     }
 
     #[test]

@@ -10,6 +10,7 @@ pub mod effect;
 pub mod list;
 pub mod net;
 pub mod normal;
+pub mod pnml;
 pub mod range;
 pub mod read;
 pub mod replay;

@@ -630,6 +630,7 @@ mod tests {
             share("cut_from", |rng| cut_from_case(rng, which), &[0, 1, 2, 3, 4, 5, 6, 7, 10, 13, 16, 22, 24]);
         }
         share("verdict_from", verdict_from_case, &[&checker[..], &[22, 24]].concat());
+        share("pnml", pnml_case, &[0, 1, 13, 18, 19, 20]);
         // An odd number of bytes.
         checker.push(9);
         share("check", check_case, &checker);

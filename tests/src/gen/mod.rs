@@ -5,6 +5,7 @@ mod damage;
 mod draft;
 mod inputs;
 mod plan;
+mod pnml;
 mod slice;
 mod starts;
 
@@ -13,5 +14,6 @@ pub use damage::{any_refusal, damage};
 pub use draft::{Draft, DraftArc};
 pub use inputs::*;
 pub use plan::{capped_plan, limit_plan, plan};
+pub use pnml::pnml_case;
 pub use slice::*;
 pub use starts::*;

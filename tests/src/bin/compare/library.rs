@@ -291,6 +291,14 @@ pub fn verdict_from(case: &VerdictFromCase) -> Answer {
     Answer { inputs_kept, ..Answer::new(number, [breaking], vec![]) }
 }
 
+#[cfg(feature = "pnml")]
+pub fn pnml(case: &PnmlCase) -> Answer {
+    let (text, mut plan) = (case.text.clone(), case.plan.clone());
+    let mut length = UNSET;
+    let number = unsafe { nesfoal_from_pnml(text.pointer(), text.len, plan.pointer_mut(), plan.len, &mut length) };
+    Answer { inputs_kept: text == case.text, ..Answer::new(number, [length], vec![Cells::Bytes(plan.cells)]) }
+}
+
 #[cfg(feature = "check")]
 pub fn check(case: &CheckCase) -> Answer {
     let (plan, slice, q) = (case.plan.clone(), case.slice.clone(), case.q.clone());

@@ -18,6 +18,7 @@
     feature = "normal",
     feature = "transfer",
     feature = "from",
+    feature = "pnml",
     feature = "check"
 )))]
 compile_error!("no call to compare: turn a feature on");
@@ -35,6 +36,8 @@ mod branching;
 mod check;
 #[cfg(feature = "effect")]
 mod effect;
+#[cfg(feature = "pnml")]
+mod every_byte;
 #[cfg(feature = "run_cut")]
 mod fed;
 #[cfg(feature = "from")]
@@ -43,6 +46,8 @@ mod from;
 mod guarantee;
 #[cfg(feature = "normal")]
 mod normal;
+#[cfg(feature = "pnml")]
+mod pnml;
 #[cfg(feature = "range")]
 mod range;
 #[cfg(feature = "normal")]
@@ -126,6 +131,10 @@ fn comparisons() -> Vec<fn(&Settings) -> bool> {
         |s| frame::compare::<from::Branching>(s),
         #[cfg(feature = "from")]
         |s| frame::compare::<from::Verdict>(s),
+        #[cfg(feature = "pnml")]
+        |s| frame::compare::<pnml::Pnml>(s),
+        #[cfg(feature = "pnml")]
+        every_byte::compare,
         #[cfg(feature = "check")]
         |s| frame::compare::<check::Check>(s),
         #[cfg(feature = "check")]

@@ -6,6 +6,7 @@ use nesfoal_tests::cut::{cut, cut_from, Cut, Written};
 use nesfoal_tests::fixed::{self, Fixed};
 use nesfoal_tests::net::{Direction, Kind, Net, Refusal, MAX_FILE, MAX_LIST, MAX_PLACES};
 use nesfoal_tests::normal::{normal, too_heavy};
+use nesfoal_tests::pnml::{from_pnml, ids};
 use nesfoal_tests::range::{range, Extent};
 use nesfoal_tests::read::read;
 use nesfoal_tests::replay::{replay, replay_from, Hindrance, Replayed};
@@ -232,6 +233,18 @@ pub fn all() -> Vec<Verb> {
                 ("heavy", |due| replace(due, "refused 25", "refused 13")),
                 ("arcs", |due| replace(due, " arc", " bow")),
                 ABOVE,
+            ],
+        },
+        Verb {
+            name: "pnml",
+            outcomes: "written 1 18 19 20",
+            fixed: || each(fixed::texts(), of_pnml),
+            random: |rng| of_pnml(&gen::pnml_case(rng)),
+            spoils: &[
+                ("letter", another_letter),
+                ("ids", |due| replace(due, "\nplaces", "\nplaces x")),
+                ("profile", |due| replace(due, "refused 18", "refused 19")),
+                ("number", |due| replace(due, "refused 20", "refused 18")),
             ],
         },
         Verb {
@@ -612,6 +625,24 @@ fn of_normal(case: &NormalCase) -> Asked {
         Err(n) => refused(n, "plan"),
     };
     Asked::new(&["normal", "plan", OUT], &[("plan", &case.plan)], due)
+}
+
+fn of_pnml(case: &PnmlCase) -> Asked {
+    let text = case.text.part();
+    let mut buffer = vec![0; MAX_FILE];
+    let due = match from_pnml(text, &mut buffer) {
+        Ok(length) => {
+            let mut due = written_plan(&buffer[..length]);
+            let [places, transitions] = ids(text).expect("a text in the profile").map(|ids| {
+                let words: Vec<String> = ids.iter().map(|id| format!(" {id}")).collect();
+                words.concat()
+            });
+            due.says += &format!("places{places}\ntransitions{transitions}\n");
+            due
+        }
+        Err(n) => refused(n, "text"),
+    };
+    Asked::new(&["pnml", "text", OUT], &[("text", &case.text)], due)
 }
 
 /// `the arcs from place 1 to transition 0 weigh 65,536 together; at most 65,535`.
