@@ -38,7 +38,7 @@
 #include <stdint.h>
 
 /* One more with each change of a call, of a number or of the files, so that a program can refuse to be built with another. */
-#define NESFOAL_VERSION 12
+#define NESFOAL_VERSION 13
 
 /* The limits of a file, and of a list that a call takes. */
 #define NESFOAL_MAX_FILE_BYTES 65536

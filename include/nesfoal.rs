@@ -3,7 +3,7 @@
 
 #![allow(dead_code)]
 
-pub const NESFOAL_VERSION: u32 = 12;
+pub const NESFOAL_VERSION: u32 = 13;
 
 pub const NESFOAL_MAX_FILE_BYTES: usize = 65536;
 pub const NESFOAL_MAX_PLACES: usize = 1024;
