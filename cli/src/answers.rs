@@ -1,7 +1,7 @@
 //! What the program says. An answer is a sentence with holes: filled in, they are its words; their names and values are its JSON.
 
 use crate::library::{Extent, Side, Slice, Stop};
-use crate::net::{Arc, Net};
+use crate::net::{self, Arc, Net, Node};
 use std::io::Write;
 
 /// The exit status that an answer asks for.
@@ -19,6 +19,12 @@ pub enum Value {
     Number(i128),
     /// A number of things: `1 place`, `2 places`.
     Count(u64, &'static str),
+    /// So many of them: `3 of 5 places`.
+    Of(u64, u64, &'static str),
+    /// A place or a transition, in words with whose number it is.
+    Node(Node),
+    /// Places and by how much each is short or over: `place 3 by 2`.
+    Amounts(Vec<(Node, u32)>),
     /// A text or a file's name, as it is.
     Text(Vec<u8>),
     /// In words, and in JSON.
@@ -54,6 +60,7 @@ value! {
     &[u16]: list => Value::Numbers(list.iter().map(|n| (*n).into()).collect());
     &[u64]: list => Value::Numbers(list.into());
     Vec<Arc>: arcs => Value::Arcs(arcs);
+    Node: node => Value::Node(node);
 }
 
 #[derive(Clone, Debug, PartialEq)]
@@ -161,6 +168,14 @@ impl Value {
         match self {
             Value::Number(n) => put(out, n),
             Value::Count(n, thing) => put(out, counted(*n, thing)),
+            Value::Of(n, all, thing) => put(out, format_args!("{n} of {}", counted(*all, thing))),
+            Value::Node(node) => put(out, named(node)),
+            Value::Amounts(amounts) => {
+                for (i, (place, amount)) in amounts.iter().enumerate() {
+                    let join = if i == 0 { "" } else { ", " };
+                    put(out, format_args!("{join}{} by {amount}", named(place)));
+                }
+            }
             Value::Text(text) => out.extend_from_slice(text),
             Value::Either(words, _) => put(out, words),
             Value::Reason(of, why) => out.extend_from_slice(&reason(of, why)),
@@ -179,7 +194,11 @@ impl Value {
     fn json(&self, out: &mut Vec<u8>) {
         match self {
             Value::Number(n) => put(out, n),
-            Value::Count(n, _) => put(out, n),
+            Value::Count(n, _) | Value::Of(n, ..) => put(out, n),
+            Value::Node(node) => put(out, node.number),
+            Value::Amounts(amounts) => each(amounts, out, |(place, amount), out| {
+                put(out, format_args!("{{\"place\":{},\"amount\":{amount}}}", place.number));
+            }),
             Value::Text(text) => quote(text, out),
             Value::Either(_, key) => quote(key.as_bytes(), out),
             Value::Reason(of, why) => quote(&reason(of, why), out),
@@ -190,6 +209,15 @@ impl Value {
             }),
             Value::Texts(texts) => each(texts, out, |text, out| quote(text.as_bytes(), out)),
         }
+    }
+}
+
+/// `place 3`, or `the slice's place 1 (the plan's 3)`.
+fn named(node: &Node) -> String {
+    let Node { what, number, origin } = node;
+    match origin {
+        Some(origin) => format!("the slice's {what} {number} (the plan's {origin})"),
+        None => format!("{what} {number}"),
     }
 }
 
@@ -283,17 +311,19 @@ pub fn refused(number: u32, of: Option<&[u8]>, why: impl Into<String>) -> Answer
 }
 
 /// The refusal of a run cut whose list sticks.
-pub fn sticks(number: u32, transition: u16, stop: Stop) -> Answer {
-    let why = String::from_utf8_lossy(&stuck(transition, stop).words()).into_owned();
+pub fn sticks(number: u32, stopped: Stopped) -> Answer {
+    let Stopped { transition, place, stop, .. } = stopped;
+    let why = String::from_utf8_lossy(&stuck(stopped).words()).into_owned();
     refused(number, None, format!("list: {why}"))
         .data("index", stop.index)
         .data("transition", transition)
-        .data("place", stop.place)
+        .data("place", place)
         .data("short", stop.amount)
 }
 
-pub fn effect(effect: i32, transition: u32, place: u32) -> Answer {
-    answer!("effect", Good, "effect {effect} of transition {transition} on place {place}", effect, transition, place)
+pub fn effect(effect: i32, place: Node, transition: Node) -> Answer {
+    answer!("effect", Good, "effect {effect} on {place} of {transition}", effect, place, transition)
+        .with_plans_numbers(transition, place)
 }
 
 pub fn arcs(arcs: Vec<Arc>, transition: u32, side: Side) -> Answer {
@@ -314,17 +344,75 @@ pub fn fired(list: usize, marking: &[u64]) -> Answer {
     answer!("fired", Good, "fired {fired}, ending{marking}", count(list, "transition"), marking)
 }
 
-pub fn stuck(transition: u16, stop: Stop) -> Answer {
-    let sentence = "stuck at index {index}: transition {transition}, place {place} is short of {short}";
-    answer!("stuck", Bad, sentence, stop.index, transition, stop.place, stop.amount)
+/// The firing that does not happen, and the place where.
+#[derive(Clone, Copy)]
+pub struct Stopped {
+    pub transition: Node,
+    pub place: Node,
+    pub stop: Stop,
 }
 
-pub fn full(transition: u16, stop: Stop) -> Answer {
-    let sentence = "full at index {index}: transition {transition}, place {place} is over by {over}";
-    answer!("full", Bad, sentence, stop.index, transition, stop.place, stop.amount)
+pub fn stuck(Stopped { transition, place, stop }: Stopped) -> Answer {
+    let sentence = "stuck at index {index}: {transition}, {place} is short of {short}";
+    answer!("stuck", Bad, sentence, stop.index, transition, place, stop.amount).with_plans_numbers(transition, place)
+}
+
+pub fn full(Stopped { transition, place, stop }: Stopped) -> Answer {
+    let sentence = "full at index {index}: {transition}, {place} is over by {over}";
+    answer!("full", Bad, sentence, stop.index, transition, place, stop.amount).with_plans_numbers(transition, place)
+}
+
+/// What stands around a firing that does not happen.
+pub struct Around {
+    /// The other places that are short, or over.
+    pub also: Vec<(Node, u32)>,
+    /// No place above this one was looked at.
+    pub up_to: Option<u32>,
+    /// The marking there.
+    pub marking: Vec<u64>,
+    /// The transitions that can fire there.
+    pub can_fire: Vec<u16>,
+    pub is_slice: bool,
 }
 
 impl Answer {
+    /// In a slice, with the plan's numbers for JSON: words have them.
+    fn with_plans_numbers(self, transition: Node, place: Node) -> Answer {
+        match (transition.origin, place.origin) {
+            (Some(t), Some(p)) => self.data("plan_transition", t).data("plan_place", p),
+            _ => self,
+        }
+    }
+
+    /// A stop with what stands around it, a line each.
+    pub fn with_around(self, around: Around) -> Answer {
+        let also = if self.outcome == "full" { "\nalso over: " } else { "\nalso short: " };
+        let mut answer = match around.also.is_empty() {
+            true => self.data("also", Value::Amounts(Vec::new())),
+            false => self.say(also).and_says("{also}", vec![Value::Amounts(around.also)]),
+        };
+        if let Some(place) = around.up_to {
+            answer = answer.and_says("\nplaces above {up_to} were not looked at", vec![place.into()]);
+        }
+        answer = answer.and_says("\nmarking there:{marking}", vec![around.marking[..].into()]);
+        let whose = if around.is_slice { "the slice's " } else { "" };
+        let can = match around.can_fire.len() {
+            0 => "\ncan fire there: no transition".into(),
+            1 => format!("\ncan fire there: {whose}transition"),
+            _ => format!("\ncan fire there: {whose}transitions"),
+        };
+        answer.say(can).and_says("{can_fire}", vec![around.can_fire[..].into()])
+    }
+
+    /// With the words for a criterion of no place.
+    pub fn for_no_place(self, criterion: &[u16]) -> Answer {
+        if criterion.is_empty() {
+            self.say(", for no place")
+        } else {
+            self
+        }
+    }
+
     /// A firing's answer with its shadow on a line below.
     pub fn with_shadow(self, shadow: &[u16]) -> Answer {
         self.and_says("\nshadow{shadow}", vec![shadow.into()])
@@ -336,9 +424,9 @@ impl Answer {
         self.and_says("\nplaces{place_ids}\ntransitions{transition_ids}", values)
     }
 
-    /// A cut's answer with the chosen positions on a line below.
-    pub fn with_chosen(self, chosen: &[u16]) -> Answer {
-        self.and_says("\nchosen{chosen}", vec![chosen.into()])
+    /// A cut's answer with the chosen positions on a line below, and the same firings by the slice's own numbers on another.
+    pub fn with_chosen(self, positions: &[u16], list: &[u16]) -> Answer {
+        self.and_says("\nchosen positions{positions}\nthe slice's list{list}", vec![positions.into(), list.into()])
     }
 }
 
@@ -380,13 +468,19 @@ pub fn carried(marking: &[u64]) -> Answer {
     answer!("carried", Good, "carried {tokens}, ending{marking}", tokens, marking)
 }
 
-pub fn written(file: &[u8], slice: &Slice) -> Answer {
-    let [bytes, places, transitions] = [
+/// A slice of so many of the plan's places and transitions.
+pub fn written(file: &[u8], slice: &Slice, plan: &[u8]) -> Answer {
+    let (all_places, all_transitions) = (net::places(plan) as u64, net::transitions(plan) as u64);
+    let values = vec![
+        file.into(),
         count(slice.bytes.len(), "byte"),
-        Value::Count(slice.places.into(), "place"),
-        Value::Count(slice.transitions.into(), "transition"),
+        Value::Of(slice.places.into(), all_places, "place"),
+        Value::Of(slice.transitions.into(), all_transitions, "transition"),
     ];
-    answer!("written", Good, "written {file}: {bytes}, {places}, {transitions}", file, bytes, places, transitions)
+    Answer::new("written", Status::Good)
+        .and_says("written {file}: {bytes}, {places}, {transitions}", values)
+        .data("plan_places", all_places)
+        .data("plan_transitions", all_transitions)
 }
 
 pub fn written_plan(file: &[u8], net: &Net) -> Answer {
@@ -418,8 +512,8 @@ const RULES: [(Value, &str); 10] = [
     (TRANSITION, "it is kept and a place with a cap that it adds to is not"),
     (TRANSITION, "it is left out and changes a kept place that has a cap"),
 ];
-const PLACE: Value = Value::Either("place", "place");
-const TRANSITION: Value = Value::Either("transition", "transition");
+const PLACE: Value = Value::Either("the plan's place", "plan place");
+const TRANSITION: Value = Value::Either("the plan's transition", "plan transition");
 
 pub fn broken(rule: u32, number: u32) -> Answer {
     let (by, reason) = RULES[rule as usize - 1].clone();
@@ -518,10 +612,46 @@ mod tests {
 
     #[test]
     fn both_ways() {
+        let node = |what, number, origin| Node { what, number, origin };
         let stop = Stop { index: 1, place: 2, amount: 3 };
-        let answer = stuck(4, stop).with_shadow(&[5, 6]);
+        let of_plan = Stopped { transition: node("transition", 4, None), place: node("place", 2, None), stop };
+        let answer = stuck(of_plan).with_shadow(&[5, 6]);
         assert_eq!(answer.words(), b"stuck at index 1: transition 4, place 2 is short of 3\nshadow 5 6");
         assert_eq!(json(&answer), r#""outcome":"stuck","index":1,"transition":4,"place":2,"short":3,"shadow":[5,6]"#);
+
+        let of_slice = Stopped { transition: node("transition", 4, Some(9)), place: node("place", 2, Some(7)), stop };
+        let words =
+            "full at index 1: the slice's transition 4 (the plan's 9), the slice's place 2 (the plan's 7) is over by 3";
+        assert_eq!(full(of_slice).words(), words.as_bytes());
+    }
+
+    #[test]
+    fn around_a_stop() {
+        let node = |what, number| Node { what, number, origin: None };
+        let stop = Stop { index: 1, place: 2, amount: 3 };
+        let stopped = Stopped { transition: node("transition", 4), place: node("place", 2), stop };
+        let around = |also: &[u32], up_to, can_fire: &[u16], is_slice| {
+            let also = also.iter().map(|&p| (node("place", p), p + 1)).collect();
+            Around { also, up_to, marking: vec![8, 9], can_fire: can_fire.to_vec(), is_slice }
+        };
+        let words = |answer: Answer| String::from_utf8(answer.words()).unwrap();
+        let first = "stuck at index 1: transition 4, place 2 is short of 3\n";
+        for (around, lines) in [
+            (around(&[], None, &[], false), "marking there: 8 9\ncan fire there: no transition"),
+            (around(&[], None, &[1], false), "marking there: 8 9\ncan fire there: transition 1"),
+            (
+                around(&[3, 4], Some(5), &[1, 2], true),
+                "also short: place 3 by 4, place 4 by 5\nplaces above 5 were not looked at\nmarking there: 8 9\n\
+                 can fire there: the slice's transitions 1 2",
+            ),
+        ] {
+            assert_eq!(words(stuck(stopped).with_around(around)), format!("{first}{lines}"));
+        }
+        assert_eq!(
+            json(&stuck(stopped).with_around(around(&[3], None, &[], false))),
+            "\"outcome\":\"stuck\",\"index\":1,\"transition\":4,\"place\":2,\"short\":3,\
+             \"also\":[{\"place\":3,\"amount\":4}],\"marking\":[8,9],\"can_fire\":[]"
+        );
     }
 
     #[test]

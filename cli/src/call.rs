@@ -2,7 +2,7 @@
 
 use crate::answers::{self, quote, Answer, Status};
 use crate::files::{self, File, Input, Named, Out};
-use crate::numbers::{self, Entry, Kind, LIST, MARKING};
+use crate::numbers::{self, Criterion, Entry, Kind, CRITERION, LIST, MARKING};
 use crate::verbs::Verb;
 use crate::words::{brief, Command};
 use std::ffi::{OsStr, OsString};
@@ -40,9 +40,14 @@ impl<'a> Call<'a> {
         }
     }
 
-    /// The place or the transition that word i is.
-    pub fn number(&self, i: usize) -> Result<u32, Answer> {
-        numbers::numbered(&self.words[i])
+    /// The place that word i is.
+    pub fn place(&self, i: usize) -> Result<u32, Answer> {
+        numbers::numbered(&self.words[i], b'p')
+    }
+
+    /// The transition that word i is.
+    pub fn transition(&self, i: usize) -> Result<u32, Answer> {
+        numbers::numbered(&self.words[i], b't')
     }
 
     /// The list that the words of a range are.
@@ -55,12 +60,28 @@ impl<'a> Call<'a> {
         self.list(i..self.words.len(), kind)
     }
 
+    /// The criterion that the words of a range are.
+    pub fn criterion(&mut self, range: Range<usize>) -> Result<Criterion, Answer> {
+        self.list(range, &CRITERION).map(Criterion::new)
+    }
+
     /// The list that the words of a range are, and the marking after `from`, where that stands among them.
     pub fn list_and_start(&mut self, range: Range<usize>) -> Result<(Vec<u16>, Option<Vec<u64>>), Answer> {
-        let from = self.find(range.start, "from").filter(|&from| from < range.end);
-        let list = self.list(range.start..from.unwrap_or(range.end), &LIST)?;
-        let marking = from.map(|from| self.list(from + 1..range.end, &MARKING)).transpose()?;
-        Ok((list, marking))
+        let (list, start) = self.parted_by_from(range);
+        Ok((self.list(list, &LIST)?, start.map(|start| self.list(start, &MARKING)).transpose()?))
+    }
+
+    /// The same with a criterion.
+    pub fn criterion_and_start(&mut self, range: Range<usize>) -> Result<(Criterion, Option<Vec<u64>>), Answer> {
+        let (criterion, start) = self.parted_by_from(range);
+        Ok((self.criterion(criterion)?, start.map(|start| self.list(start, &MARKING)).transpose()?))
+    }
+
+    fn parted_by_from(&self, range: Range<usize>) -> (Range<usize>, Option<Range<usize>>) {
+        match self.find(range.start, "from").filter(|&from| from < range.end) {
+            Some(from) => (range.start..from, Some(from + 1..range.end)),
+            None => (range, None),
+        }
     }
 
     /// Where a word stands that parts one list from the next: the first such word from i on.
@@ -71,7 +92,9 @@ impl<'a> Call<'a> {
     /// OUT, word 1, is no number and no list: else it was left out.
     pub fn has_out(&mut self) -> Done {
         let bytes = self.words[1].as_bytes();
-        let is_number = !bytes.is_empty() && bytes.iter().all(u8::is_ascii_digit);
+        let digits = bytes.strip_prefix(b"p").unwrap_or(bytes);
+        let is_number = digits.first().is_some_and(u8::is_ascii_digit)
+            && bytes.iter().all(|b| b.is_ascii_digit() || matches!(b, b',' | b'p'));
         if is_number || (bytes.starts_with(b"@") && !bytes.contains(&b'/')) {
             let name = brief(bytes);
             let why = format!("OUT is {name}: is it left out? A file of that name is ./{name}");

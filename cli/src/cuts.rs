@@ -4,8 +4,9 @@ use crate::answers::{self, Answer};
 use crate::call::{Call, Done};
 use crate::diagnose::Asked;
 use crate::files::{self, Out};
+use crate::firing::stopped;
 use crate::library::{self, Refusal, Slice, Start};
-use crate::net::places;
+use crate::net::{places, Nodes};
 use crate::numbers::LIST;
 use crate::progress::Progress;
 use std::os::unix::ffi::OsStrExt;
@@ -24,12 +25,12 @@ pub fn branching(call: &mut Call) -> Done {
 
 fn cut(call: &mut Call, cut: Cut) -> Done {
     call.has_out()?;
-    let (criterion, start) = call.list_and_start(2..call.words.len())?;
+    let (criterion, start) = call.criterion_and_start(2..call.words.len())?;
     let (plan, start) = (call.file(0)?, start.as_deref());
-    let asked = Asked { files: &[&plan], start, criterion: &criterion, ..Asked::default() };
-    let slice = asked.granted(cut(&plan.bytes, start, &criterion))?;
-    let answer = answers::written(call.write("slice", &slice.bytes, "plan")?, &slice);
-    call.tell(answer)
+    let asked = Asked { files: &[&plan], start, criterion: &criterion.given, ..Asked::default() };
+    let slice = asked.granted(cut(&plan.bytes, start, &criterion.rising))?;
+    let answer = answers::written(call.write("slice", &slice.bytes, "plan")?, &slice, &plan.bytes);
+    call.tell(answer.for_no_place(&criterion.rising))
 }
 
 /// run PLAN OUT LIST for [Q..]
@@ -37,15 +38,17 @@ pub fn run(call: &mut Call) -> Done {
     let middle = call.find(2, "for").ok_or_else(|| call.misused())?;
     call.has_out()?;
     let list = call.list(2..middle, &LIST)?;
-    let criterion = call.list_from(middle + 1, &LIST)?;
+    let criterion = call.criterion(middle + 1..call.words.len())?;
     let plan = call.file(0)?;
-    let asked = Asked { files: &[&plan], criterion: &criterion, list: &list, ..Asked::default() };
-    let (slice, chosen) = library::run_cut(&plan.bytes, &criterion, &list).map_err(|no| match no.refusal {
-        Refusal::Stuck => answers::sticks(no.refusal.number(), list[no.stop.index as usize], no.stop),
+    let asked = Asked { files: &[&plan], criterion: &criterion.given, list: &list, ..Asked::default() };
+    let (slice, chosen) = library::run_cut(&plan.bytes, &criterion.rising, &list).map_err(|no| match no.refusal {
+        Refusal::Stuck => answers::sticks(no.refusal.number(), stopped(&Nodes::of(&plan.bytes), &list, no.stop)),
         refusal => asked.refused(refusal),
     })?;
-    let answer = answers::written(call.write("slice", &slice.bytes, "plan")?, &slice);
-    call.tell(answer.with_chosen(&chosen))
+    let answer = answers::written(call.write("slice", &slice.bytes, "plan")?, &slice, &plan.bytes);
+    let nodes = Nodes::of(&slice.bytes);
+    let own = chosen.iter().filter_map(|&i| nodes.own_transition(list[usize::from(i)]));
+    call.tell(answer.for_no_place(&criterion.rising).with_chosen(&chosen, &own.collect::<Vec<_>>()))
 }
 
 /// safety-each PLAN FOLDER
@@ -84,7 +87,7 @@ fn each(call: &mut Call, cut: Cut) -> Done {
         let slice = asked.granted(cut(&plan.bytes, None, &[p as u16]))?;
         out.write(&slice.bytes)?;
         progress.hide();
-        call.tell(answers::written(out.name(), &slice))?;
+        call.tell(answers::written(out.name(), &slice, &plan.bytes))?;
         call.out.flush();
     }
     Ok(())

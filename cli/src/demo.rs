@@ -18,7 +18,7 @@ pub fn demo(call: &mut Call) -> Done {
     run(call, "effect small-kerb.plan 3 2")?;
     call.tell(answers::command("safety small-kerb.plan kerb.slice 2"))?;
     if let Ok(slice) = library::safety(PLAN, None, &[2]) {
-        call.tell(answers::written(b"kerb.slice", &slice))?;
+        call.tell(answers::written(b"kerb.slice", &slice, PLAN))?;
         call.memory.push(File { name: "kerb.slice".into(), bytes: slice.bytes });
     }
     run(call, "show kerb.slice")?;

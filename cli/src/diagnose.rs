@@ -61,7 +61,10 @@ impl Asked<'_> {
             Refusal::Capped if self.upper.is_some() => {
                 of_file("a plan with caps; there more tokens can block a firing, and no marking is the least".into())
             }
-            Refusal::Capped => of_file("a plan with caps; the cut for a run is of plans without".into()),
+            Refusal::Capped => of_file(
+                "a plan with caps, and the cut for a run is of plans without; safety cuts it for all runs, and replay fires the list"
+                    .into(),
+            ),
             Refusal::Profile | Refusal::Id | Refusal::Number => match pnml::why(refusal, &file.bytes) {
                 Some((why, Some(at))) => {
                     of_file(format!("{at}: {why}")).data("line", at.line).data("column", at.column)
@@ -201,14 +204,14 @@ fn first_too_heavy(net: Net) -> Option<String> {
     })
 }
 
-/// The first entry of a criterion that is no place, or not above the entry before.
+/// The first entry of a criterion, in the order in which it was given, that is no place or stands before.
 fn criterion(q: &[u16], places: usize) -> String {
     for (i, &n) in q.iter().enumerate() {
         if usize::from(n) >= places {
             return format!("entry {i} is {n}: no such place; P is {places}");
         }
-        if i > 0 && n <= q[i - 1] {
-            return format!("entry {i} is {n}: not above the entry before");
+        if let Some(before) = q[..i].iter().position(|&m| m == n) {
+            return format!("entry {i} is {n}, and so is entry {before}");
         }
     }
     "it is refused".into()

@@ -133,6 +133,53 @@ impl<'a> Net<'a> {
     }
 }
 
+/// A place or a transition by its number, in a slice with the plan's number beside it.
+#[derive(Clone, Copy, Debug, PartialEq, Eq)]
+pub struct Node {
+    /// `place` or `transition`.
+    pub what: &'static str,
+    pub number: u32,
+    pub origin: Option<u16>,
+}
+
+/// The nodes of a file, by their numbers there.
+pub struct Nodes {
+    is_slice: bool,
+    places: usize,
+    origins: Vec<u16>,
+}
+
+impl Nodes {
+    pub fn of(file: &[u8]) -> Nodes {
+        let net = Net::by_trailer(file);
+        Nodes {
+            is_slice: net.is_some_and(|net| net.trailer.is_slice()),
+            places: net.map_or(0, |net| net.trailer.places),
+            origins: net.map_or(Vec::new(), |net| net.origins()),
+        }
+    }
+
+    /// Whose numbers they are.
+    pub fn is_slice(&self) -> bool {
+        self.is_slice
+    }
+
+    pub fn place(&self, number: u32) -> Node {
+        Node { what: "place", number, origin: self.origins.get(number as usize).copied() }
+    }
+
+    pub fn transition(&self, number: u32) -> Node {
+        let origin = self.origins.get(self.places + number as usize).copied();
+        Node { what: "transition", number, origin }
+    }
+
+    /// The slice's own number of a transition of the plan.
+    pub fn own_transition(&self, origin: u16) -> Option<u16> {
+        let own = self.origins.get(self.places..)?.iter().position(|n| *n == origin)?;
+        u16::try_from(own).ok()
+    }
+}
+
 /// The arcs that stand in so many bytes.
 pub fn arcs_of(bytes: &[u8]) -> Vec<Arc> {
     let arc = |b: &[u8]| Arc {

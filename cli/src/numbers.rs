@@ -43,32 +43,62 @@ pub struct Kind<T> {
     ends: &'static [&'static [u8]],
     /// The entry that the word `none` is.
     none: Option<T>,
+    /// The letter that may stand before a number, as in pictures: p3, t0.
+    letter: Option<u8>,
 }
 
-/// A criterion, or a list of transitions: the shadow of an answer.
+/// Places.
+pub const CRITERION: Kind<u16> =
+    Kind { name: "a list", most: MAX_LIST_ENTRIES, starts: &[], ends: &[], none: None, letter: Some(b'p') };
+
+/// Transitions: the shadow of an answer, or the slice's list of a run cut.
 pub const LIST: Kind<u16> = Kind {
     name: "a list",
     most: MAX_LIST_ENTRIES,
-    starts: &[b"fired", b"stuck", b"full", b"shadow"],
-    ends: &[b"shadow"],
+    starts: &[b"fired", b"stuck", b"full", b"shadow", b"written"],
+    ends: &[b"shadow", b"list"],
     none: None,
+    letter: Some(b't'),
 };
 
 /// Tokens for each place: the marking of an answer.
 pub const MARKING: Kind<u64> = Kind {
     name: "a marking",
     most: MAX_PLACES,
-    starts: &[b"fired", b"taken", b"unlimited,", b"carried", b"always", b"sometimes", b"never"],
+    starts: &[b"fired", b"taken", b"unlimited", b"carried", b"always", b"sometimes", b"never"],
     ends: &[b"ending", b"leaving", b"needed"],
     none: None,
+    letter: None,
 };
 
 /// The most tokens of each place.
-pub const UPPER: Kind<u32> =
-    Kind { name: "an upper list", most: MARKING.most, starts: MARKING.starts, ends: MARKING.ends, none: None };
+pub const UPPER: Kind<u32> = Kind {
+    name: "an upper list",
+    most: MARKING.most,
+    starts: MARKING.starts,
+    ends: MARKING.ends,
+    none: None,
+    letter: None,
+};
 
 /// For each place of an old plan its place in a new one, or none.
-pub const TABLE: Kind<u16> = Kind { name: "a table", most: MAX_PLACES, starts: &[], ends: &[], none: Some(NO_PLACE) };
+pub const TABLE: Kind<u16> =
+    Kind { name: "a table", most: MAX_PLACES, starts: &[], ends: &[], none: Some(NO_PLACE), letter: Some(b'p') };
+
+/// The places of a criterion in the order in which they were given, and rising, as the library takes them. One that is given twice
+/// stands twice in both.
+pub struct Criterion {
+    pub given: Vec<u16>,
+    pub rising: Vec<u16>,
+}
+
+impl Criterion {
+    pub fn new(given: Vec<u16>) -> Criterion {
+        let mut rising = given.clone();
+        rising.sort_unstable();
+        Criterion { given, rising }
+    }
+}
 
 /// The number that a text is: digits, at most `largest`.
 fn parsed(text: &[u8], largest: u64) -> Option<u64> {
@@ -84,27 +114,33 @@ fn no_number(word: &[u8], largest: u64) -> String {
     format!("'{}' is not a number from 0 to {largest}", brief(word))
 }
 
-/// One number, a word of the command.
-pub fn number<T: Entry>(word: &OsStr) -> Result<T, Answer> {
-    let word = word.as_bytes();
-    parsed(word, T::LARGEST).map(T::new).ok_or_else(|| answers::error(no_number(word, T::LARGEST)))
+/// A number without the letter before it, if that is there and a digit follows.
+fn unlettered(word: &[u8], letter: Option<u8>) -> &[u8] {
+    match word {
+        [first, rest @ ..] if Some(*first) == letter && rest.first().is_some_and(u8::is_ascii_digit) => rest,
+        _ => word,
+    }
 }
 
 impl<T: Entry> Kind<T> {
     /// The entry that a word of the list is, or why it is none.
     fn entry(&self, word: &[u8]) -> Result<T, String> {
         let none = self.none.filter(|_| word == b"none");
-        none.or_else(|| parsed(word, T::LARGEST).map(T::new)).ok_or_else(|| {
+        none.or_else(|| parsed(unlettered(word, self.letter), T::LARGEST).map(T::new)).ok_or_else(|| {
             let or_none = if self.none.is_some() { ", nor none" } else { "" };
             no_number(word, T::LARGEST) + or_none
         })
     }
 }
 
-/// A place or a transition, a word of the command. No net has one above 32 bits: all those count as the largest of 32 bits.
-pub fn numbered(word: &OsStr) -> Result<u32, Answer> {
-    let digits = !word.is_empty() && word.as_bytes().iter().all(u8::is_ascii_digit);
-    number(word).or_else(|fault| if digits { Ok(u32::MAX) } else { Err(fault) })
+/// A place (p3) or a transition (t0), a word of the command. No net has one above 32 bits: all those count as the largest of 32 bits.
+pub fn numbered(word: &OsStr, letter: u8) -> Result<u32, Answer> {
+    let word = word.as_bytes();
+    let number = unlettered(word, Some(letter));
+    if number.is_empty() || !number.iter().all(u8::is_ascii_digit) {
+        return Err(answers::error(no_number(word, u32::MAX.into())));
+    }
+    Ok(parsed(number, u32::MAX.into()).map_or(u32::MAX, u32::new))
 }
 
 /// The name in a word @FILE.
@@ -134,7 +170,53 @@ pub fn list<T: Entry>(words: &[OsString], kind: &Kind<T>, input: &mut Input) -> 
     if words.first().is_some_and(|word| named(word).is_some()) {
         return Err(answers::error("a list is numbers, or one @FILE"));
     }
-    words.iter().take(kind.most + 1).map(|word| kind.entry(word.as_bytes()).map_err(answers::error)).collect()
+    let mut parted = Parted::default();
+    for word in words {
+        parted.add(word.as_bytes(), |_| false); // white space in a word is a part of it
+        if word.is_empty() {
+            parted.words.push(b"");
+        }
+    }
+    parted.end().into_iter().take(kind.most + 1).map(|word| kind.entry(word).map_err(answers::error)).collect()
+}
+
+/// Text in words, with white space or one comma between two of them. A comma that is not between two stands for a word.
+#[derive(Default)]
+struct Parted<'a> {
+    words: Vec<&'a [u8]>,
+    /// Has the last comma no word after it, and which is it?
+    comma: Option<&'a [u8]>,
+}
+
+impl<'a> Parted<'a> {
+    fn add(&mut self, text: &'a [u8], is_white: fn(&u8) -> bool) {
+        let mut rest = text;
+        while let Some(first) = rest.first() {
+            let length = match first {
+                b',' => 1,
+                first if is_white(first) => {
+                    rest = &rest[1..];
+                    continue;
+                }
+                _ => rest.iter().position(|b| *b == b',' || is_white(b)).unwrap_or(rest.len()),
+            };
+            let (word, after) = rest.split_at(length);
+            rest = after;
+            match word {
+                b"," if self.words.is_empty() || self.comma.is_some() => self.words.push(word),
+                b"," => self.comma = Some(word),
+                _ => {
+                    self.comma = None;
+                    self.words.push(word);
+                }
+            }
+        }
+    }
+
+    fn end(mut self) -> Vec<&'a [u8]> {
+        self.words.extend(self.comma);
+        self.words
+    }
 }
 
 /// The entries of a list's file. One with nothing but text in it is no list of bytes: as numbers of two bytes all would be above
@@ -160,15 +242,16 @@ fn of_bytes<T: Entry>(bytes: &[u8], kind: &Kind<T>) -> Result<Vec<T>, String> {
 }
 
 fn of_text<T: Entry>(text: &[u8], kind: &Kind<T>) -> Result<Vec<T>, String> {
-    let mut words = text.split(|b| matches!(b, 9..=13 | 32)).filter(|word| !word.is_empty()).peekable();
-    if let Some(first) = words.next_if(|word| kind.starts.contains(word)) {
-        let is_end = |word: &[u8]| kind.ends.contains(&word);
-        if !is_end(first) && !words.any(is_end) {
-            return Err(no_number(first, T::LARGEST));
-        }
+    let mut parted = Parted::default();
+    parted.add(text, |b| matches!(b, 9..=13 | 32));
+    let words = parted.end();
+    let mut numbers = &words[..];
+    if let Some(first) = words.first().filter(|word| kind.starts.contains(word)) {
+        let end = words.iter().rposition(|word| kind.ends.contains(word));
+        numbers = &words[1 + end.ok_or_else(|| no_number(first, T::LARGEST))?..];
     }
     let mut list = Vec::new();
-    for word in words {
+    for word in numbers {
         let entry = kind.entry(word)?;
         if list.len() <= kind.most {
             list.push(entry);
@@ -196,11 +279,12 @@ mod tests {
         assert_eq!(parsed(b"65535", 65535), Some(65535));
         assert_eq!(parsed(b"65536", 65535), None);
         for (text, n) in [("3", 3), ("65539", 65_539), ("4294967295", u32::MAX), ("4294967299", u32::MAX)] {
-            assert_eq!(numbered(text.as_ref()), Ok(n));
+            assert_eq!(numbered(text.as_ref(), b'p'), Ok(n));
+            assert_eq!(numbered(format!("p{text}").as_ref(), b'p'), Ok(n));
         }
-        assert_eq!(numbered("9".repeat(99).as_ref()), Ok(u32::MAX));
-        for text in ["", "-1", "1x", "99999999999x"] {
-            assert!(numbered(text.as_ref()).is_err(), "{text}");
+        assert_eq!(numbered("9".repeat(99).as_ref(), b't'), Ok(u32::MAX));
+        for text in ["", "-1", "1x", "99999999999x", "t3", "p", "p-1", "pp3", "P3"] {
+            assert!(numbered(text.as_ref(), b'p').is_err(), "{text}");
         }
     }
 
@@ -213,10 +297,21 @@ mod tests {
             ("fired 3 transitions, ending 0 1\nshadow 0 1\n", vec![0, 1]),
             ("stuck at index 0: x\nshadow", vec![]),
             ("shadow 7", vec![7]),
+            ("t3,t0, 1\n,\n2", vec![3, 0, 1, 2]),
+            ("written a list, 5: 16 bytes\nthe slice's list 0 1", vec![0, 1]),
         ] {
             assert_eq!(of_bytes(text.as_bytes(), &LIST), Ok(list), "{text}");
         }
-        for (text, word) in [("1 shadow", "shadow"), ("fired 1, ending 2", "fired"), ("1 65536", "65536"), ("x", "x")] {
+        for (text, word) in [
+            ("1 shadow", "shadow"),
+            ("fired 1, ending 2", "fired"),
+            ("1 65536", "65536"),
+            ("x", "x"),
+            ("p3", "p3"),
+            (",1", ","),
+            ("1,", ","),
+            ("1,,2", ","),
+        ] {
             let why = format!("'{word}' is not a number from 0 to 65535");
             assert_eq!(of_bytes(text.as_bytes(), &LIST), Err(why), "{text}");
         }
@@ -225,6 +320,21 @@ mod tests {
         assert_eq!(of_bytes(b"carried 3 tokens, ending 1 2", &MARKING), Ok(vec![1, 2]));
         assert_eq!(of_bytes(b"0 none 2\n65535", &TABLE), Ok(vec![0, NO_PLACE, 2, NO_PLACE]));
         assert!(of_bytes(b"none", &LIST).is_err() && of_bytes(b"None", &TABLE).is_err());
+        assert_eq!(of_bytes(b"p5 p3,4", &CRITERION), Ok(vec![5, 3, 4]));
+        let Criterion { given, rising } = Criterion::new(vec![5, 3, 5]);
+        assert_eq!((given, rising), (vec![5, 3, 5], vec![3, 5, 5]));
+    }
+
+    #[test]
+    fn words_of_the_command() {
+        let list = |words: &[&str]| {
+            let words: Vec<OsString> = words.iter().map(OsString::from).collect();
+            list(&words, &CRITERION, &mut Input::default())
+        };
+        assert_eq!(list(&["3,5", "p1,", "2"]), Ok(vec![3, 5, 1, 2]));
+        for words in [&[""][..], &["3", ""], &["3,"], &[",", "3"], &["3,,5"], &["t3"], &["3 5"]] {
+            assert!(list(words).is_err(), "{words:?}");
+        }
     }
 
     #[test]

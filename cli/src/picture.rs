@@ -5,7 +5,6 @@ use crate::call::{Call, Done};
 use crate::diagnose::{no_such, Asked};
 use crate::library::{self, Verdict};
 use crate::net::Net;
-use crate::numbers::LIST;
 use std::fmt::Write;
 
 /// How a place or a transition is drawn.
@@ -47,7 +46,7 @@ fn one(call: &mut Call) -> Done {
 /// The slice inside the plan, with a note where it is not a part of it by rules 1 to 4: they do not depend on the criterion, and none
 /// is asked.
 fn inside(call: &mut Call) -> Done {
-    let q = call.list_from(2, &LIST)?;
+    let q = call.criterion(2..call.words.len())?.given;
     let (plan, slice) = (call.file(0)?, call.file(1)?);
     let asked = Asked { files: &[&plan, &slice], ..Asked::default() };
     let verdict = asked.granted(library::verdict(&plan.bytes, &slice.bytes, None, &[]))?;

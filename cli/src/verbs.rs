@@ -45,11 +45,12 @@ impl Verb {
 
 /// What the page of help says below the verbs.
 pub const NOTES: &str = "\
-FILE is a plan or a slice. Places and transitions are numbered from 0.
-Q, the criterion, is rising place numbers; LIST is transition numbers; TABLE is place numbers or none;
-MARKING and UPPER are tokens, a number for each place. Each may be empty; or @FILE, or - for standard
-input: numbers in text with white space between them, or bytes, low byte first, two an entry (four in
-UPPER, eight in MARKING).
+FILE is a plan or a slice. Places and transitions are numbered from 0; place 3 may be written p3, and
+transition 0 t0, as in pictures.
+Q, the criterion, is place numbers in any order, each once; LIST is transition numbers; TABLE is place
+numbers or none; MARKING and UPPER are tokens, a number for each place. Each may be empty; or @FILE, or
+- for standard input: numbers in text with white space or a comma between them, or bytes, low byte
+first, two an entry (four in UPPER, eight in MARKING).
 One FILE may be - for standard input, and OUT for standard output.
 OUT that exists is replaced where it is a slice or empty; else --force, anywhere before --, replaces it.
 --json, anywhere before --: each answer is an object on a line of standard output, refusals and errors
@@ -114,21 +115,23 @@ Example:
     nesfoal effect plans/small-kerb.plan 3 2
 
 Answers:
-    effect N of transition T on place P
+    effect N on place P of transition T
     refused N: ..              the file (1 to 8, 16), the place (10) or the transition (12) is refused
 ",
     },
     Verb {
         name: "arcs",
         forms: &[
-            ("PLAN SLICE plan|slice TRANSITION", "what the transition takes and adds in the file named"),
+            ("PLAN TRANSITION", "what the transition takes and adds"),
+            ("PLAN SLICE plan|slice TRANSITION", "the same in the file named"),
         ],
-        takes: 4..=4,
+        takes: 2..=4,
         run: firing::arcs,
         text: "\
 The transition's number is its number in the file named.
 
-Example:
+Examples:
+    nesfoal arcs plans/small-kerb.plan 1
     nesfoal arcs plans/small-kerb.plan safety.slice slice 1
 
 Answers:
@@ -147,6 +150,8 @@ Answers:
 FILE is a plan or a slice, LIST the numbers of its transitions. They fire one after the other
 from the file's own marking, or from MARKING: tokens for each place, at most 4294967295 and at most
 the place's cap. The answer may be piped into a verb whose MARKING is then -.
+Where the list stops, lines below say which other places are short, or over, the marking there, and
+which transitions can fire there. In a slice the numbers are the slice's own, with the plan's beside.
 
 Examples:
     nesfoal replay plans/small-kerb.plan 0 1 0 1 2
@@ -159,6 +164,10 @@ Answers:
                                the transition at that index, from 0, lacks tokens (status 1)
     full at index I: transition T, place P is over by N
                                it has its inputs, but would leave that place above its cap (status 1)
+    also short: place P by N, .. or also over: ..
+                               below these: the other places of that transition, where there are any
+    marking there: ..          and the tokens on each place before that firing
+    can fire there: ..         and the transitions that can fire there
     refused N: ..              the file (1 to 8, 16), the marking (22, 24) or the list (11, 12) is refused
 ",
     },
@@ -223,8 +232,8 @@ Answers:
         run: cuts::safety,
         text: "\
 The smallest slice that the checker accepts for Q; with no place, the slice with no places and no
-transitions. It starts from the plan's own marking, or from MARKING, as with replay: such a slice is
-right for the runs from there, and is checked from there.
+transitions, and the answer ends in: for no place. It starts from the plan's own marking, or from
+MARKING, as with replay: such a slice is right for the runs from there, and is checked from there.
 OUT appears whole or not at all. A file that exists is replaced only where it is a slice or empty, and
 may be written; --force replaces any plain file but the plan and the list. A new file has the mode that
 the umask leaves, a replaced one keeps its mode. OUT is no number alone (a file of that name is ./2,
@@ -236,7 +245,7 @@ Examples:
     nesfoal replay plans/small-kerb.plan 0 | nesfoal safety plans/small-kerb.plan later.slice 2 from -
 
 Answers:
-    written OUT: N bytes, N places, N transitions
+    written OUT: N bytes, N of N places, N of N transitions
     refused N: ..              the plan (1 to 7, 16), the marking (22, 24) or the criterion (10) is refused;
                                nothing is written
 ",
@@ -256,7 +265,7 @@ Example:
     nesfoal branching plans/small-kerb.plan branching.slice 2
 
 Answers:
-    written OUT: N bytes, N places, N transitions
+    written OUT: N bytes, N of N places, N of N transitions
     refused N: ..              the plan (1 to 7, 16), the marking (22, 24) or the criterion (10) is refused;
                                nothing is written
 ",
@@ -271,16 +280,20 @@ Answers:
         text: "\
 LIST is transitions of the plan that fire one after the other. Back from the last firing, each that
 raised a place of Q, or a place that a chosen one took from, is chosen. The slice has Q, the places
-that they took from and their transitions; the second line has their positions in the list, from 0.
-Fired in order in the slice, the chosen ones leave each place of Q at least the plan's tokens. The
-slice is for that run, and need not be accepted. OUT as with safety.
+that they took from and their transitions; the second line has their positions in the list, from 0, the
+third their transitions by the slice's own numbers. Fired in order in the slice, the chosen ones leave
+each place of Q at least the plan's tokens. The slice is for that run, and need not be accepted. OUT as
+with safety. The answer may be piped into replay of OUT, whose LIST is then -.
+A plan with caps is refused: use safety, which cuts for all runs, and replay for the list.
 
-Example:
+Examples:
     nesfoal run plans/small-kerb.plan run.slice 3 0 1 for 3
+    nesfoal run plans/small-kerb.plan run.slice 3 0 1 for 3 | nesfoal replay run.slice -
 
 Answers:
-    written OUT: N bytes, N places, N transitions
-    chosen ..                  below it: the positions, rising
+    written OUT: N bytes, N of N places, N of N transitions
+    chosen positions ..        below it: where the chosen firings stand in LIST, rising
+    the slice's list ..        and the same firings, by the slice's numbers
     refused N: ..              the plan (1 to 7, 16; 17 where it has caps), the criterion (10) or the list
                                (11, 12; 14 where it is stuck) is refused; nothing is written
 ",
@@ -300,7 +313,7 @@ Example:
     nesfoal safety-each plans/small-kerb.plan cuts
 
 Answers:
-    written FOLDER/P.slice: N bytes, N places, N transitions
+    written FOLDER/P.slice: N bytes, N of N places, N of N transitions
                                a line for each place
     refused N: ..              the plan is refused (1 to 7, 16); nothing is written
 ",
@@ -319,7 +332,7 @@ Example:
     nesfoal branching-each plans/small-kerb.plan cuts
 
 Answers:
-    written FOLDER/P.slice: N bytes, N places, N transitions
+    written FOLDER/P.slice: N bytes, N of N places, N of N transitions
                                a line for each place
     refused N: ..              the plan is refused (1 to 7, 16); nothing is written
 ",
@@ -344,9 +357,9 @@ Examples:
     nesfoal check plans/small-kerb.plan 2 -- *.slice
 
 Answers:
-    accepted
-    rule N broken by ..        the first rule that is broken, and the lowest number that breaks it
-                               (status 1)
+    accepted                   and where Q is empty: accepted, for no place
+    rule N broken by ..        the first rule that is broken, and the lowest number that breaks it, the
+                               plan's or the slice's (status 1)
     refused N: ..              a file (1 to 8, 16), the marking (22, 24) or the criterion (10) is refused
 ",
     },
@@ -358,7 +371,7 @@ Answers:
         takes: 2..=MANY,
         run: firing::shadow,
         text: "\
-LIST is transitions of the plan. The first line is that of replay. The second has the firings that
+LIST is transitions of the plan. The first lines are those of replay. The last has the firings that
 the slice has, by the slice's own numbers, the others struck out; where the list is stuck or full, of
 those before that index. In a slice that is accepted the shadow always fires. The answer may be piped
 into replay, whose LIST is then -.
@@ -372,7 +385,9 @@ Answers:
                                the transition at that index, from 0, lacks tokens (status 1)
     full at index I: transition T, place P is over by N
                                it has its inputs, but would leave that place above its cap (status 1)
-    shadow ..                  below each: the slice's numbers, in order
+    also short: .., marking there: .., can fire there: ..
+                               below these, as with replay
+    shadow ..                  last: the slice's numbers, in order
     refused N: ..              a file (1 to 8, 16) or the list (11, 12) is refused
 ",
     },
