@@ -500,7 +500,7 @@ pub fn accepted() -> Answer {
 }
 
 /// Each rule: what breaks it, and how.
-const RULES: [(Value, &str); 10] = [
+pub const RULES: [(Value, &str); 10] = [
     (Value::Either("the slice's place", "slice place"), "its origin is no place of the plan"),
     (Value::Either("the slice's transition", "slice transition"), "its origin is no transition of the plan"),
     (PLACE, "its marking or its cap is not the plan's"),

@@ -3,14 +3,17 @@
 use crate::answers::{Answer, Status, Value};
 use crate::call::{Call, Done};
 use crate::library::VERSION;
-use crate::verbs::{self, Verb, NOTES, VERBS};
+use crate::verbs::{self, Topic, Verb, NOTES, TOPICS, VERBS};
 
 pub fn help(call: &mut Call) -> Done {
     match call.words.first() {
-        Some(word) => {
-            let verb = verbs::find(word)?;
-            call.tell(of(verb).say(entry(verb).trim_end()))
-        }
+        Some(word) => match TOPICS.iter().find(|topic| word == topic.name) {
+            Some(topic) => call.tell(of_topic(topic).say(topic.text.trim_end())),
+            None => {
+                let verb = verbs::find(word)?;
+                call.tell(of(verb).say(entry(verb).trim_end()))
+            }
+        },
         None if call.out.json => VERBS.iter().try_for_each(|verb| call.tell(of(verb))),
         None => call.tell(Answer::new("help", Status::Good).say(page().trim_end())),
     }
@@ -23,6 +26,11 @@ fn of(verb: &Verb) -> Answer {
         .data("usage", Value::Texts(verb.ways().collect()))
         .data("short", Value::Texts(verb.forms.iter().map(|(_, short)| short.to_string()).collect()))
         .data("text", verb.text)
+}
+
+fn of_topic(topic: &Topic) -> Answer {
+    let short = Value::Texts(vec![topic.short.into()]);
+    Answer::new("help", Status::Good).data("of", topic.name).data("short", short).data("text", topic.text)
 }
 
 /// Each way to use each verb, then the notes.
@@ -53,6 +61,9 @@ pub fn manual() -> String {
     page += ".SH VERBS\n";
     for verb in VERBS {
         page += &format!(".SS {}\n{}", verb.name, roff(&entry(verb)));
+    }
+    for topic in TOPICS {
+        page += &format!(".SH {}\n{}", topic.name.to_uppercase(), roff(topic.text));
     }
     page
         + ".SH FILES\nA run that the signal KILL ends may leave a file .nesfoal\\-* beside OUT; no other signal does.\n"

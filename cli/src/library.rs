@@ -26,7 +26,7 @@ macro_rules! refusals {
             $($name = $number,)*
         }
 
-        const REFUSALS: &[Refusal] = &[$(Refusal::$name,)*];
+        pub const REFUSALS: &[Refusal] = &[$(Refusal::$name,)*];
     };
 }
 refusals! {

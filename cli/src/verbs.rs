@@ -59,6 +59,122 @@ Verdicts and lists go to standard output, refusals and errors to standard error.
 Exit status: 0; 1 stuck, full, not always fired or a rule broken; 2 refused, bad usage or an error.
 ";
 
+/// A page of help that is no verb's.
+pub struct Topic {
+    pub name: &'static str,
+    pub short: &'static str,
+    pub text: &'static str,
+}
+
+pub static TOPICS: &[Topic] = &[
+    Topic {
+        name: "questions",
+        short: "which question on which slice",
+        text: "\
+Which question about the places Q on which slice:
+
+    can such tokens ever stand on Q? can they never?        safety
+    how many tokens at most stand on a place of Q?          safety
+    what stands on Q after this list?                       safety: shadow, then replay
+    from here, can such tokens still come to stand on Q?    branching
+    what fed Q in this one recorded run?                    run
+    can it stand still, so that nothing can fire?           neither: ask the plan
+    must it come about, sooner or later?                    neither: ask the plan
+
+Safety: each list that fires in the plan fires in the slice once the transitions missing from it are
+struck out, and ends with the plan's tokens on Q; each list of the slice fires in the plan. So the same
+tokens can stand on Q. But the cut may leave out a transition that only takes from a kept place: what
+can still follow may be less in the plan than in the slice.
+Branching: the cut keeps every transition that changes a kept place, so that the plan's tokens stand on
+every kept place after each list. It is the larger of the two, and check accepts it too.
+Run: the slice is for that run alone, and says nothing of others.
+Neither: a slice lacks transitions of the plan. The plan may go on with these where the slice stands
+still, and may fire them for ever in place of what Q waits for.
+",
+    },
+    Topic {
+        name: "rules",
+        short: "the ten rules of check",
+        text: "\
+Check goes through these rules in order; the first that is broken is the answer, with the lowest number
+that breaks it. The number is the slice's own for 1 and 2, the plan's for 3 to 10.
+
+     1  each place of the slice has an origin that is a place of the plan
+     2  each transition of the slice has an origin that is a transition of the plan
+     3  each kept place has the plan's marking (or the one after from) and the plan's cap
+     4  each kept transition has exactly its plan arcs to kept places, arc by arc
+     5  each place of Q is kept
+     6  no transition that is left out changes a place of Q
+     7  each input place of a kept transition is kept
+     8  no transition that is left out raises a kept place
+     9  each place with a cap that a kept transition adds to is kept
+    10  no transition that is left out changes a kept place with a cap
+
+Changes and raises are by the effect: what it adds less what it takes. From C the answer is 100 plus the
+number of the rule.
+",
+    },
+    Topic {
+        name: "refusals",
+        short: "what the numbers of refusals mean",
+        text: "\
+A refusal has the number of the first condition that is broken. Files come first, the plan before the
+slice; then a marking after from, criterion, list, other markings.
+
+     1  a file below 16 or above 65,536 bytes, or a text in PNML above 65,536
+     2  the trailer: the letters BELL, or an edition that is neither 1 nor 2
+     3  the trailer: a kind that is none, a slice for a plan or a plan for a slice
+     4  the trailer: more than 1,024 places or transitions or 4,096 arcs; or a plan with neither place
+        nor transition
+     5  the trailer: a body of another length than the counts give, or than there is
+     6  an arc: the zero byte, direction, place, transition or weight is out of range
+     7  an arc: below the arc before it, by transition, direction and place
+     8  an origin: not above the one before it
+     9  a criterion in bytes: an odd number of them (from C alone)
+    10  a criterion or a place: no such place, or a place twice
+    11  a list: above 65,535 entries
+    12  a list or a transition: no such transition
+    13  a buffer: shorter than what is written (from C alone)
+    14  the list of run: it is stuck
+    15  the marking of together: not a number for each place
+    16  a place: its marking is above its cap
+    17  the plan of run or need: it has caps
+    18  a text in PNML: not in the form that help pnml shows
+    19  a text in PNML: an id that is used twice, or an arc whose ends are not a place and a transition
+    20  a text in PNML: a number or a count past its limit
+    21  the upper list of need: not a number for each place, or one below the plan's marking
+    22  a marking after from, or a table: not an entry for each place, or no such new place
+    23  a table: a place that has tokens has no new place
+    24  a marking after from, or what a new place gets: above 4,294,967,295 or above the cap
+    25  the plan of normal: parallel arcs that weigh more than 65,535 together
+",
+    },
+    Topic {
+        name: "format",
+        short: "plan and slice files, byte by byte",
+        text: "\
+Numbers have the low byte first. A file is: a note of any bytes, the body, the trailer.
+
+The body:
+    for each place             marking (4); in edition 2 also its cap (4), 0 where it has none
+    for each arc               transition (2), direction (1), zero (1), place (2), weight (2)
+                               direction 0 from place to transition, 1 from transition to place
+                               by transition, direction and place, none below the one before
+    in a slice                 the plan's number (2) of each place, then of each transition, rising
+
+The trailer, the last 16 bytes:
+    0   length of the body (4)
+    4   places P (2), transitions T (2), arcs A (2)
+    10  kind (1): 0 a plan, 1 a slice
+    11  edition (1): 1, or 2 with caps
+    12  the letters BELL
+
+A file has at most 65,536 bytes, 1,024 places, 1,024 transitions and 4,096 arcs. docs/FORMAT.md has
+examples. A list in bytes has 2 bytes an entry (4 in an upper list, 8 in a marking).
+",
+    },
+];
+
 #[rustfmt::skip] // an entry as it reads
 pub static VERBS: &[Verb] = &[
     Verb {
@@ -90,8 +206,11 @@ Answers:
         takes: 1..=MANY,
         run: picture::dot,
         text: "\
-Circles are places with their tokens and caps, boxes are transitions. Where the slice is not a part of
-the plan, as the checker's rules 1 to 4 have it, the picture may mislead: standard error says so.
+Circles are places with their tokens and caps, boxes are transitions. A slice by itself has the plan's
+number below each of its own. Inside the plan the numbers are the plan's; places of Q are red, and
+dashed with the words 'not kept' where the slice has them not. Where the slice is not a part of the
+plan, as the checker's rules 1 to 4 have it, the picture may mislead: its title and standard error say
+so.
 
 Example:
     nesfoal dot plans/small-kerb.plan safety.slice 2 | dot -Tsvg > picture.svg
@@ -558,17 +677,19 @@ Answers:
         name: "help",
         forms: &[
             ("[VERB]", "this page, or a verb's own"),
+            ("questions|rules|refusals|format", "which question on which slice; the numbers; the files"),
         ],
         takes: 0..=1,
         run: help::help,
         text: "\
 The same as --help and -h, which may stand after a verb.
 
-Example:
+Examples:
     nesfoal help check
+    nesfoal help questions
 
 Answers:
-    how the verb is used, what it does, an example, what its answers mean
+    how the verb is used, what it does, an example, what its answers mean; or the page of that name
 ",
     },
 ];
@@ -584,6 +705,23 @@ mod tests {
             assert!(verb.text.contains("\nAnswers:\n"), "{}", verb.name);
             assert!(verb.text.lines().all(|line| line.len() <= 110), "{}", verb.name);
             assert!(std::ptr::eq(find(OsStr::new(verb.name)).ok().unwrap(), verb));
+        }
+    }
+
+    #[test]
+    fn each_topic_is_no_verb() {
+        let help = VERBS.iter().find(|verb| verb.name == "help").unwrap();
+        let named: Vec<&str> = help.forms[1].0.split('|').collect();
+        assert_eq!(named, TOPICS.iter().map(|topic| topic.name).collect::<Vec<_>>());
+        for topic in TOPICS {
+            assert!(find(OsStr::new(topic.name)).is_err(), "{}", topic.name);
+            assert!(topic.text.lines().all(|line| line.len() <= 110), "{}", topic.name);
+        }
+        let page = |name: &str| TOPICS.iter().find(|topic| topic.name == name).unwrap().text;
+        for (name, last) in [("rules", crate::answers::RULES.len()), ("refusals", crate::library::REFUSALS.len())] {
+            for n in 1..=last {
+                assert_eq!(page(name).matches(&format!("\n{n:>6}  ")).count(), 1, "{name} {n}");
+            }
         }
     }
 }
