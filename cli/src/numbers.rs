@@ -165,7 +165,7 @@ pub fn list<T: Entry>(words: &[OsString], kind: &Kind<T>, input: &mut Input) -> 
     if let Some(name) = file {
         let name = name.as_bytes();
         let bytes = files::read(name, LONGEST_TEXT, input)?;
-        return of_bytes(&bytes, kind).map_err(|why| answers::error_of(name, why));
+        return of_bytes(&bytes, kind).map_err(|fault| fault.of(name));
     }
     if words.first().is_some_and(|word| named(word).is_some()) {
         return Err(answers::error("a list is numbers, or one @FILE"));
@@ -219,46 +219,101 @@ impl<'a> Parted<'a> {
     }
 }
 
+/// What is wrong with a list's file; in a text, in which line, from 1, and at which entry, from 0.
+#[derive(Debug, PartialEq)]
+struct Fault {
+    at: Option<(usize, usize)>,
+    why: String,
+}
+
+impl Fault {
+    fn of(self, name: &[u8]) -> Answer {
+        match self.at {
+            Some((line, entry)) => {
+                let why = format!("line {line}, entry {entry}: {}", self.why);
+                answers::error_of(name, why).data("line", line).data("entry", entry)
+            }
+            None => answers::error_of(name, self.why),
+        }
+    }
+}
+
+impl From<String> for Fault {
+    fn from(why: String) -> Fault {
+        Fault { at: None, why }
+    }
+}
+
+const MARK: &[u8] = b"\xef\xbb\xbf";
+
+/// A text without its byte order mark, each comment, from # to the end of its line, as so many spaces; None where it is no text. Comments
+/// are UTF-8, the rest is ASCII where no mark says that it is a text.
+fn uncommented(bytes: &[u8]) -> Option<Vec<u8>> {
+    let text = bytes.strip_prefix(MARK);
+    let is_marked = text.is_some();
+    let mut text = text.unwrap_or(bytes).to_vec();
+    if !is_marked && text.iter().any(|b| matches!(b, 0..=8 | 14..=31 | 127)) {
+        return None;
+    }
+    for line in text.split_mut(|b| *b == b'\n') {
+        if let Some(start) = line.iter().position(|b| *b == b'#') {
+            let comment = &mut line[start..];
+            if !is_marked && std::str::from_utf8(comment).is_err() {
+                return None;
+            }
+            comment.fill(b' ');
+        }
+    }
+    (is_marked || text.is_ascii()).then_some(text)
+}
+
 /// The entries of a list's file. One with nothing but text in it is no list of bytes: as numbers of two bytes all would be above
 /// 2,312, and no net has so many places or transitions; of four, above 151,587,080; of eight, above 651,061,555,542,690,056.
-fn of_bytes<T: Entry>(bytes: &[u8], kind: &Kind<T>) -> Result<Vec<T>, String> {
-    if bytes.iter().all(|b| matches!(b, 9..=13 | 32..=126)) {
-        return of_text(bytes, kind);
+fn of_bytes<T: Entry>(bytes: &[u8], kind: &Kind<T>) -> Result<Vec<T>, Fault> {
+    if let Some(text) = uncommented(bytes) {
+        return of_text(&text, kind);
     }
     let whole = &bytes[..bytes.len().min(T::BYTES * (kind.most + 1))];
     if !whole.len().is_multiple_of(T::BYTES) {
         let name = kind.name;
-        return Err(match T::BYTES {
+        let why = match T::BYTES {
             2 => format!("{name} has two bytes an entry, and this file has an odd number of bytes"),
             n => {
                 let each = if n == 4 { "four" } else { "eight" };
                 let length = answers::counted(whole.len() as u64, "byte");
                 format!("{name} has {each} bytes an entry, and this file has {length}")
             }
-        });
+        };
+        return Err(why.into());
     }
     let entry = |b: &[u8]| T::new(b.iter().rev().fold(0, |n, b| n << 8 | u64::from(*b)));
     Ok(whole.chunks_exact(T::BYTES).map(entry).collect())
 }
 
-fn of_text<T: Entry>(text: &[u8], kind: &Kind<T>) -> Result<Vec<T>, String> {
+fn of_text<T: Entry>(text: &[u8], kind: &Kind<T>) -> Result<Vec<T>, Fault> {
+    // each word is a part of the text
+    let line_of = |word: &[u8]| {
+        let before = (word.as_ptr() as usize).saturating_sub(text.as_ptr() as usize);
+        1 + text.iter().take(before).filter(|b| **b == b'\n').count()
+    };
+    let fault = |word: &[u8], entry: usize, why: String| Fault { at: Some((line_of(word), entry)), why };
     let mut parted = Parted::default();
     parted.add(text, |b| matches!(b, 9..=13 | 32));
     let words = parted.end();
     let mut numbers = &words[..];
     if let Some(first) = words.first().filter(|word| kind.starts.contains(word)) {
         let end = words.iter().rposition(|word| kind.ends.contains(word));
-        numbers = &words[1 + end.ok_or_else(|| no_number(first, T::LARGEST))?..];
+        numbers = &words[1 + end.ok_or_else(|| fault(first, 0, no_number(first, T::LARGEST)))?..];
     }
     let mut list = Vec::new();
-    for word in numbers {
-        let entry = kind.entry(word)?;
+    for (i, word) in numbers.iter().enumerate() {
+        let entry = kind.entry(word).map_err(|why| fault(word, i, why))?;
         if list.len() <= kind.most {
             list.push(entry);
         }
     }
     if text.len() > LONGEST_TEXT {
-        return Err(format!("a list in text has at most {LONGEST_TEXT} bytes"));
+        return Err(format!("a list in text has at most {LONGEST_TEXT} bytes").into());
     }
     Ok(list)
 }
@@ -313,7 +368,7 @@ mod tests {
             ("1,,2", ","),
         ] {
             let why = format!("'{word}' is not a number from 0 to 65535");
-            assert_eq!(of_bytes(text.as_bytes(), &LIST), Err(why), "{text}");
+            assert_eq!(of_bytes(text.as_bytes(), &LIST).map_err(|fault| fault.why), Err(why), "{text}");
         }
         assert_eq!(of_bytes(b"taken 1 time, leaving 5 6", &MARKING), Ok(vec![5, 6]));
         assert_eq!(of_bytes(b"unlimited, leaving", &MARKING), Ok(vec![]));
@@ -342,7 +397,7 @@ mod tests {
         assert_eq!(of_bytes(&[1, 2, 0, 1], &LIST), Ok(vec![513, 256]));
         assert_eq!(of_bytes(&[1, 0, 0, 128], &UPPER), Ok(vec![0x8000_0001]));
         assert_eq!(of_bytes(&[255; 8], &MARKING), Ok(vec![u64::MAX]));
-        assert!(of_bytes(&[1, 2, 0], &LIST).is_err_and(|why| why.contains("an odd number of bytes")));
+        assert!(of_bytes(&[1, 2, 0], &LIST).is_err_and(|fault| fault.why.contains("an odd number of bytes")));
         assert_eq!(of_bytes(&[0; 200_000], &LIST).unwrap().len(), MAX_LIST_ENTRIES + 1);
         assert_eq!(of_bytes(&[0; 200_000], &MARKING).unwrap().len(), MAX_PLACES + 1);
     }
@@ -351,6 +406,23 @@ mod tests {
     fn too_long() {
         let text = b"0 ".repeat(LONGEST_TEXT / 2);
         assert_eq!(of_bytes(&text, &LIST).unwrap().len(), MAX_LIST_ENTRIES + 1);
-        assert!(of_bytes(&[&text[..], b"0"].concat(), &LIST).is_err_and(|why| why.contains("at most")));
+        assert!(of_bytes(&[&text[..], b"0"].concat(), &LIST).is_err_and(|fault| fault.why.contains("at most")));
+    }
+
+    #[test]
+    fn comments_and_marks() {
+        let of = |bytes: &[u8]| of_bytes(bytes, &LIST);
+        let with_mark = |text: &str| [MARK, text.as_bytes()].concat();
+        assert_eq!(of("3 # drei, d.h. \u{e4}\r\n# 9\r\n0\r\n#".as_bytes()), Ok(vec![3, 0]));
+        assert_eq!(of(&with_mark("3,\r\n0 # \u{e4}")), Ok(vec![3, 0]));
+        assert_eq!(of(&with_mark("")), Ok(vec![]));
+        assert_eq!(of(b"#"), Ok(vec![]));
+        // a # in a list of bytes is no comment
+        assert_eq!(of(&[35, 0, 10, 0]), Ok(vec![35, 10]));
+        assert_eq!(of(&[35, 0xff]), Ok(vec![0xff23]));
+        for (text, at) in [("1 x", (1, 1)), ("# x\n1\n\n2 3 x", (4, 3)), ("shadow 1\r\ny", (2, 1)), ("fired", (1, 0))] {
+            assert_eq!(of(text.as_bytes()).map_err(|fault| fault.at), Err(Some(at)), "{text}");
+        }
+        assert!(of(&with_mark("\u{e4}")).is_err_and(|fault| fault.at == Some((1, 0))));
     }
 }

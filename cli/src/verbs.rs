@@ -49,8 +49,8 @@ FILE is a plan or a slice. Places and transitions are numbered from 0; place 3 m
 transition 0 t0, as in pictures.
 Q, the criterion, is place numbers in any order, each once; LIST is transition numbers; TABLE is place
 numbers or none; MARKING and UPPER are tokens, a number for each place. Each may be empty; or @FILE, or
-- for standard input: numbers in text with white space or a comma between them, or bytes, low byte
-first, two an entry (four in UPPER, eight in MARKING).
+- for standard input: numbers in text with white space or a comma between them, and comments from # to
+the end of a line; or bytes, low byte first, two an entry (four in UPPER, eight in MARKING).
 One FILE may be - for standard input, and OUT for standard output.
 OUT that exists is replaced where it is a slice or empty; else --force, anywhere before --, replaces it.
 --json, anywhere before --: each answer is an object on a line of standard output, refusals and errors
