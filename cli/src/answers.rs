@@ -37,6 +37,8 @@ pub enum Value {
     Arcs(Vec<Arc>),
     /// Texts, in words each after a space.
     Texts(Vec<String>),
+    /// Answers, in words on a line each.
+    Answers(Vec<Answer>),
 }
 
 macro_rules! value {
@@ -50,6 +52,7 @@ macro_rules! value {
 }
 value! {
     i32: n => Value::Number(n.into());
+    u8: n => Value::Number(n.into());
     u16: n => Value::Number(n.into());
     u32: n => Value::Number(n.into());
     u64: n => Value::Number(n.into());
@@ -152,9 +155,21 @@ impl Answer {
     pub fn json(&self, out: &mut Vec<u8>) {
         out.extend_from_slice(b"\"outcome\":");
         quote(self.outcome.as_bytes(), out);
+        out.push(b',');
+        self.fields(out);
+        if out.last() == Some(&b',') {
+            out.pop();
+        }
+    }
+
+    /// The fields of its parts.
+    fn fields(&self, out: &mut Vec<u8>) {
+        let mut is_first = true;
         for part in &self.parts {
             if let Part::Field(key, value) | Part::Data(key, value) = part {
-                out.push(b',');
+                if !std::mem::take(&mut is_first) {
+                    out.push(b',');
+                }
                 quote(key.as_bytes(), out);
                 out.push(b':');
                 value.json(out);
@@ -188,6 +203,12 @@ impl Value {
                 }
             }
             Value::Texts(texts) => texts.iter().for_each(|text| put(out, format_args!(" {text}"))),
+            Value::Answers(answers) => {
+                for answer in answers {
+                    out.push(b'\n');
+                    out.extend_from_slice(&answer.words());
+                }
+            }
         }
     }
 
@@ -208,6 +229,11 @@ impl Value {
                 put(out, format_args!("{{\"{verb}\":{},\"place\":{}}}", arc.weight, arc.place));
             }),
             Value::Texts(texts) => each(texts, out, |text, out| quote(text.as_bytes(), out)),
+            Value::Answers(answers) => each(answers, out, |answer, out| {
+                out.push(b'{');
+                answer.fields(out);
+                out.push(b'}');
+            }),
         }
     }
 }
@@ -297,7 +323,7 @@ pub fn error(reason: impl Into<String>) -> Answer {
 
 /// An error of a file.
 pub fn error_of(name: &[u8], reason: impl Into<String>) -> Answer {
-    answer!("error", Refused, "error: {reason}", Value::Reason(Some(name.into()), reason.into()))
+    answer!("error", Refused, "error: {reason}", Value::Reason(Some(name.into()), reason.into())).data("file", name)
 }
 
 pub fn usage(usage: String) -> Answer {
@@ -307,7 +333,11 @@ pub fn usage(usage: String) -> Answer {
 /// A refusal by its number, what it is about where that is a file, and why.
 pub fn refused(number: u32, of: Option<&[u8]>, why: impl Into<String>) -> Answer {
     let reason = Value::Reason(of.map(Into::into), why.into());
-    answer!("refused", Refused, "refused {refusal}: {reason}", number, reason)
+    let answer = answer!("refused", Refused, "refused {refusal}: {reason}", number, reason);
+    match of {
+        Some(name) => answer.data("file", name),
+        None => answer,
+    }
 }
 
 /// The refusal of a run cut whose list sticks.
@@ -318,7 +348,7 @@ pub fn sticks(number: u32, stopped: Stopped) -> Answer {
         .data("index", stop.index)
         .data("transition", transition)
         .data("place", place)
-        .data("short", stop.amount)
+        .data("amount", stop.amount)
 }
 
 pub fn effect(effect: i32, place: Node, transition: Node) -> Answer {
@@ -353,12 +383,12 @@ pub struct Stopped {
 }
 
 pub fn stuck(Stopped { transition, place, stop }: Stopped) -> Answer {
-    let sentence = "stuck at index {index}: {transition}, {place} is short of {short}";
+    let sentence = "stuck at index {index}: {transition}, {place} is short of {amount}";
     answer!("stuck", Bad, sentence, stop.index, transition, place, stop.amount).with_plans_numbers(transition, place)
 }
 
 pub fn full(Stopped { transition, place, stop }: Stopped) -> Answer {
-    let sentence = "full at index {index}: {transition}, {place} is over by {over}";
+    let sentence = "full at index {index}: {transition}, {place} is over by {amount}";
     answer!("full", Bad, sentence, stop.index, transition, place, stop.amount).with_plans_numbers(transition, place)
 }
 
@@ -483,6 +513,11 @@ pub fn written(file: &[u8], slice: &Slice, plan: &[u8]) -> Answer {
         .data("plan_transitions", all_transitions)
 }
 
+/// A file of an earlier, larger plan in a folder of cuts.
+pub fn left(file: &[u8], place: usize) -> Answer {
+    answer!("left", Good, "left {file}: the plan has no place {place}", file, place)
+}
+
 pub fn written_plan(file: &[u8], net: &Net) -> Answer {
     let t = net.trailer;
     let values = vec![
@@ -526,8 +561,8 @@ pub fn broken_from(number: u32) -> Answer {
     answer!("broken", Bad, "rule {rule} broken by {by} {number}: {reason}", 3, PLACE, number, reason)
 }
 
-/// The first line of `show`: counts, and the note where it is text.
-pub fn net(net: &Net, note: Option<&str>) -> Answer {
+/// `show`: counts, the note where it is text, and each place and transition.
+pub fn net(net: &Net, note: Option<&str>, places: Vec<Answer>, transitions: Vec<Answer>) -> Answer {
     let (kind, t) = (net.kind(), net.trailer);
     let mut answer = Answer::new(kind, Status::Good).say(kind).and_says(
         " of {places}, {transitions}, {arcs} in {bytes}",
@@ -541,17 +576,18 @@ pub fn net(net: &Net, note: Option<&str>) -> Answer {
     if !net.note().is_empty() {
         answer = answer.and_says(", a note of {note_bytes} first", vec![count(net.note().len(), "byte")]);
     }
-    match note {
-        Some(text) => answer.and_says("\nnote: {note}", vec![text.into()]),
-        None => answer,
+    if let Some(text) = note {
+        answer = answer.and_says("\nnote: {note}", vec![text.into()]);
     }
+    let values = vec![Value::Answers(places), Value::Answers(transitions)];
+    answer.data("edition", t.edition).and_says("{each_place}{each_transition}", values)
 }
 
 pub fn place(place: usize, origin: Option<u16>, tokens: u32, cap: Option<u32>) -> Answer {
     let answer = answer!("place", Good, "place {place}", place).of_plan(origin);
-    let answer = answer.and_says(": {tokens}", vec![Value::Count(tokens.into(), "token")]);
+    let answer = answer.and_says(": {marking}", vec![Value::Count(tokens.into(), "token")]);
     match cap {
-        Some(cap) => answer.and_says(", holds {cap}", vec![cap.into()]),
+        Some(cap) => answer.and_says(", cap {cap}", vec![cap.into()]),
         None => answer,
     }
 }
@@ -617,7 +653,7 @@ mod tests {
         let of_plan = Stopped { transition: node("transition", 4, None), place: node("place", 2, None), stop };
         let answer = stuck(of_plan).with_shadow(&[5, 6]);
         assert_eq!(answer.words(), b"stuck at index 1: transition 4, place 2 is short of 3\nshadow 5 6");
-        assert_eq!(json(&answer), r#""outcome":"stuck","index":1,"transition":4,"place":2,"short":3,"shadow":[5,6]"#);
+        assert_eq!(json(&answer), r#""outcome":"stuck","index":1,"transition":4,"place":2,"amount":3,"shadow":[5,6]"#);
 
         let of_slice = Stopped { transition: node("transition", 4, Some(9)), place: node("place", 2, Some(7)), stop };
         let words =
@@ -649,7 +685,7 @@ mod tests {
         }
         assert_eq!(
             json(&stuck(stopped).with_around(around(&[3], None, &[], false))),
-            "\"outcome\":\"stuck\",\"index\":1,\"transition\":4,\"place\":2,\"short\":3,\
+            "\"outcome\":\"stuck\",\"index\":1,\"transition\":4,\"place\":2,\"amount\":3,\
              \"also\":[{\"place\":3,\"amount\":4}],\"marking\":[8,9],\"can_fire\":[]"
         );
     }
@@ -668,7 +704,8 @@ mod tests {
         assert_eq!(answer.words(), b"error: a\n\"\\\xff\x01\x7f: no permission");
         assert_eq!(
             json(&answer),
-            "\"outcome\":\"error\",\"reason\":\"a\\n\\\"\\\\\u{fffd}\\u0001\\u007f: no permission\""
+            "\"outcome\":\"error\",\"reason\":\"a\\n\\\"\\\\\u{fffd}\\u0001\\u007f: no permission\",\
+             \"file\":\"a\\n\\\"\\\\\u{fffd}\\u0001\\u007f\""
         );
     }
 }

@@ -1,10 +1,12 @@
-//! check: one slice, or many.
+//! check: one slice, or many; and each of a folder.
 
 use crate::answers::{self, Answer};
 use crate::call::{Call, Done};
-use crate::diagnose::Asked;
-use crate::files::File;
+use crate::cuts::beyond;
+use crate::diagnose::{no_such, Asked};
+use crate::files::{self, File, Input};
 use crate::library::{self, Start, Verdict};
+use crate::net::places;
 use crate::numbers::Criterion;
 use crate::progress::Progress;
 use std::os::unix::ffi::OsStrExt;
@@ -31,6 +33,35 @@ fn verdict(plan: &File, slice: &File, start: Start, criterion: &Criterion) -> Re
         Verdict::Broken { rule: 3, number } if start.is_some() => answers::broken_from(number),
         Verdict::Broken { rule, number } => answers::broken(rule, number),
     })
+}
+
+/// check-each PLAN FOLDER: what safety-each or branching-each wrote, each file for its place alone.
+pub fn each(call: &mut Call) -> Done {
+    let plan = call.file(0)?;
+    let asked = Asked { files: &[&plan], ..Asked::default() };
+    asked.granted(library::safety(&plan.bytes, None, &[]))?; // refused for the plan's sake alone
+    let name = call.words[1].as_bytes().to_vec();
+    let (folder, count) = (files::path(&name), places(&plan.bytes));
+    if !folder.is_dir() {
+        let why = if folder.exists() { "it is no folder" } else { "no such file or folder" };
+        return Err(answers::error_of(&name, why));
+    }
+    let mut progress = Progress::new(count, "place");
+    for p in 0..count {
+        progress.show(p);
+        let name = folder.join(format!("{p}.slice")).into_os_string();
+        let slice = files::net(&name, &mut Input::default());
+        let answer = slice.and_then(|slice| verdict(&plan, &slice, None, &Criterion::new(vec![p as u16])));
+        let answer = answer.unwrap_or_else(Answer::unnamed).data("place", p);
+        progress.hide();
+        call.out.tell_of(name.as_bytes(), &answer);
+        call.out.flush();
+    }
+    for (p, name) in beyond(folder, count) {
+        let answer = no_such("plan", "place", p, count as u64).data("place", p);
+        call.out.tell_of(name.as_os_str().as_bytes(), &answer);
+    }
+    Ok(())
 }
 
 /// A line for each slice, whatever came of it. What is wrong with the plan, the start or the criterion is said once: a cut is refused

@@ -9,7 +9,9 @@ use crate::library::{self, Refusal, Slice, Start};
 use crate::net::{places, Nodes};
 use crate::numbers::LIST;
 use crate::progress::Progress;
+use std::ffi::OsString;
 use std::os::unix::ffi::OsStrExt;
+use std::path::{Path, PathBuf};
 
 type Cut = fn(&[u8], Start, &[u16]) -> Result<Slice, Refusal>;
 
@@ -66,13 +68,13 @@ fn each(call: &mut Call, cut: Cut) -> Done {
     let plan = call.file(0)?;
     let asked = Asked { files: &[&plan], ..Asked::default() };
     asked.granted(cut(&plan.bytes, None, &[]))?; // refused for the plan's sake alone
-    let name = call.words[1].as_bytes();
-    let folder = files::path(name);
+    let name = call.words[1].as_bytes().to_vec();
+    let folder = files::path(&name);
     if !folder.is_dir() {
         if folder.exists() {
-            return Err(answers::error_of(name, "it is no folder"));
+            return Err(answers::error_of(&name, "it is no folder"));
         }
-        std::fs::create_dir(folder).map_err(|e| files::failed(name, &e))?;
+        std::fs::create_dir_all(folder).map_err(|e| files::failed(&name, &e))?;
     }
     let outs = (0..places(&plan.bytes)).map(|p| {
         let out = folder.join(format!("{p}.slice"));
@@ -87,8 +89,24 @@ fn each(call: &mut Call, cut: Cut) -> Done {
         let slice = asked.granted(cut(&plan.bytes, None, &[p as u16]))?;
         out.write(&slice.bytes)?;
         progress.hide();
-        call.tell(answers::written(out.name(), &slice, &plan.bytes))?;
+        call.tell(answers::written(out.name(), &slice, &plan.bytes).data("place", p))?;
         call.out.flush();
     }
+    for (p, name) in beyond(folder, places(&plan.bytes)) {
+        call.tell(answers::left(name.as_os_str().as_bytes(), p))?;
+    }
     Ok(())
+}
+
+/// The files P.slice of a folder whose P is no place of the plan, by P.
+pub fn beyond(folder: &Path, places: usize) -> Vec<(usize, PathBuf)> {
+    let entries = std::fs::read_dir(folder).into_iter().flatten().flatten();
+    let numbered = |name: OsString| {
+        let digits = name.to_str()?.strip_suffix(".slice")?.to_string();
+        let p: usize = digits.parse().ok()?;
+        (p.to_string() == digits && p >= places).then(|| (p, folder.join(name)))
+    };
+    let mut found: Vec<(usize, PathBuf)> = entries.filter_map(|entry| numbered(entry.file_name())).collect();
+    found.sort();
+    found
 }

@@ -118,8 +118,8 @@ pub fn write_to_output(bytes: &[u8]) -> io::Result<()> {
 pub enum Out {
     /// Standard output; and which of both it is.
     Standard(&'static str),
-    /// A file that may be written, and its mode where it is there already.
-    File { name: Vec<u8>, mode: Option<u32> },
+    /// A file that may be written, and its mode where it is there already. `to` is its name without links.
+    File { name: Vec<u8>, to: PathBuf, mode: Option<u32> },
 }
 
 impl Out {
@@ -136,7 +136,10 @@ impl Out {
             return Err(failed(name, &io::Error::from_raw_os_error(TOO_LONG)));
         }
         let mode = replaceable(name, inputs, force).map_err(|why| answers::error_of(name, why))?;
-        Ok(Out::File { name: name.into(), mode })
+        let to = path(name);
+        let is_link = fs::symlink_metadata(to).is_ok_and(|there| there.is_symlink());
+        let to = if is_link { fs::canonicalize(to).map_err(|e| failed(name, &e))? } else { to.into() };
+        Ok(Out::File { name: name.into(), to, mode })
     }
 
     /// The name that answers have.
@@ -152,7 +155,7 @@ impl Out {
             Out::Standard(what) => {
                 write_to_output(bytes).map_err(|_| answers::error(format!("-: the {what} could not be written")))
             }
-            Out::File { name, mode } => write_whole(path(name), bytes, *mode).map_err(|e| failed(name, &e)),
+            Out::File { name, to, mode } => write_whole(to, bytes, *mode).map_err(|e| failed(name, &e)),
         }
     }
 }
@@ -167,7 +170,7 @@ fn replaceable(name: &[u8], inputs: &[Named], force: bool) -> Result<Option<u32>
     let why = match (&there, input) {
         _ if name.is_empty() => "no such file or folder",
         (Ok(there), _) if there.is_dir() => "it is a folder",
-        _ if is_link => "it is no plain file",
+        (Err(_), _) if is_link => "it is a link that leads to no file",
         _ if last.is_empty() => "it ends in a slash, as a folder does",
         _ if last.len() > 255 => "the name is too long",
         (Err(_), _) => return Ok(None),
@@ -278,6 +281,7 @@ mod tests {
         std::os::unix::fs::symlink(&slice, room.0.join("link")).unwrap();
         std::os::unix::fs::symlink(room.0.join("folder"), room.0.join("door")).unwrap();
         std::os::unix::fs::symlink("circle", room.0.join("circle")).unwrap();
+        std::os::unix::fs::symlink(&plan, room.0.join("planlink")).unwrap();
         let no = |why: &str| Err(why.to_string());
         let long = "a".repeat(256);
         for (name, plain, forced) in [
@@ -289,8 +293,9 @@ mod tests {
             ("locked", no("it may not be written"), no("it may not be written")),
             ("folder", no("it is a folder"), no("it is a folder")),
             ("door", no("it is a folder"), no("it is a folder")),
-            ("link", no("it is no plain file"), no("it is no plain file")),
-            ("circle", no("it is no plain file"), no("it is no plain file")),
+            ("link", Ok(Some(0o640)), Ok(Some(0o640))),
+            ("planlink", no("it is the plan"), no("it is the plan")),
+            ("circle", no("it is a link that leads to no file"), no("it is a link that leads to no file")),
             ("new/", no("it ends in a slash, as a folder does"), no("it ends in a slash, as a folder does")),
             (&long, no("the name is too long"), no("the name is too long")),
         ] {

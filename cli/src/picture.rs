@@ -114,7 +114,7 @@ fn drawn(net: Net, places: &[Shade], transitions: &[Shade], title: Option<&str>)
     for (p, shade) in places.iter().enumerate() {
         let origin = of_plan(p, 'p');
         let tokens = net.tokens(p).filter(|n| *n != 0).map_or(String::new(), |n| format!("\\n{n}"));
-        let cap = net.cap(p).map_or(String::new(), |n| format!("\\nholds {n}"));
+        let cap = net.cap(p).map_or(String::new(), |n| format!("\\ncap {n}"));
         let missing = if *shade == Shade::Missing { "\\nnot kept" } else { "" };
         let _ = writeln!(out, "  p{p} [shape=circle label=\"p{p}{origin}{tokens}{cap}{missing}\" {}]", shade.colour());
     }

@@ -8,25 +8,24 @@ use crate::net::Net;
 /// A note that is longer is only counted.
 const LONGEST_NOTE: usize = 4096;
 
-/// show FILE: the counts, then each place and each transition.
+/// show FILE: the counts, then each place and each transition, a line each; in JSON one object.
 pub fn show(call: &mut Call) -> Done {
     let file = call.file(0)?;
     let net = Asked { files: &[&file], ..Asked::default() }.granted(Net::read(&file.bytes))?;
     let (places, transitions) = (net.trailer.places, net.trailer.transitions);
-    call.tell(answers::net(&net, text(net.note())))?;
     let origins = net.origins();
-    for p in 0..places {
+    let places_told = (0..places).map(|p| {
         let origin = origins.get(p).copied();
-        call.tell(answers::place(p, origin, net.tokens(p).unwrap_or(0), net.cap(p)))?;
-    }
+        answers::place(p, origin, net.tokens(p).unwrap_or(0), net.cap(p))
+    });
     let arcs = net.arcs();
     let mut rest = &arcs[..];
-    for t in 0..transitions {
+    let transitions_told = (0..transitions).map(|t| {
         let (own, after) = rest.split_at(rest.iter().take_while(|arc| usize::from(arc.transition) == t).count());
         rest = after;
-        call.tell(answers::transition(t, origins.get(places + t).copied(), own.to_vec()))?;
-    }
-    Ok(())
+        answers::transition(t, origins.get(places + t).copied(), own.to_vec())
+    });
+    call.tell(answers::net(&net, text(net.note()), places_told.collect(), transitions_told.collect()))
 }
 
 /// The note where it is a text that a terminal can show.

@@ -186,8 +186,8 @@ pub static VERBS: &[Verb] = &[
         run: show::show,
         text: "\
 The first line counts places, transitions, arcs and bytes; then a line for each place and each
-transition. A place that has a cap says how many tokens it holds. In a slice each has the plan's
-number beside its own.
+transition; with --json all of it is one object. A place that has a cap says so. In a slice each has the
+plan's number beside its own.
 
 Example:
     nesfoal show plans/small-kerb.plan
@@ -354,9 +354,10 @@ The smallest slice that the checker accepts for Q; with no place, the slice with
 transitions, and the answer ends in: for no place. It starts from the plan's own marking, or from
 MARKING, as with replay: such a slice is right for the runs from there, and is checked from there.
 OUT appears whole or not at all. A file that exists is replaced only where it is a slice or empty, and
-may be written; --force replaces any plain file but the plan and the list. A new file has the mode that
-the umask leaves, a replaced one keeps its mode. OUT is no number alone (a file of that name is ./2,
-say). OUT may be -: the slice goes to standard output, and the answer to standard error.
+may be written; --force replaces any plain file but the plan and the list. A link is followed, and stays.
+A new file has the mode that the umask leaves, a replaced one keeps its mode. OUT is no number alone (a
+file of that name is ./2, say). OUT may be -: the slice goes to standard output, and the answer to
+standard error.
 
 Examples:
     nesfoal safety plans/small-kerb.plan safety.slice 2
@@ -425,8 +426,10 @@ Answers:
         takes: 2..=2,
         run: cuts::safety_each,
         text: "\
-The folder is made where it is not there. Each file is written as with safety; where one of them
-may not be replaced, none is written. Where standard error is a terminal, a bar shows how far it is.
+The folder is made where it is not there, with those that it stands in. Each file is written as with
+safety; where one of them may not be replaced, none is written. A file P.slice that is there for a P
+that is no place of the plan, as of an earlier, larger plan, is named and left. Where standard error is
+a terminal, a bar shows how far it is.
 
 Example:
     nesfoal safety-each plans/small-kerb.plan cuts
@@ -434,6 +437,7 @@ Example:
 Answers:
     written FOLDER/P.slice: N bytes, N of N places, N of N transitions
                                a line for each place
+    left FOLDER/P.slice: ..    a line for each file of another plan
     refused N: ..              the plan is refused (1 to 7, 16); nothing is written
 ",
     },
@@ -453,6 +457,7 @@ Example:
 Answers:
     written FOLDER/P.slice: N bytes, N of N places, N of N transitions
                                a line for each place
+    left FOLDER/P.slice: ..    a line for each file of another plan
     refused N: ..              the plan is refused (1 to 7, 16); nothing is written
 ",
     },
@@ -480,6 +485,29 @@ Answers:
     rule N broken by ..        the first rule that is broken, and the lowest number that breaks it, the
                                plan's or the slice's (status 1)
     refused N: ..              a file (1 to 8, 16), the marking (22, 24) or the criterion (10) is refused
+",
+    },
+    Verb {
+        name: "check-each",
+        forms: &[
+            ("PLAN FOLDER", "checks what safety-each or branching-each wrote there"),
+        ],
+        takes: 2..=2,
+        run: checking::each,
+        text: "\
+Each FOLDER/P.slice is checked for place P alone, with a line that starts with its name. A file that is
+missing, or whose P is no place of the plan, is an error on its line. The status is that of check with
+many slices.
+
+Example:
+    nesfoal check-each plans/small-kerb.plan cuts
+
+Answers:
+    FOLDER/P.slice: accepted
+    FOLDER/P.slice: rule N broken by ..
+    FOLDER/P.slice: refused N: ..
+    FOLDER/P.slice: error: ..  as with check, a line for each place
+    refused N: ..              the plan is refused (1 to 7, 16)
 ",
     },
     Verb {
