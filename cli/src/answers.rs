@@ -1,6 +1,6 @@
 //! What the program says. An answer is a sentence with holes: filled in, they are its words; their names and values are its JSON.
 
-use crate::library::{Extent, Side, Slice, Stop};
+use crate::library::{Extent, Side, Slice, Stop, MAX_FILE_BYTES, VERSION};
 use crate::net::{self, Arc, Net, Node};
 use std::io::Write;
 
@@ -244,6 +244,23 @@ fn named(node: &Node) -> String {
     match origin {
         Some(origin) => format!("the slice's {what} {number} (the plan's {origin})"),
         None => format!("{what} {number}"),
+    }
+}
+
+/// What an answer is about, after its fields: the version of the library, the files that were read with their lengths, the criterion.
+pub fn evidence(read: &[(Vec<u8>, usize)], criterion: Option<&[u16]>, out: &mut Vec<u8>) {
+    put(out, format_args!(",\"version\":{VERSION},\"files\":"));
+    each(read, out, |(name, length), out| {
+        out.extend_from_slice(b"{\"name\":");
+        quote(name, out);
+        match *length {
+            ..=MAX_FILE_BYTES => put(out, format_args!(",\"bytes\":{length}}}")),
+            _ => put(out, format_args!(",\"more_than\":{MAX_FILE_BYTES}}}")), // a byte more was read, and no further
+        }
+    });
+    if let Some(criterion) = criterion {
+        out.extend_from_slice(b",\"criterion\":");
+        each(criterion, out, |n, out| put(out, n));
     }
 }
 
@@ -621,7 +638,7 @@ pub fn command(command: &str) -> Answer {
 }
 
 pub fn version(version: u32) -> Answer {
-    answer!("version", Good, "nesfoal {version}", version)
+    Answer::new("version", Status::Good).say(format!("nesfoal {version}"))
 }
 
 pub fn built(file: &str) -> Answer {

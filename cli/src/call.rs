@@ -34,10 +34,12 @@ impl<'a> Call<'a> {
 
     /// The file that word i names.
     pub fn file(&mut self, i: usize) -> Result<File, Answer> {
-        match self.memory.iter().find(|file| file.name == self.words[i].as_bytes()) {
-            Some(file) => Ok(file.clone()),
-            None => files::net(&self.words[i], &mut self.input),
-        }
+        let file = match self.memory.iter().find(|file| file.name == self.words[i].as_bytes()) {
+            Some(file) => file.clone(),
+            None => files::net(&self.words[i], &mut self.input)?,
+        };
+        self.out.read.push((file.name.clone(), file.bytes.len()));
+        Ok(file)
     }
 
     /// The place that word i is.
@@ -62,7 +64,9 @@ impl<'a> Call<'a> {
 
     /// The criterion that the words of a range are.
     pub fn criterion(&mut self, range: Range<usize>) -> Result<Criterion, Answer> {
-        self.list(range, &CRITERION).map(Criterion::new)
+        let criterion = self.list(range, &CRITERION).map(Criterion::new)?;
+        self.out.criterion = Some(criterion.given.clone());
+        Ok(criterion)
     }
 
     /// The list that the words of a range are, and the marking after `from`, where that stands among them.
@@ -129,6 +133,10 @@ impl<'a> Call<'a> {
 pub struct Output {
     pub json: bool,
     verb: Vec<u8>,
+    /// The plans and slices that were read, by the names given, with their lengths.
+    pub read: Vec<(Vec<u8>, usize)>,
+    /// The criterion as it was given, of a verb that has one.
+    pub criterion: Option<Vec<u16>>,
     pub all_to_error: bool,
     /// The worst of the answers.
     pub status: Status,
@@ -139,7 +147,8 @@ pub struct Output {
 impl Output {
     pub fn new(json: bool, verb: &OsStr) -> Output {
         let verb = verb.as_bytes().into();
-        Output { json, verb, all_to_error: false, status: Status::Good, out: Vec::new(), error: Vec::new() }
+        let (read, out, error) = (Vec::new(), Vec::new(), Vec::new());
+        Output { json, verb, read, criterion: None, all_to_error: false, status: Status::Good, out, error }
     }
 
     pub fn tell(&mut self, answer: &Answer) {
@@ -175,6 +184,7 @@ impl Output {
         }
         out.push(b',');
         answer.json(&mut out);
+        answers::evidence(&self.read, self.criterion.as_deref(), &mut out);
         out.push(b'}');
         out
     }

@@ -50,13 +50,19 @@ pub fn each(call: &mut Call) -> Done {
     for p in 0..count {
         progress.show(p);
         let name = folder.join(format!("{p}.slice")).into_os_string();
+        call.out.read.truncate(1); // the plan, and then this slice
         let slice = files::net(&name, &mut Input::default());
-        let answer = slice.and_then(|slice| verdict(&plan, &slice, None, &Criterion::new(vec![p as u16])));
+        let criterion = Criterion::new(vec![p as u16]);
+        call.out.criterion = Some(criterion.given.clone());
+        call.out.read.extend(slice.as_ref().ok().map(|slice| (slice.name.clone(), slice.bytes.len())));
+        let answer = slice.and_then(|slice| verdict(&plan, &slice, None, &criterion));
         let answer = answer.unwrap_or_else(Answer::unnamed).data("place", p);
         progress.hide();
         call.out.tell_of(name.as_bytes(), &answer);
         call.out.flush();
     }
+    call.out.read.truncate(1);
+    call.out.criterion = None;
     for (p, name) in beyond(folder, count) {
         let answer = no_such("plan", "place", p, count as u64).data("place", p);
         call.out.tell_of(name.as_os_str().as_bytes(), &answer);
@@ -75,6 +81,7 @@ fn many(call: &mut Call, split: usize) -> Done {
     for i in split..call.words.len() {
         progress.show(i - split);
         let name = call.words[i].as_bytes().to_vec();
+        call.out.read.truncate(1); // the plan, and then this slice
         let answer = call.file(i).and_then(|slice| verdict(&plan, &slice, start, &criterion));
         let answer = answer.unwrap_or_else(Answer::unnamed);
         progress.hide();

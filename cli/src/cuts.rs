@@ -89,9 +89,11 @@ fn each(call: &mut Call, cut: Cut) -> Done {
         let slice = asked.granted(cut(&plan.bytes, None, &[p as u16]))?;
         out.write(&slice.bytes)?;
         progress.hide();
+        call.out.criterion = Some(vec![p as u16]);
         call.tell(answers::written(out.name(), &slice, &plan.bytes).data("place", p))?;
         call.out.flush();
     }
+    call.out.criterion = None;
     for (p, name) in beyond(folder, places(&plan.bytes)) {
         call.tell(answers::left(name.as_os_str().as_bytes(), p))?;
     }

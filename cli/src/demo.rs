@@ -31,6 +31,7 @@ pub fn demo(call: &mut Call) -> Done {
 fn run(call: &mut Call, command: &str) -> Done {
     call.tell(answers::command(command))?;
     call.words = command.split(' ').skip(1).map(Into::into).collect();
+    (call.out.read, call.out.criterion) = (Vec::new(), None);
     let verb = command.split(' ').next().unwrap_or_default();
     (verbs::find(OsStr::new(verb))?.run)(call)
 }

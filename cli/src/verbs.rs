@@ -54,7 +54,8 @@ the end of a line; or bytes, low byte first, two an entry (four in UPPER, eight 
 One FILE may be - for standard input, and OUT for standard output.
 OUT that exists is replaced where it is a slice or empty; else --force, anywhere before --, replaces it.
 --json, anywhere before --: each answer is an object on a line of standard output, refusals and errors
-too. --version: the version of the library.
+too, with the version of the library, the files that were read with their lengths, and Q. --version: the
+version of the library.
 Verdicts and lists go to standard output, refusals and errors to standard error.
 Exit status: 0; 1 stuck, full, not always fired or a rule broken; 2 refused, bad usage or an error.
 ";
