@@ -4,15 +4,15 @@ use nesfoal_tests::cases::*;
 use nesfoal_tests::check::{verdict, verdict_from, Verdict};
 use nesfoal_tests::cut::{cut, cut_from, Cut, Written};
 use nesfoal_tests::fixed::{self, Fixed};
-use nesfoal_tests::net::{Direction, Kind, Net, Refusal, MAX_FILE, MAX_LIST, MAX_PLACES};
+use nesfoal_tests::net::{Arc, Direction, Kind, Net, Refusal, MAX_FILE, MAX_LIST, MAX_PLACES};
 use nesfoal_tests::normal::{normal, too_heavy};
 use nesfoal_tests::pnml::{from_pnml, ids};
 use nesfoal_tests::range::{range, Extent};
 use nesfoal_tests::read::read;
-use nesfoal_tests::replay::{replay, replay_from, Hindrance, Replayed};
+use nesfoal_tests::replay::{hindrance, replay, replay_from, Hindrance, Replayed};
 use nesfoal_tests::rng::Rng;
 use nesfoal_tests::run_cut::{run_cut, RunCut};
-use nesfoal_tests::shadow::shadow;
+use nesfoal_tests::shadow::{shadow, strike_out};
 use nesfoal_tests::start::most;
 use nesfoal_tests::together::{together, Together};
 use nesfoal_tests::transfer::{carried, transfer, NO_PLACE};
@@ -61,20 +61,33 @@ impl Asked {
         Asked { files, words: words.iter().map(|w| w.to_string()).collect(), due }
     }
 
-    /// A list at the end: as words, or as a file where it is long.
+    /// A list of transitions at the end.
     fn list(self, list: &[u16]) -> Asked {
-        self.list_in(LIST, list)
+        self.list_in(LIST, "t", list)
     }
 
-    /// The same, with the file's name.
-    fn list_in(mut self, file: &'static str, list: &[u16]) -> Asked {
-        if list.len() % 8 == 5 || list.len() > 1_000 {
-            self.files.push((file, gen::to_bytes(list)));
-            self.words.push(format!("@{file}"));
-        } else {
-            self.words.extend(list.iter().map(|n| n.to_string()));
+    /// A criterion at the end.
+    fn criterion(self, q: &Criterion) -> Asked {
+        self.list_in(CRITERION, "p", &q.given)
+    }
+
+    /// A list as words, or as a file of that name where it is long or of some lengths. Of others the numbers have the letter before
+    /// them, or commas between them.
+    fn list_in(mut self, file: &'static str, letter: &str, list: &[u16]) -> Asked {
+        let numbers = |letter: &str| list.iter().map(|n| format!("{letter}{n}")).collect::<Vec<_>>();
+        match list.len() % 8 {
+            _ if list.len() > 1_000 => self.file_of(file, list),
+            5 => self.file_of(file, list),
+            2 => self.words.push(numbers("").join(",")),
+            3 => self.words.extend(numbers(letter)),
+            _ => self.words.extend(numbers("")),
         }
         self
+    }
+
+    fn file_of(&mut self, file: &'static str, list: &[u16]) {
+        self.files.push((file, gen::to_bytes(list)));
+        self.words.push(format!("@{file}"));
     }
 
     /// A marking at the end: as words, or as a file where it has no entry or some lengths; none now and then where it is the plan's own.
@@ -97,6 +110,46 @@ impl Asked {
     }
 }
 
+/// The places of a criterion as they are given, and rising, as the library's calls take them: the command sorts.
+struct Criterion {
+    given: Vec<u16>,
+    rising: Vec<u16>,
+}
+
+impl Criterion {
+    /// Given backwards where it has some lengths.
+    fn new(q: &[u16]) -> Criterion {
+        let (mut given, mut rising) = (q.to_vec(), q.to_vec());
+        if q.len() % 4 >= 2 {
+            given.reverse();
+        }
+        rising.sort_unstable();
+        Criterion { given, rising }
+    }
+
+    /// What an answer for no place ends in.
+    fn for_none(&self) -> &'static str {
+        if self.given.is_empty() {
+            ", for no place"
+        } else {
+            ""
+        }
+    }
+
+    /// The refusal of it, in whole: the first entry that is no place, or that stands before.
+    fn refused(&self, plan: &[u8]) -> Due {
+        let places = read(plan, Some(Kind::Plan)).expect("a good plan").places();
+        let before = |i: usize| (0..i).find(|&j| self.given[j] == self.given[i]);
+        let wrong = |i: usize| match (self.given[i], before(i)) {
+            (n, _) if usize::from(n) >= places => Some(format!("entry {i} is {n}: no such place; P is {places}")),
+            (n, Some(j)) => Some(format!("entry {i} is {n}, and so is entry {j}")),
+            (_, None) => None,
+        };
+        let why = (0..self.given.len()).find_map(wrong).expect("an entry is wrong");
+        Due::new(10, format!("refused 10: criterion: {why}\n"))
+    }
+}
+
 pub struct Verb {
     pub name: &'static str,
     /// The cases of the answer that the fixed cases have to reach.
@@ -116,7 +169,7 @@ pub fn all() -> Vec<Verb> {
             outcomes: "by 1 2 3 4 5 6 7 8 10 12 16",
             fixed: || each(fixed::effects(), of_effect),
             random: |rng| of_effect(&gen::effect_case(rng)),
-            spoils: &[("sign", |due| replace(due, "effect ", "effect -")), ABOVE],
+            spoils: &[("sign", |due| replace(due, "effect ", "effect -")), WHOSE, ABOVE],
         },
         Verb {
             name: "arcs",
@@ -126,11 +179,29 @@ pub fn all() -> Vec<Verb> {
             spoils: &[("direction", |due| replace(due, "takes", "adds")), ABOVE],
         },
         Verb {
+            name: "arcs_of_plan",
+            outcomes: "run none unknown 1 2 3 4 5 6 7 16",
+            fixed: || each(fixed::arc_runs(), of_arcs_of_plan),
+            random: |rng| of_arcs_of_plan(&gen::arcs_case(rng)),
+            spoils: &[("direction", |due| replace(due, "takes", "adds")), ABOVE],
+        },
+        Verb {
             name: "replay",
             outcomes: "fired stuck full 1 2 3 4 5 6 7 8 11 12 16",
             fixed: || each(fixed::replays(), of_replay),
             random: |rng| of_replay(&gen::replay_case(rng)),
-            spoils: &[("amount", |due| replace(due, "short of ", "short of 0")), EXCESS, ABOVE],
+            spoils: &[
+                ("amount", |due| replace(due, "short of ", "short of 0")),
+                ("can_fire", |due| replace(due, "can fire there: transition", "can fire there: no transition")),
+                ("none_can_fire", |due| replace(due, "no transition\n", "transition 0\n")),
+                ("also_short", |due| replace(due, "also short: ", "also over: ")),
+                ("also_over", |due| replace(due, "also over: ", "also short: ")),
+                ("not_looked_at", |due| replace(due, "were not looked at", "are good")),
+                MARKING_THERE,
+                WHOSE,
+                EXCESS,
+                ABOVE,
+            ],
         },
         Verb {
             name: "together",
@@ -156,14 +227,14 @@ pub fn all() -> Vec<Verb> {
             outcomes: "written 1 2 3 4 5 6 7 10 16",
             fixed: || each(fixed::cuts(Cut::Safety), of_cut),
             random: |rng| of_cut(&gen::cut_case(rng, Cut::Safety)),
-            spoils: &[("letter", another_letter), ABOVE],
+            spoils: &[("letter", another_letter), OF_HOW_MANY, NO_PLACE_SAID, TWICE, ABOVE],
         },
         Verb {
             name: "branching",
             outcomes: "written 1 2 3 4 5 6 7 10 16",
             fixed: || each(fixed::cuts(Cut::Branching), of_cut),
             random: |rng| of_cut(&gen::cut_case(rng, Cut::Branching)),
-            spoils: &[("letter", another_letter), ABOVE],
+            spoils: &[("letter", another_letter), OF_HOW_MANY, NO_PLACE_SAID, TWICE, ABOVE],
         },
         Verb {
             name: "run",
@@ -171,7 +242,11 @@ pub fn all() -> Vec<Verb> {
             fixed: || each(fixed::run_cuts(), of_run),
             random: |rng| of_run(&gen::run_cut_case(rng)),
             spoils: &[
-                ("first", |due| replace(due, "chosen 0", "chosen")),
+                ("first", |due| replace(due, "chosen positions 0", "chosen positions")),
+                ("own_list", |due| replace(due, "the slice's list 0", "the slice's list")),
+                OF_HOW_MANY,
+                NO_PLACE_SAID,
+                TWICE,
                 ("capped", |due| replace(due, "refused 17", "refused 10")),
                 ABOVE,
             ],
@@ -181,14 +256,20 @@ pub fn all() -> Vec<Verb> {
             outcomes: "fired stuck full 1 2 3 4 5 6 7 8 11 12 16",
             fixed: || each(fixed::shadows(), of_shadow),
             random: |rng| of_shadow(&gen::shadow_case(rng)),
-            spoils: &[("first", |due| replace(due, "shadow 0", "shadow")), EXCESS, ABOVE],
+            spoils: &[("first", |due| replace(due, "shadow 0", "shadow")), MARKING_THERE, EXCESS, ABOVE],
         },
         Verb {
             name: "replay_from",
             outcomes: "fired stuck full 1 2 3 4 5 6 7 8 11 12 16 22 24",
             fixed: || each(fixed::replays_from(), of_replay_from),
             random: |rng| of_replay_from(&gen::replay_from_case(rng)),
-            spoils: &[("amount", |due| replace(due, "short of ", "short of 0")), ENTRIES, TOKENS, EXCESS],
+            spoils: &[
+                ("amount", |due| replace(due, "short of ", "short of 0")),
+                MARKING_THERE,
+                ENTRIES,
+                TOKENS,
+                EXCESS,
+            ],
         },
         Verb {
             name: "safety_from",
@@ -256,6 +337,9 @@ pub fn all() -> Vec<Verb> {
                 ("rule_8", |due| forget(due, "108")),
                 ("rule_9", |due| forget(due, "109")),
                 ("rule_10", |due| forget(due, "110")),
+                ("whose", |due| replace(due, "the plan's ", "")),
+                NO_PLACE_SAID,
+                TWICE,
                 ABOVE,
             ],
         },
@@ -265,6 +349,13 @@ pub fn all() -> Vec<Verb> {
 /// Another refusal than 16, and other tokens above a cap.
 const ABOVE: Spoil = ("above", |due| replace(due, "refused 16", "refused 6"));
 const EXCESS: Spoil = ("excess", |due| replace(due, "over by ", "over by 0"));
+
+/// The marking where a list stops, whose number it is, of how many, for no place, an entry that stands twice: otherwise.
+const MARKING_THERE: Spoil = ("marking_there", |due| replace(due, "marking there: ", "marking there: 1"));
+const WHOSE: Spoil = ("whose", |due| replace(due, "the slice's ", ""));
+const OF_HOW_MANY: Spoil = ("of_how_many", |due| replace(due, " of ", " of 1"));
+const NO_PLACE_SAID: Spoil = ("no_place", |due| replace(due, ", for no place", ""));
+const TWICE: Spoil = ("twice", |due| replace(due, ", and so is entry ", ", and so is entry 1"));
 
 /// The two refusals of a start, and of a transfer, are others.
 const ENTRIES: Spoil = ("entries", |due| replace(due, "refused 22", "refused 15"));
@@ -298,6 +389,27 @@ fn counted(count: usize, thing: &str) -> String {
     format!("{count} {thing}{}", if count == 1 { "" } else { "s" })
 }
 
+/// Each after a space.
+fn spaced(numbers: impl IntoIterator<Item = impl std::fmt::Display>) -> String {
+    numbers.into_iter().map(|n| format!(" {n}")).collect()
+}
+
+/// `place 3`; in a slice `the slice's place 1 (the plan's 3)`.
+fn place(net: &Net, number: usize) -> String {
+    named("place", number, &net.place_origins)
+}
+
+fn transition(net: &Net, number: usize) -> String {
+    named("transition", number, &net.transition_origins)
+}
+
+fn named(what: &str, number: usize, origins: &[u16]) -> String {
+    match origins.get(number) {
+        Some(origin) => format!("the slice's {what} {number} (the plan's {origin})"),
+        None => format!("{what} {number}"),
+    }
+}
+
 /// A refusal of a file, a criterion or a list that came with it.
 fn refused(number: Refusal, file: &str) -> Due {
     let what = match number {
@@ -317,7 +429,11 @@ fn of_effect(case: &EffectCase) -> Asked {
     let (file, p, t) = (case.file.part(), case.place, case.transition);
     let count = |of: fn(&nesfoal_tests::net::Net) -> usize| read(file, None).map_or(0, |net| of(&net));
     let due = match effect::effect(file, p, t) {
-        Ok(by) => Due::new("by", format!("effect {by} of transition {t} on place {p}\n")),
+        Ok(by) => {
+            let net = read(file, None).expect("a good file");
+            let (on, of) = (place(&net, p as usize), transition(&net, t as usize));
+            Due::new("by", format!("effect {by} on {on} of {of}\n"))
+        }
         Err(10) => Due::new(10, format!("refused 10: unknown place {p}; P is {}\n", count(|net| net.places()))),
         Err(12) => {
             Due::new(12, format!("refused 12: unknown transition {t}; T is {}\n", count(|net| net.transitions())))
@@ -335,19 +451,44 @@ fn of_arcs(case: &ArcsCase) -> Asked {
         (_, Err(n)) => refused(n, "slice"),
         (Ok(plan_net), Ok(slice_net)) => {
             let count = if case.of_slice { slice_net.transitions() } else { plan_net.transitions() };
-            if t as usize >= count {
-                let it = counted(count, "transition");
-                Due::new("unknown", format!("error: the {which} has no transition {t}: it has {it}, numbered from 0\n"))
-            } else {
-                let run = arcs::arcs(plan, slice, case.of_slice, t).1;
-                let words: Vec<String> = run.chunks(8).map(arc).collect();
-                let end = if words.is_empty() { String::new() } else { format!(": {}", words.join(", ")) };
-                let outcome = if words.is_empty() { "none" } else { "run" };
-                Due::new(outcome, format!("arcs {} of transition {t} in the {which}{end}\n", words.len()))
+            match t as usize >= count {
+                true => no_transition(which, t, count),
+                false => {
+                    run_of_arcs(which, t, arcs::arcs(plan, slice, case.of_slice, t).1.chunks(8).map(arc).collect())
+                }
             }
         }
     };
     Asked::new(&["arcs", "plan", "slice", which, &t.to_string()], &[("plan", &case.plan), ("slice", &case.slice)], due)
+}
+
+/// The plan's arcs, with no slice beside it.
+fn of_arcs_of_plan(case: &ArcsCase) -> Asked {
+    let t = case.transition;
+    let due = match read(case.plan.part(), Some(Kind::Plan)) {
+        Err(n) => refused(n, "plan"),
+        Ok(net) if t as usize >= net.transitions() => no_transition("plan", t, net.transitions()),
+        Ok(net) => run_of_arcs("plan", t, net.arcs_of(t as usize).iter().map(arc_of).collect()),
+    };
+    Asked::new(&["arcs", "plan", &format!("t{t}")], &[("plan", &case.plan)], due)
+}
+
+fn no_transition(which: &str, t: u32, count: usize) -> Due {
+    let it = counted(count, "transition");
+    Due::new("unknown", format!("error: the {which} has no transition {t}: it has {it}, numbered from 0\n"))
+}
+
+fn run_of_arcs(which: &str, t: u32, words: Vec<String>) -> Due {
+    let end = if words.is_empty() { String::new() } else { format!(": {}", words.join(", ")) };
+    let outcome = if words.is_empty() { "none" } else { "run" };
+    Due::new(outcome, format!("arcs {} of transition {t} in the {which}{end}\n", words.len()))
+}
+
+fn arc_of(arc: &Arc) -> String {
+    match arc.direction {
+        Direction::In => format!("takes {} from place {}", arc.weight, arc.place),
+        Direction::Out => format!("adds {} to place {}", arc.weight, arc.place),
+    }
 }
 
 /// `takes 1 from place 0`, `adds 1 to place 2`.
@@ -371,24 +512,70 @@ fn of_replay(case: &ReplayCase) -> Asked {
     Asked::new(&["replay", "file"], &[("file", &case.file)], due).list(list)
 }
 
-/// The line of a replay.
+/// The lines of a replay; where it stops, with what stands around.
 fn replayed(answer: &Replayed, file: &[u8], list: &[u16], marking: &[u64]) -> Due {
+    let net = read(file, None).expect("a good file");
+    let marking = &marking[..net.places()];
     match *answer {
         Replayed::Fired => {
-            let places = read(file, None).map_or(0, |net| net.places());
-            let tokens: Vec<String> = marking[..places].iter().map(|m| format!(" {m}")).collect();
             let count = counted(list.len(), "transition");
-            Due::new("fired", format!("fired {count}, ending{}\n", tokens.concat()))
+            Due::new("fired", format!("fired {count}, ending{}\n", spaced(marking)))
         }
-        Replayed::Stuck { index, why: Hindrance { full: false, place, amount } } => {
-            let t = list[index];
-            Due::new("stuck", format!("stuck at index {index}: transition {t}, place {place} is short of {amount}\n"))
-        }
-        Replayed::Stuck { index, why: Hindrance { full: true, place, amount } } => {
-            let t = list[index];
-            Due::new("full", format!("full at index {index}: transition {t}, place {place} is over by {amount}\n"))
+        Replayed::Stuck { index, why } => {
+            let outcome = if why.full { "full" } else { "stuck" };
+            Due::new(outcome, stopped(&net, list, index, why) + &around(&net, list[index].into(), why, marking))
         }
     }
+}
+
+/// The line of a list that stops.
+fn stopped(net: &Net, list: &[u16], index: usize, why: Hindrance) -> String {
+    let (t, p) = (transition(net, list[index].into()), place(net, why.place.into()));
+    match why.full {
+        false => format!("stuck at index {index}: {t}, {p} is short of {}\n", why.amount),
+        true => format!("full at index {index}: {t}, {p} is over by {}\n", why.amount),
+    }
+}
+
+/// The lines below it: the other places that are short, or over; the marking there; what can fire there.
+fn around(net: &Net, t: usize, why: Hindrance, marking: &[u64]) -> String {
+    let (taken, added) = (net.inputs(t), outputs(net, t));
+    let most = |p: usize| net.cap(p).unwrap_or(u64::MAX);
+    let by = |p: usize| match why.full {
+        false => taken[p].saturating_sub(marking[p]),
+        true => (marking[p] + added[p] - taken[p]).saturating_sub(most(p)),
+    };
+    let mut hindering: Vec<usize> = (0..net.places()).filter(|&p| by(p) > 0).collect();
+    assert_eq!((hindering[0], by(hindering[0])), (why.place.into(), why.amount));
+    // Nothing is looked for above a place whose cap is below what the transition takes from it, or adds to it.
+    let (mut lines, asked) = (String::new(), if why.full { &added } else { &taken });
+    let last = hindering.iter().position(|&p| asked[p] > most(p));
+    hindering.truncate(last.map_or(hindering.len(), |i| i + 1));
+    let also: Vec<String> = hindering[1..].iter().map(|&p| format!("{} by {}", place(net, p), by(p))).collect();
+    if !also.is_empty() {
+        lines += &format!("also {}: {}\n", if why.full { "over" } else { "short" }, also.join(", "));
+    }
+    if let Some(p) = last.map(|i| hindering[i]).filter(|p| p + 1 < net.places()) {
+        lines += &format!("places above {p} were not looked at\n");
+    }
+    lines += &format!("marking there:{}\n", spaced(marking));
+    let can_fire: Vec<usize> = (0..net.transitions()).filter(|&t| hindrance(net, t, marking).is_none()).collect();
+    let whose = if net.kind == Kind::Slice { "the slice's " } else { "" };
+    lines
+        + &match can_fire.len() {
+            0 => "can fire there: no transition\n".into(),
+            1 => format!("can fire there: {whose}transition {}\n", can_fire[0]),
+            _ => format!("can fire there: {whose}transitions{}\n", spaced(can_fire)),
+        }
+}
+
+/// out(p,t) for each place p.
+fn outputs(net: &Net, t: usize) -> Vec<u64> {
+    let mut added = vec![0; net.places()];
+    for arc in net.in_and_out(t).1 {
+        added[usize::from(arc.place)] += u64::from(arc.weight);
+    }
+    added
 }
 
 /// A call from a start: the plain verb's words, then `from` and the marking.
@@ -412,7 +599,7 @@ fn too_many(tokens: &[u128], verb: &str, net: &Net) -> String {
     let above = |p: &usize| tokens[*p] > u128::from(most(net, *p));
     let p = (0..tokens.len()).find(above).expect("a place has too many");
     let limit = match net.cap(p) {
-        Some(cap) => format!("it holds {}", grouped(cap.into())),
+        Some(cap) => format!("its cap is {}", grouped(cap.into())),
         None => "at most 4,294,967,295".into(),
     };
     let s = if tokens[p] == 1 { "" } else { "s" };
@@ -431,27 +618,29 @@ fn of_replay_from(case: &ReplayFromCase) -> Asked {
 }
 
 fn of_cut_from(case: &CutFromCase) -> Asked {
-    let (plan, q, start) = (case.plain.plan.part(), case.plain.q.part(), case.start.part());
+    let (plan, q, start) = (case.plain.plan.part(), Criterion::new(case.plain.q.part()), case.start.part());
     let mut buffer = vec![0; MAX_FILE];
-    let due = match cut_from(case.plain.which, plan, start, q, &mut buffer) {
-        Ok(w) => written(&w, buffer),
+    let due = match cut_from(case.plain.which, plan, start, &q.rising, &mut buffer) {
+        Ok(w) => written(&w, buffer, plan, &q),
+        Err(10) => q.refused(plan),
         Err(n @ (22 | 24)) => wrong_start(n, start, plan),
         Err(n) => refused(n, "plan"),
     };
     let asked = Asked::new(&[cut_verb(case.plain.which), "plan", OUT], &[("plan", &case.plain.plan)], due);
-    and_from(asked.list(q), start)
+    and_from(asked.criterion(&q), start)
 }
 
 fn of_verdict_from(case: &VerdictFromCase) -> Asked {
     let VerdictCase { plan, slice, q } = &case.plain;
-    let start = case.start.part();
-    let due = match verdict_from(plan.part(), slice.part(), start, q.part()) {
-        Ok(verdict) => judged(&verdict),
+    let (start, q) = (case.start.part(), Criterion::new(q.part()));
+    let due = match verdict_from(plan.part(), slice.part(), start, &q.rising) {
+        Ok(verdict) => judged(&verdict, &q),
+        Err(10) => q.refused(plan.part()),
         Err(n @ (22 | 24)) => wrong_start(n, start, plan.part()),
         Err(n) => refused_of_two(n, plan.part()),
     };
     let asked = Asked::new(&["check", "plan", "slice"], &[("plan", plan), ("slice", slice)], due);
-    and_from(asked.list(q.part()), start)
+    and_from(asked.criterion(&q), start)
 }
 
 fn of_transfer(case: &TransferCase) -> Asked {
@@ -469,7 +658,7 @@ fn of_transfer(case: &TransferCase) -> Asked {
     };
     let asked = Asked::new(&["transfer", "old", "new"], &[("old", &case.old), ("new", &case.new)], due);
     // `none` is a word for an entry of the table.
-    let mut asked = asked.list_in(TABLE, table);
+    let mut asked = asked.list_in(TABLE, "", table);
     if table.len() % 3 == 1 {
         asked.words.iter_mut().skip(3).filter(|word| *word == "65535").for_each(|word| *word = "none".into());
     }
@@ -588,12 +777,14 @@ fn how_many(count: usize) -> String {
 }
 
 fn of_cut(case: &CutCase) -> Asked {
+    let (plan, q) = (case.plan.part(), Criterion::new(case.q.part()));
     let mut buffer = vec![0; MAX_FILE];
-    let due = match cut(case.which, case.plan.part(), case.q.part(), &mut buffer) {
-        Ok(w) => written(&w, buffer),
+    let due = match cut(case.which, plan, &q.rising, &mut buffer) {
+        Ok(w) => written(&w, buffer, plan, &q),
+        Err(10) => q.refused(plan),
         Err(n) => refused(n, "plan"),
     };
-    Asked::new(&[cut_verb(case.which), "plan", OUT], &[("plan", &case.plan)], due).list(case.q.part())
+    Asked::new(&[cut_verb(case.which), "plan", OUT], &[("plan", &case.plan)], due).criterion(&q)
 }
 
 fn cut_verb(which: Cut) -> &'static str {
@@ -605,10 +796,12 @@ fn cut_verb(which: Cut) -> &'static str {
 }
 
 /// The line of a cut, and the file.
-fn written(w: &Written, mut buffer: Vec<u8>) -> Due {
-    let counts = [counted(w.length, "byte"), counted(w.places, "place"), counted(w.transitions, "transition")];
+fn written(w: &Written, mut buffer: Vec<u8>, plan: &[u8], q: &Criterion) -> Due {
+    let net = read(plan, Some(Kind::Plan)).expect("a good plan");
+    let places = format!("{} of {}", w.places, counted(net.places(), "place"));
+    let transitions = format!("{} of {}", w.transitions, counted(net.transitions(), "transition"));
     buffer.truncate(w.length);
-    let says = format!("written {OUT}: {}\n", counts.join(", "));
+    let says = format!("written {OUT}: {}, {places}, {transitions}{}\n", counted(w.length, "byte"), q.for_none());
     Due { written: Some(buffer), ..Due::new("written", says) }
 }
 
@@ -674,26 +867,30 @@ fn written_plan(file: &[u8]) -> Due {
 }
 
 fn of_run(case: &RunCutCase) -> Asked {
-    let (plan, q, list) = (case.plan.part(), case.q.part(), case.list.part());
+    let (plan, q, list) = (case.plan.part(), Criterion::new(case.q.part()), case.list.part());
     let (mut buffer, mut positions) = (vec![0; MAX_FILE], vec![0; MAX_LIST]);
-    let due = match run_cut(plan, q, list, &mut buffer, &mut positions) {
+    let due = match run_cut(plan, &q.rising, list, &mut buffer, &mut positions) {
         Ok(RunCut::Written(w, count)) => {
-            let mut due = written(&w, buffer);
-            let chosen: Vec<String> = positions[..count].iter().map(|i| format!(" {i}")).collect();
-            due.says += &format!("chosen{}\n", chosen.concat());
+            let slice = read(&buffer[..w.length], Some(Kind::Slice)).expect("a slice");
+            let chosen = &positions[..count];
+            let fired: Vec<u16> = chosen.iter().map(|&i| list[usize::from(i)]).collect();
+            let own = strike_out(&slice.transition_origins, &fired);
+            assert_eq!(own.len(), count);
+            let mut due = written(&w, buffer, plan, &q);
+            due.says += &format!("chosen positions{}\nthe slice's list{}\n", spaced(chosen), spaced(own));
             due
         }
         Ok(RunCut::Sticks { index, place, amount }) => {
-            let why = Hindrance { full: false, place, amount };
-            let stuck = replayed(&Replayed::Stuck { index, why }, plan, list, &[]);
-            Due::new(14, format!("refused 14: list: {}", stuck.says))
+            let (net, why) = (read(plan, None).expect("a good plan"), Hindrance { full: false, place, amount });
+            Due::new(14, format!("refused 14: list: {}", stopped(&net, list, index, why)))
         }
+        Err(10) => q.refused(plan),
         Err(n) => refused(n, "plan"),
     };
     let asked = Asked::new(&["run", "plan", OUT], &[("plan", &case.plan)], due);
     let mut asked = asked.list(list);
     asked.words.push("for".into());
-    asked.list_in(CRITERION, q)
+    asked.criterion(&q)
 }
 
 fn of_shadow(case: &ShadowCase) -> Asked {
@@ -712,24 +909,25 @@ fn of_shadow(case: &ShadowCase) -> Asked {
 }
 
 fn of_verdict(case: &VerdictCase) -> Asked {
-    let (plan, slice, q) = (case.plan.part(), case.slice.part(), case.q.part());
-    let due = match verdict(plan, slice, q) {
-        Ok(verdict) => judged(&verdict),
+    let (plan, slice, q) = (case.plan.part(), case.slice.part(), Criterion::new(case.q.part()));
+    let due = match verdict(plan, slice, &q.rising) {
+        Ok(verdict) => judged(&verdict, &q),
+        Err(10) => q.refused(plan),
         Err(n) => refused_of_two(n, plan),
     };
-    Asked::new(&["check", "plan", "slice"], &[("plan", &case.plan), ("slice", &case.slice)], due).list(q)
+    Asked::new(&["check", "plan", "slice"], &[("plan", &case.plan), ("slice", &case.slice)], due).criterion(&q)
 }
 
 /// The line of a verdict, up to the reason.
-fn judged(verdict: &Verdict) -> Due {
+fn judged(verdict: &Verdict, q: &Criterion) -> Due {
     match *verdict {
-        Verdict::Accepted => Due::new("accepted", "accepted\n".into()),
+        Verdict::Accepted => Due::new("accepted", format!("accepted{}\n", q.for_none())),
         Verdict::Broken { rule, number } => {
             let what = match rule {
                 1 => "the slice's place",
                 2 => "the slice's transition",
-                3 | 5 => "place",
-                _ => "transition",
+                3 | 5 => "the plan's place",
+                _ => "the plan's transition",
             };
             Due::new(100 + rule, format!("rule {rule} broken by {what} {number}: "))
         }
