@@ -136,6 +136,29 @@ enum {
     NESFOAL_RULE = 100       /* of a check: plus the number of the broken rule, 1 to 10 */
 };
 
+/* What each call can return beside 0, in the order of checking; 'file', 'plan' and 'slice' are 1 to 5, 16, 6 and 7 one by one, and 8
+ * for a slice. 100 and above are no refusals, and mean what stands here for that call alone. samples/words.c has a text for each number.
+ *
+ *   nesfoal_check                      plan, slice, 9, 10; 101 to 110 a rule
+ *   nesfoal_verdict                    plan, slice, 10; 101 to 110 a rule
+ *   nesfoal_verdict_from               plan, slice, 22, 24, 10; 101 to 110 a rule
+ *   nesfoal_effect                     file, 10, 12
+ *   nesfoal_replay                     file, 11, 12, 13; 100 stuck, 101 full
+ *   nesfoal_replay_from                file, 22, 24, 11, 12, 13; 100 stuck, 101 full
+ *   nesfoal_shadow                     plan, slice, 11, 12, 13; 100 stuck, 101 full
+ *   nesfoal_together                   plan, 12, 15, 13; 100 unlimited
+ *   nesfoal_range                      plan, 17, 11, 12, 21, 13; 100 from some markings, 101 from none
+ *   nesfoal_safety                     plan, 10, 13
+ *   nesfoal_safety_from                plan, 22, 24, 10, 13
+ *   nesfoal_branching                  plan, 10, 13
+ *   nesfoal_branching_from             plan, 22, 24, 10, 13
+ *   nesfoal_run_cut                    plan, 17, 10, 11, 12, 14, 13
+ *   nesfoal_transfer                   old plan, new plan, 22, 23, 24, 13
+ *   nesfoal_normal                     plan, 25, 13
+ *   nesfoal_from_pnml                  1, 18, 19, 20, 13
+ *   nesfoal_arcs                       no number: the length of the run, 0 where it is refused
+ */
+
 #ifdef __cplusplus
 extern "C" {
 #endif

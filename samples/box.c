@@ -124,7 +124,7 @@ int main(int argc, char **argv)
     char name[4096];
     uint32_t answer;
     long length;
-    int got;
+    int got, i;
     if (argc < 3 || argc - 2 > PLACES) {
         fprintf(stderr, "usage: box PLAN PLACE.. < slices\n");
         return 2;
@@ -135,7 +135,7 @@ int main(int argc, char **argv)
         return 2;
     }
     plan_length = (size_t)length;
-    for (int i = 2; i < argc; i++) {
+    for (i = 2; i < argc; i++) {
         unsigned long place;
         if (!number(argv[i], &place)) {
             fprintf(stderr, "%s: not a number from 0 to 65535\n", argv[i]);

@@ -43,13 +43,16 @@ pub fn install(call: &mut Call) -> Done {
         prefix.take_away();
     }
     let mut made = Vec::new();
-    let files: [(&str, u32, Content); 6] = [
+    let files: [(&str, u32, Content); 9] = [
         ("bin/nesfoal", 0o755, Content::Copy(PROGRAM)),
         ("include/nesfoal.h", 0o644, Content::Copy("include/nesfoal.h")),
         ("lib/libnesfoal.a", 0o644, Content::Copy("target/cli/libnesfoal.a")),
         ("lib/pkgconfig/nesfoal.pc", 0o644, Content::Text(package())),
         ("share/man/man1/nesfoal.1", 0o644, Content::Text(help::manual())),
         ("share/doc/nesfoal/LICENSE", 0o644, Content::Copy("LICENSE")),
+        ("share/doc/nesfoal/FORMAT.md", 0o644, Content::Copy("docs/FORMAT.md")),
+        ("share/doc/nesfoal/samples/box.c", 0o644, Content::Copy("samples/box.c")),
+        ("share/doc/nesfoal/samples/words.c", 0o644, Content::Copy("samples/words.c")),
     ];
     for (name, mode, content) in &files {
         let bytes = match content {

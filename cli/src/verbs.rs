@@ -170,8 +170,9 @@ The trailer, the last 16 bytes:
     11  edition (1): 1, or 2 with caps
     12  the letters BELL
 
-A file has at most 65,536 bytes, 1,024 places, 1,024 transitions and 4,096 arcs. docs/FORMAT.md has
-examples. A list in bytes has 2 bytes an entry (4 in an upper list, 8 in a marking).
+A file has at most 65,536 bytes, 1,024 places, 1,024 transitions and 4,096 arcs. FORMAT.md (docs/, or
+share/doc/nesfoal/ where it is installed) has examples. A list in bytes has 2 bytes an entry (4 in an
+upper list, 8 in a marking).
 ",
     },
 ];
@@ -675,8 +676,9 @@ Answers:
         run: install::install,
         text: "\
 Below PREFIX: bin/nesfoal, lib/libnesfoal.a, lib/pkgconfig/nesfoal.pc, include/nesfoal.h, share/man,
-share/doc and share/nesfoal. What is installed runs without the repository and without the toolchain,
-and may be moved. An older one there is replaced.
+share/nesfoal and share/doc, with the page of the files (FORMAT.md) and the samples in C. What is
+installed runs without the repository and without the toolchain, and may be moved. An older one there is
+replaced.
 
 Example:
     ./nesfoal install ~/.local
