@@ -1,3 +1,5 @@
+#![tactic(auto)]
+
 // What a transition does to each place, in one column of numbers.
 ghost use Rattle.std.specs.Prelude.{◌≡◌, ℕ, ◌+◌, ◌*◌, ◌<◌, ◌≤◌, length, get_or};
 ghost use Rattle.arcs_column.specs.Gain.{sum_to, pulls, pulled_to, Run, Takes, Gives, Rested};

@@ -1,3 +1,5 @@
+#![tactic(auto)]
+
 // What one transition does: its effect on a place, and where its arcs stand in a file.
 ghost use Rattle.std.specs.Prelude.{◌≡◌, ◌+◌, ◌*◌, ◌<◌, ◌≤◌, ◌^◌, length, pos, ◌-ℤ◌};
 ghost use Rattle.net.specs.Net.{effect as effectOn};
@@ -69,7 +71,7 @@ pub fn effect(file: &[u8], h: Header, place: usize, transition: usize) -> i32
 }
 
 // A part of a file.
-#[derive(Drop)]
+#[derive(Clone, Copy)]
 pub struct Part {
     pub start: usize,
     pub length: usize,

@@ -1,3 +1,5 @@
+#![tactic(auto)]
+
 // Parallel arcs stand next to each other: where such a group ends, and the sum of its weights.
 ghost use Rattle.std.specs.Prelude.{◌≡◌, true, ◌&&◌, ◌+◌, ◌-◌, ◌*◌, ◌/◌, ◌%◌, ◌≤◌, eqb};
 ghost use Rattle.arcs_groups.specs.Groups.{GroupEnd, Stands, run_weight};
@@ -27,7 +29,7 @@ pub fn alone(file: &[u8], start: usize, j: usize, to: usize) -> bool
 }
 
 // A group of parallel arcs: one past its last arc, and the sum of the weights.
-#[derive(Drop)]
+#[derive(Clone, Copy)]
 pub struct Grouped {
     pub end: usize,
     pub weight: usize,

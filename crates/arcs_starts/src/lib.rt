@@ -1,3 +1,5 @@
+#![tactic(auto)]
+
 // Where the arcs of each transition start: a table that is made once.
 ghost use Rattle.std.specs.Prelude.{◌≡◌, ℕ, ◌+◌, ◌*◌, ◌<◌, ◌≤◌, length, get_or};
 ghost use Rattle.file_arcs.specs.Layout.{arc_at};

@@ -7,7 +7,7 @@ use file::Reading;
 use file_header::Due;
 
 // By how much the tokens change, or the number of a refusal.
-#[derive(Drop)]
+#[derive(Clone, Copy)]
 pub enum Change {
     By(i32),
     Refused(u32),

@@ -36,7 +36,7 @@ pub fn arcs<'a>(plan: &'a [u8], slice: &'a [u8], inslice: bool, transition: u32)
 }
 
 // Where that run stands in the file named, in bytes; 0 and 0 where it is empty.
-#[derive(Drop)]
+#[derive(Clone, Copy)]
 pub struct Part {
     pub start: u32,
     pub length: u32,

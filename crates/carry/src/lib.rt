@@ -1,3 +1,5 @@
+#![tactic(auto)]
+
 // Carries a running marking to the places of another plan, by a table.
 ghost use Rattle.std.specs.Prelude.{◌≡◌, ◌&&◌, ℕ, ◌+◌, ◌<◌, ◌≤◌, eqb, ltb, length, get_or};
 ghost use Rattle.net.specs.Numbers.{any};

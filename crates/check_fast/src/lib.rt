@@ -1,3 +1,5 @@
+#![tactic(auto)]
+
 // Which of the rules 4 to 10 are certainly kept? One pass over the plan's arcs, with no branch on what is kept.
 //
 // An arc's number has the transition in bits 0 to 15, the direction in bit 16, zeros up to 31, the place in 32 to 47 and
@@ -41,7 +43,7 @@ const LEFT_CAPPED: usize = 1024 * PLACE + 14 * DIRECTION;
 const RAISED: usize = 1024 * PLACE + 1024;
 
 // How far the arcs are gone through: the plan's, the slice's own, the bits in which some differ, and the first rule in doubt, 11 where none is.
-#[derive(Drop)]
+#[derive(Clone, Copy)]
 pub struct Walk {
     pub arc: usize,
     pub own: usize,

@@ -1,3 +1,5 @@
+#![tactic(auto)]
+
 // The rules 4 to 10 in order, and what the checker finds.
 ghost use Rattle.std.specs.Prelude.{◌≡◌, ◌*◌, ◌<◌, length};
 ghost use Rattle.net.specs.Checker.{breaker, verdict_from, rule4, rule6, rule7};
@@ -14,7 +16,7 @@ ghost use Rattle.check_rules.specs.Room.{rules_from4, rules_from6, rules_from9, 
 use file_header::Header;
 
 // "accepted, or the broken rule with its number": each rule with the place or transition that breaks it. A call that is turned back has the refusal's number.
-#[derive(Drop)]
+#[derive(Clone, Copy)]
 pub enum Outcome {
     Accepted,
     Refused(u32),

@@ -1,3 +1,5 @@
+#![tactic(auto)]
+
 // Rules 4 to 10 in tables that are not much larger than the nets.
 ghost use Rattle.std.specs.Prelude.{◌≡◌, true, ◌<◌};
 ghost use Rattle.net.specs.Checker.{breaker, verdict_from, rule4};
@@ -113,7 +115,7 @@ pub fn sized(
 }
 
 // What is known of the rules 4 to 10: the first that is in doubt, 11 where none is; and the lowest transition that breaks rule 4, past all where none is known.
-#[derive(Drop)]
+#[derive(Clone, Copy)]
 pub struct Found {
     pub doubt: usize,
     pub other: usize,

@@ -1,3 +1,5 @@
+#![tactic(auto)]
+
 // The checker: rules 1 to 3, then the others, and the verdict.
 ghost use Rattle.std.specs.Prelude.{◌≡◌, ◌/◌, ◌≤◌, length};
 ghost use Rattle.net.specs.Checker.{verdict_from, verdict};
@@ -16,7 +18,7 @@ use check_sizes::{agreeing, sized};
 use file_header::Header;
 use tables::{LARGE, SMALL};
 
-#[derive(Drop)]
+#[derive(Clone, Copy)]
 pub struct Verdict {
     pub outcome: Outcome,
 }

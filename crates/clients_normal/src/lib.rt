@@ -1,3 +1,5 @@
+#![tactic(auto)]
+
 // What a program does with normal forms. Each function is proved from the contract of `call_plans:normal` alone.
 ghost use Rattle.std.specs.Prelude.{◌≡◌, true, ◌≤◌, length};
 ghost use Rattle.promise.specs.Firing.{replay_answer, replay_marking};
@@ -9,7 +11,7 @@ use plan_put::File;
 use replay::Outcome;
 
 // Whether two plans are one net, or why a plan has no normal form in its buffer.
-#[derive(Drop)]
+#[derive(Clone, Copy)]
 pub enum Same {
     One,
     Two,

@@ -1,3 +1,5 @@
+#![tactic(auto)]
+
 // What a program does with a text in PNML. Each function is proved from the contract of `call_plans:convert`.
 ghost use Rattle.std.specs.Prelude.{◌≡◌, length};
 ghost use Rattle.plan_put.specs.Told.{file_numbers};
@@ -8,7 +10,7 @@ use file_header::Due;
 use plan_put::File;
 
 // The places and the transitions of the plan of a text, its edition and where its body starts; or why there is none. Lost: what was written is no plan.
-#[derive(Drop)]
+#[derive(Clone, Copy)]
 pub enum Drawn {
     Net(usize, usize, usize, usize),
     Refused(u32),

@@ -1,3 +1,5 @@
+#![tactic(auto)]
+
 // Programs that use the answer of `range` and the need that it writes. What each ensures follows from the contracts of the public calls alone.
 ghost use Rattle.std.specs.Prelude.{◌≡◌, true, false, not, ◌||◌, ◌&&◌, ◌↔◌, ◌≤◌, length, eqb};
 ghost use Rattle.net.specs.Net.{Fires};

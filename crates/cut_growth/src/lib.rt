@@ -1,3 +1,5 @@
+#![tactic(auto)]
+
 // The pair of kept sets grows while a cut runs: `add` takes it by reference, and is called until no place is pending.
 ghost use Rattle.std.specs.Prelude.{ℕ, ◌<◌, T};
 ghost use Rattle.file.specs.Facts.{Sound};

@@ -1,3 +1,5 @@
+#![tactic(auto)]
+
 // The arcs of each place that lower it, and those that raise it, linked by groups of parallel arcs: from the last of them to the one before it.
 ghost use Rattle.std.specs.Prelude.{◌≡◌, ℕ, ◌+◌, ◌*◌, ◌%◌, ◌<◌, ◌≤◌, eqb, length, get_or, true};
 ghost use Rattle.file.specs.Facts.{Sound};

@@ -1,3 +1,5 @@
+#![tactic(auto)]
+
 // A step of the search for a cut: the lowest pending place is gone through.
 ghost use Rattle.std.specs.Prelude.{◌≡◌, ◌&&◌, ℕ, ◌*◌, ◌≤◌, ◌<◌, eqb, length};
 ghost use Rattle.net.specs.Net.{takes_from};

@@ -1,3 +1,5 @@
+#![tactic(auto)]
+
 // The public calls from Rattle, on the small kerb of paper 01: the safety cut for place 2, its check, a run with its shadow.
 ghost use Rattle.std.specs.Prelude.{◌≡◌};
 ghost use Rattle.promise.specs.Example.{small_plan};

@@ -1,3 +1,5 @@
+#![tactic(auto)]
+
 // The arcs of a file: refusals 6 and 7.
 mod sweep;
 

@@ -1,3 +1,5 @@
+#![tactic(auto)]
+
 // The header of a file, by its trailer.
 pub mod tail;
 
@@ -5,7 +7,7 @@ ghost use Rattle.std.specs.Prelude.{◌≡◌, ◌≤◌};
 ghost use Rattle.file_header.specs.Layout.{places_length};
 
 // The kind of file that a call asks for.
-#[derive(Drop)]
+#[derive(Clone, Copy)]
 pub enum Due {
     Plan,
     Slice,
@@ -13,7 +15,7 @@ pub enum Due {
 }
 
 // The counts of a file, its kind (0 plan, 1 slice), its edition and where its parts start.
-#[derive(Drop)]
+#[derive(Clone, Copy)]
 pub struct Header {
     pub places: usize,
     pub transitions: usize,
@@ -26,7 +28,7 @@ pub struct Header {
 }
 
 // The trailer's fields. letters has the four letters, low byte first.
-#[derive(Drop)]
+#[derive(Clone, Copy)]
 pub struct Trailer {
     pub body: usize,
     pub places: usize,

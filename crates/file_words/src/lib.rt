@@ -1,3 +1,5 @@
+#![tactic(auto)]
+
 // Numbers in a byte slice, low byte first: one; tables of them (origins), and pairs (markings and caps).
 pub mod capacity;
 pub mod origins;

@@ -1,3 +1,5 @@
+#![tactic(auto)]
+
 // The criterion: refusals 9 and 10.
 ghost use Rattle.std.specs.Prelude.{◌≡◌, ◌||◌, ◌+◌, ◌*◌, ◌≤◌, ◌<◌, ltb, leb, length, take};
 ghost use Rattle.file.specs.Layout.{words_from};

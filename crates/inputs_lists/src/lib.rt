@@ -1,3 +1,5 @@
+#![tactic(auto)]
+
 // Lists of transitions: refusals 11 and 12.
 ghost use Rattle.std.specs.Prelude.{◌≡◌, ◌≤◌, leb};
 ghost use Rattle.net.specs.Numbers.{any};

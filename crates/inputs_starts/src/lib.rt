@@ -1,3 +1,5 @@
+#![tactic(auto)]
+
 // Markings to start from: refusals 22 and 24.
 ghost use Rattle.std.specs.Prelude.{◌≡◌, ℕ, ◌<◌, ◌≤◌, ltb, length};
 ghost use Rattle.file_header.specs.Facts.{Placed};

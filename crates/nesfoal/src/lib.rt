@@ -1,3 +1,5 @@
+#![tactic(auto)]
+
 // The C interface: each public call of the crates call_* as a C function, its answer as numbers. Only a crate's own C functions are in its
 // archive, so all of them stand here.
 pub mod cuts;

@@ -1,3 +1,5 @@
+#![tactic(auto)]
+
 // The normal form of a plan: its parallel arcs joined, in edition 2, without note.
 ghost use Rattle.std.specs.Prelude.{◌≡◌, ◌+◌, ◌*◌, ◌≤◌, length};
 ghost use Rattle.std.proofs.lemmas.List.Edits.{sets};
@@ -17,7 +19,7 @@ use net::Arc;
 use plan_put::File;
 
 // How many arcs are left once parallel ones are joined; or that one of these weighs more than 65,535.
-#[derive(Drop)]
+#[derive(Clone, Copy)]
 pub enum Joined {
     Arcs(usize),
     Heavy,

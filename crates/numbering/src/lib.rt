@@ -1,3 +1,5 @@
+#![tactic(auto)]
+
 // The own numbers of a slice: from the plan's numbers to the slice's.
 ghost use Rattle.std.specs.Prelude.{◌≡◌, ℕ, length, get_or, set};
 ghost use Rattle.file.specs.Layout.{words_from};

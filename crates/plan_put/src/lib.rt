@@ -1,3 +1,5 @@
+#![tactic(auto)]
+
 // The end of a plan file of either edition, and the answer of a call that writes one. Places and arcs are put by slice_put.
 ghost use Rattle.std.specs.Prelude.{◌≡◌, ◌+◌, ◌*◌, ◌<◌, ◌≤◌, length};
 ghost use Rattle.std.proofs.lemmas.List.Edits.{sets};
@@ -7,7 +9,7 @@ ghost use Rattle.file_writing.specs.Writing.{trailer_bytes};
 use file_header::places_length;
 
 // What a call that writes a plan answers: the file's length, or a refusal.
-#[derive(Drop)]
+#[derive(Clone, Copy)]
 pub enum File {
     Length(u32),
     Refused(u32),

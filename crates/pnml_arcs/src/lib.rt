@@ -1,3 +1,5 @@
+#![tactic(auto)]
+
 // The arcs of a text in PNML by the numbers of their ends: whether one joins no place and transition, whether a weight is past its limit, and each as one number.
 ghost use Rattle.std.specs.Prelude.{◌≡◌, ◌||◌, ◌+◌, ◌≤◌, ltb, length};
 ghost use Rattle.pnml_index.specs.Rows.{Indexed};
@@ -15,7 +17,7 @@ use pnml_page::arc;
 use tables::wide;
 
 // An arc between a place and a transition, or one that joins no such two.
-#[derive(Drop)]
+#[derive(Clone, Copy)]
 pub enum Joined {
     Between(Arc),
     Apart,
@@ -83,7 +85,7 @@ fn off(weight: usize) -> bool
 }
 
 // Whether an arc is apart; if not, whether a weight is off.
-#[derive(Drop)]
+#[derive(Clone, Copy)]
 pub struct Ends {
     pub apart: bool,
     pub off: bool,

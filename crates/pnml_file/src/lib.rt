@@ -1,3 +1,5 @@
+#![tactic(auto)]
+
 // The plan file of the net that a text in PNML names: its parts, and what refusal 20 tests.
 ghost use Rattle.std.specs.Prelude.{◌≡◌, ◌+◌, ◌*◌, ◌≤◌, length};
 ghost use Rattle.std.proofs.lemmas.List.Edits.{sets};

@@ -1,3 +1,5 @@
+#![tactic(auto)]
+
 // An index of the ids of a text in PNML: from an id to its number in a table, and whether an id stands there twice.
 // Ids with the same sum of characters stand in one row. `head` has for each sum the last of its row, counted from 1, and `next` for each id
 // the one before it in its row; 0 ends a row.

@@ -1,3 +1,5 @@
+#![tactic(auto)]
+
 // The ids of a text in PNML in one table: of the net, of the page, of the places, the transitions and the arcs, each kind in order of appearance.
 ghost use Rattle.std.specs.Prelude.{◌≡◌, true, ◌+◌, ◌/◌, ◌≤◌, length};
 ghost use Rattle.pnml_page.specs.Steps.{read_whole};
@@ -7,7 +9,7 @@ use pnml_names::{Which, collect};
 use pnml_page::{inside, net, page};
 
 // How many places, transitions and arcs a text has.
-#[derive(Drop)]
+#[derive(Clone, Copy)]
 pub struct Counts {
     pub places: usize,
     pub transitions: usize,

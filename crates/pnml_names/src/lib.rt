@@ -1,3 +1,5 @@
+#![tactic(auto)]
+
 // The ids of a text in PNML: where they stand, and which of them are the same.
 ghost use Rattle.std.specs.Prelude.{◌≡◌, true, ◌+◌, ◌≤◌, ◌<◌, length};
 ghost use Rattle.pnml_text.specs.Rest.{rest_at};
@@ -10,7 +12,7 @@ use pnml_page::{Element, element_at};
 use pnml_text::{Run, classify, goes_on, spaces};
 
 // Which elements are asked for.
-#[derive(Drop)]
+#[derive(Clone, Copy)]
 pub enum Which {
     Places,
     Transitions,

@@ -1,3 +1,5 @@
+#![tactic(auto)]
+
 // The elements of a text in PNML, and whether it is of the profile that is taken.
 ghost use Rattle.std.specs.Prelude.{◌≡◌};
 ghost use Rattle.pnml_text.specs.Rest.{rest_at};
@@ -7,7 +9,7 @@ ghost use Rattle.pnml_page.specs.Meant.{HasEnds, Reads};
 use pnml_text::{digits, id, number, spaces, word};
 
 // A number, and the position after what holds it.
-#[derive(Drop)]
+#[derive(Clone, Copy)]
 pub struct Numbered {
     pub number: usize,
     pub next: usize,
@@ -102,7 +104,7 @@ fn transition(text: &[u8], at: usize) -> usize
 }
 
 // The positions of an arc's ends, its weight, and the position after it.
-#[derive(Drop)]
+#[derive(Clone, Copy)]
 pub struct Ends {
     pub source: usize,
     pub target: usize,
@@ -129,7 +131,7 @@ pub fn arc(text: &[u8], at: usize) -> Ends
 }
 
 // An element of the page: the positions of its id and of its ends, and its number.
-#[derive(Drop)]
+#[derive(Clone, Copy)]
 pub enum Element {
     Place(usize, usize),
     Transition(usize),
@@ -137,7 +139,7 @@ pub enum Element {
 }
 
 // An element, and the position after it.
-#[derive(Drop)]
+#[derive(Clone, Copy)]
 pub struct Found {
     pub element: Element,
     pub next: usize,

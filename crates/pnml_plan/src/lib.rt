@@ -1,3 +1,5 @@
+#![tactic(auto)]
+
 // The plan of a text in PNML, from the text: refusals 19, 20 and 13 in their order. Each function has the tables of its step in a frame of its own.
 ghost use Rattle.std.specs.Prelude.{◌≡◌, true, ◌≤◌, length};
 ghost use Rattle.plan_put.specs.Told.{Answers};

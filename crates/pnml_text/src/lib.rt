@@ -1,10 +1,12 @@
+#![tactic(auto)]
+
 // The characters of a text in PNML, and what is read of it at once: words, white space, ids, digits.
 ghost use Rattle.std.specs.Prelude.{◌≡◌, ◌+◌, ◌-◌, ◌*◌, ◌≤◌, ◌<◌, length, drop};
 ghost use Rattle.pnml_text.specs.Characters.{kind_of, goes_on};
 ghost use Rattle.pnml_text.specs.Rest.{capped, digits, front, id, number_of, rest_at, spaces, word};
 
 // The kinds of characters.
-#[derive(Drop)]
+#[derive(Clone, Copy)]
 pub enum Kind {
     Letter,
     Digit,
@@ -14,7 +16,7 @@ pub enum Kind {
 }
 
 // The runs of characters that are read.
-#[derive(Drop)]
+#[derive(Clone, Copy)]
 pub enum Run {
     Spaces,
     Digits,

@@ -1,3 +1,5 @@
+#![tactic(auto)]
+
 // Projection of a list of plan transitions to a slice's own numbers.
 ghost use Rattle.std.specs.Prelude.{◌≡◌, ℕ, ◌≤◌, ◌++◌, length, drop, nat_lt, slice_index};
 ghost use Rattle.file.specs.Layout.{slice_from};

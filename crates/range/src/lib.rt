@@ -1,3 +1,5 @@
+#![tactic(auto)]
+
 // The marking that a list of firings needs, and from which markings of a range the list fires.
 ghost use Rattle.std.specs.Prelude.{◌≡◌, ℕ, ◌+◌, ◌-◌, ◌*◌, ◌^◌, ◌<◌, length, get_or};
 ghost use Rattle.net.specs.Net.{tokens};
@@ -19,7 +21,7 @@ use replay_firing::give;
 use tables::{LARGE, MIDDLE, SMALL, entry};
 
 // The list fires from every marking in the range; from some of them, but not from all; from none; or refused.
-#[derive(Drop)]
+#[derive(Clone, Copy)]
 pub enum Range {
     Every,
     Partly,

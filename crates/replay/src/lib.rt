@@ -1,3 +1,5 @@
+#![tactic(auto)]
+
 // Replay of a list of transitions on the net of a file that was read.
 mod capped;
 
@@ -18,7 +20,7 @@ use replay_firing::{add_up, fire, missing};
 use tables::{LARGE, MIDDLE, SMALL, entry};
 
 // How a replay ends: all fired; stuck, at an index of the list and a place, short of so many tokens, or full by so many above its cap; or refused.
-#[derive(Drop)]
+#[derive(Clone, Copy)]
 pub enum Outcome {
     Fired,
     Short(u32, u32, u32),

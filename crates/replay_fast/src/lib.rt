@@ -1,3 +1,5 @@
+#![tactic(auto)]
+
 // A quick way through the firings of a list. Sums wrap meanwhile, so that a place that would be short shows in bit 63.
 // For a long list two tables say of each arc which place it is at and what it adds to it; for a short one the arcs are read from the file.
 ghost use Rattle.std.specs.Prelude.{◌≡◌, ◌-◌, ◌<◌, ◌≤◌, length, ◌==◌};

@@ -1,3 +1,5 @@
+#![tactic(auto)]
+
 // One firing of a marking: what its inputs take, the firing itself, and which place it leaves above its cap.
 ghost use Rattle.std.specs.Prelude.{◌≡◌, ℕ, ◌+◌, ◌-◌, ◌^◌, ◌<◌, ◌≤◌, eqb, length, get_or};
 ghost use Rattle.net.specs.Net.{fire as fireOf};
@@ -14,7 +16,7 @@ use file_header::Header;
 use tables::entry;
 
 // The lowest place above its cap and the tokens above it, or none.
-#[derive(Drop)]
+#[derive(Clone, Copy)]
 pub enum Found {
     Nowhere,
     At(u32, u32),

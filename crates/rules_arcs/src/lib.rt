@@ -1,3 +1,5 @@
+#![tactic(auto)]
+
 // The checker's rules 4, 7 and 9: a kept transition's arcs, its input places, and its capped output places.
 ghost use Rattle.std.specs.Prelude.{◌≡◌, true, not, ◌&&◌, ℕ, ◌+◌, ◌*◌, ◌-◌, ◌<◌, ◌≤◌, length, get_or, eqb};
 ghost use Rattle.net.specs.Net.{capped};

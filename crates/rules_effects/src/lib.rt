@@ -1,3 +1,5 @@
+#![tactic(auto)]
+
 // The checker's rules 6, 8 and 10: what the transitions left out do to places of the criterion, to kept places and to kept capped places.
 ghost use Rattle.std.specs.Prelude.{◌≡◌, not, ◌&&◌, ℕ, ◌<◌, ◌≤◌, length, get_or, eqb};
 ghost use Rattle.net.specs.Numbers.{among, first};

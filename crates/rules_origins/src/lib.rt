@@ -1,3 +1,5 @@
+#![tactic(auto)]
+
 // The checker's rules 1, 2, 3 and 5: origins that the plan knows, markings and caps, and the criterion.
 ghost use Rattle.std.specs.Prelude.{◌≡◌, ◌+◌, ◌*◌, ◌<◌, ◌≤◌, length};
 ghost use Rattle.net.specs.Net.{Net, Uncapped};

@@ -1,3 +1,5 @@
+#![tactic(auto)]
+
 // The cut for one recorded run (document 02, A1): the slice of what fed the places of the criterion, and the positions of the firings that did.
 ghost use Rattle.std.specs.Prelude.{◌≡◌, ◌++◌, ◌≤◌, ◌<◌, ltb, length, drop};
 ghost use Rattle.net.specs.Net.{replay as replayOf};
@@ -19,7 +21,7 @@ use slice::Cut;
 use tables::{LARGE, LARGE_ARCS, MIDDLE, MIDDLE_ARCS, SMALL, SMALL_ARCS, entry};
 
 // What it answers: the file's length, the kept places and transitions, and how many positions were chosen; where the list sticks; or a refusal.
-#[derive(Drop)]
+#[derive(Clone, Copy)]
 pub enum RunCut {
     Written(u32, u32, u32, u32),
     Sticks(u32, u32, u32),

@@ -1,3 +1,5 @@
+#![tactic(auto)]
+
 // Back over a recorded run: which firings fed the places of the criterion (document 02, A1; source document 002, algorithm 2).
 // A transition that raises a place of W is drawn in, and waits for a firing of it: `first` gets one more than the arc with which its arcs start. When one is met it is chosen, and the entry is 0 again. So a firing is looked at once, by one entry, and most often nothing is to be done.
 ghost use Rattle.std.specs.Prelude.{◌≡◌, true, ℕ, ◌+◌, ◌*◌, ◌-◌, ◌<◌, ◌≤◌, eqb, length, get_or};

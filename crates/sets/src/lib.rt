@@ -1,3 +1,5 @@
+#![tactic(auto)]
+
 // Sets of numbers below 1,024 as sixteen 64-bit words.
 ghost use Rattle.std.specs.Prelude.{◌≡◌, ◌≢◌, true, false, ℕ, ◌*◌, ◌≤◌, ◌<◌, length};
 ghost use Rattle.sets.specs.Member.{bit, member, count_below, Inserted};
@@ -38,7 +40,7 @@ pub fn with(words: [u64; 16], n: usize) -> [u64; 16]
     next
 }
 
-#[derive(Drop)]
+#[derive(Clone, Copy)]
 pub enum Found {
     At(usize),
     Nothing,

@@ -1,3 +1,5 @@
+#![tactic(auto)]
+
 // Sets of places lent as sixteen 64-bit words: kept places, and those of them whose transitions have been gone through.
 ghost use Rattle.std.specs.Prelude.{◌≡◌, not, ◌&&◌, ℕ, ◌≤◌, ◌<◌, T, eqb, length};
 ghost use Rattle.sets.specs.Member.{bit, member};

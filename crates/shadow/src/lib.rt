@@ -1,3 +1,5 @@
+#![tactic(auto)]
+
 // A run and its shadow: a list is replayed on a plan, and its fired part projected to a slice.
 ghost use Rattle.std.specs.Prelude.{◌≡◌, ℕ, ◌<◌, ◌≤◌, ◌||◌, ◌++◌, length, get_or, take, drop, ltb, leb};
 ghost use Rattle.file.specs.Layout.{net_from, slice_from};
@@ -11,7 +13,7 @@ use tables::{LARGE, MIDDLE, SMALL};
 
 // How a run ends, with the count of its firings that the slice has: all fired; stuck, at an index of the list and a place, short
 // of so many tokens, or full by so many above its cap, with the count of those before; or refused.
-#[derive(Drop)]
+#[derive(Clone, Copy)]
 pub enum Shadow {
     Fired(u32),
     Short(u32, u32, u32, u32),

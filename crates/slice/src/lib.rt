@@ -1,3 +1,5 @@
+#![tactic(auto)]
+
 // Writes a slice file: from the plan's bytes and the pair of kept sets.
 ghost use Rattle.std.specs.Prelude.{◌≡◌, ◌<◌, ◌≤◌, length};
 ghost use Rattle.std.proofs.lemmas.List.Edits.{sets};
@@ -13,7 +15,7 @@ use file_header::Header;
 use tables::{LARGE, MIDDLE, SMALL};
 
 // What a cut answers: the file's length and the number of kept places and of kept transitions, or a refusal.
-#[derive(Drop)]
+#[derive(Clone, Copy)]
 pub enum Cut {
     Written(u32, u32, u32),
     Refused(u32),

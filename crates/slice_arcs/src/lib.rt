@@ -1,3 +1,5 @@
+#![tactic(auto)]
+
 // The plan's arcs between kept places and transitions, in one pass over the plan's arcs.
 ghost use Rattle.std.specs.Prelude.{◌≡◌, ◌+◌, ◌<◌, ◌≤◌, length};
 ghost use Rattle.std.proofs.lemmas.List.Edits.{sets};

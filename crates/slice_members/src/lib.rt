@@ -1,3 +1,5 @@
+#![tactic(auto)]
+
 // The members of a set as a rising list, and the places of the members in it.
 ghost use Rattle.std.specs.Prelude.{◌≡◌, ◌+◌, ◌*◌, ◌<◌, ◌≤◌, length};
 ghost use Rattle.std.proofs.lemmas.List.Edits.{sets};

@@ -1,3 +1,5 @@
+#![tactic(auto)]
+
 // The parts of the body of a slice file that are not its arcs: places, origins.
 ghost use Rattle.std.specs.Prelude.{◌≡◌, ℕ, ◌+◌, ◌*◌, ◌<◌, ◌≤◌, length, get_or};
 ghost use Rattle.std.proofs.lemmas.List.Edits.{sets};

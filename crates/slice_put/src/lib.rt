@@ -1,3 +1,5 @@
+#![tactic(auto)]
+
 // Writes numbers, places, arcs and trailers into a byte slice, low byte first.
 ghost use Rattle.std.specs.Prelude.{◌≡◌, ◌+◌, ◌<◌, ◌≤◌, eqb, length};
 ghost use Rattle.std.proofs.lemmas.List.Edits.{sets};

@@ -1,3 +1,5 @@
+#![tactic(auto)]
+
 // Tables of 16-bit numbers, and the sizes in which tables are made.
 ghost use Rattle.std.specs.Prelude.{◌≡◌, ℕ, ◌<◌, length, get_or};
 

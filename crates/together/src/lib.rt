@@ -1,3 +1,5 @@
+#![tactic(auto)]
+
 // How often the inputs of a transition can be taken together from a marking, and what is left of it.
 ghost use Rattle.std.specs.Prelude.{◌≡◌, ℕ, ◌*◌, ◌<◌, ◌≤◌, min, length, get_or};
 ghost use Rattle.net.specs.Net.{tokens};
@@ -16,7 +18,7 @@ use file_arcs::arc;
 use file_header::Header;
 
 // The largest number of times; any number; or refused.
-#[derive(Drop)]
+#[derive(Clone, Copy)]
 pub enum Together {
     Times(u64),
     Unlimited,
