@@ -1,0 +1,53 @@
+use mathlib.Core.Path.{sym, ◌∙◌}
+use Rattle.file.specs.Facts.{Opened}
+use Rattle.file_header.specs.declared.Due.TheVariants as due
+use Rattle.file.proofs.Opening.{opened, turned_back_lem}
+use Rattle.promise.proofs.Demands.{when_accepted}
+use Rattle.call_check.proofs.Checks.{plan_turned, slice-turned, criterion-turned, slice-kind, judged}
+use Rattle.call_check.proofs.verdicts.check.Goals as goal
+use Rattle.call_check.proofs.verdicts.check.Goals.{In-Whole-2, In-Whole-second-2, Start}
+
+-- ---- the states: the plan whole, then the slice
+
+abbrev call : In-Whole-2 → Start
+call c = c.before.before.before.before.before.before
+
+abbrev plan_of : In-Whole-second-2 → In-Whole-2
+plan_of c = c.before.before.before.before
+
+-- what is known of the two files from here on
+plan_at : (c : In-Whole-2) → Opened due.Plan (call c).args.plan.now c.in-Whole.p
+plan_at c = opened due.Plan _ c.read-first.ensures c.in-Whole.is
+
+slice_at : (c : In-Whole-second-2) → Opened due.Slice (call (plan_of c)).args.slice.now c.in-Whole-second.s
+slice_at c = opened due.Slice _ c.read-second.ensures c.in-Whole-second.is
+
+pub returns-in_default : goal.returns-in_default
+returns-in_default c =
+    let e = plan_turned _ _ _ _ (turned_back_lem due.Plan _ c.read-first.ensures c.in_default.is c.number.ensures) in
+    record { answer = e; guarantee = when_accepted _ _ _ e }
+
+pub returns-in_default-second : goal.returns-in_default-second
+returns-in_default-second c =
+    let e = slice-turned _ _ _ _ (plan_at c.before.before.before.before.before) _ (turned_back_lem due.Slice _ c.read-second.ensures c.in_default-second.is c.number-in_default-second.ensures) in
+    record { answer = e; guarantee = when_accepted _ _ _ e }
+
+pub returns-then-broken-ne0 : goal.returns-then-broken-ne0
+returns-then-broken-ne0 c =
+    let second = c in
+    let e = criterion-turned _ _ _ _ (plan_at (plan_of second.before.before.before)) _ (slice_at second.before.before.before) _ c.refusal-broken.ensures c.if-broken-ne0.true in
+    record { answer = e; guarantee = when_accepted _ _ _ e }
+
+pub judge-requires : goal.judge-requires
+judge-requires c =
+    let second = c in
+    let p = plan_at (plan_of second.before.before.before) in
+    let s = slice_at second.before.before.before in
+    record { planned = p.good; sliced = s.good; kind = slice-kind _ _ [] _ p _ s; criterion = sym c.refusal-broken.ensures ∙ c.if-broken-ne0.false }
+
+pub returns : goal.returns
+returns c =
+    let passed = c in
+    let second = passed in
+    let e = c.judge.ensures ∙ judged _ _ _ _ (plan_at (plan_of second.before.before.before.before)) _ (slice_at second.before.before.before.before) (sym passed.refusal-broken.ensures ∙ passed.if-broken-ne0.false) in
+    record { answer = e; guarantee = when_accepted _ _ _ e }

@@ -1,0 +1,52 @@
+use mathlib.Core.Path.{sym, ◌∙◌}
+use native.Mathlib.Omega.{arith}
+use Rattle.file.specs.Facts.{Opened}
+use Rattle.file_header.specs.declared.Due.TheVariants.{Either}
+use Rattle.file.proofs.Opening.{opened, turned_back_lem}
+use Rattle.inputs_starts.specs.Startable.{Startable}
+use Rattle.inputs_starts.proofs.Calls.{opened-from, by_file, by_start}
+use Rattle.call_firing.proofs.Replayed.{read_answer, read-marking}
+use Rattle.call_firing.proofs.Begun.{from-answer, from-marking, on_answer, on_marking}
+use Rattle.call_firing.proofs.starts.replay_from.Goals as goal
+use Rattle.call_firing.proofs.starts.replay_from.Goals.{After-refusal-broken, Else-broken-ne0, In-Whole-2, Start}
+
+-- ---- the states: the file whole, the start passed
+
+abbrev call : In-Whole-2 → Start
+call c = c.before.before.before.before.before.before.before
+
+abbrev whole_of : After-refusal-broken → In-Whole-2
+whole_of c = c.before.before
+
+-- what is known of the file from here on, and of the start
+open_at : (c : In-Whole-2) → Opened Either (call c).args.file.now c.in-Whole.h
+open_at c = opened Either _ c.read-whole.ensures c.in-Whole.is
+
+ready : (c : Else-broken-ne0) → let w = whole_of c.before in Startable Either (call w).args.file.now w.in-Whole.h (call w).args.start.now
+ready c = record { opened = open_at (whole_of c.before); passes = sym c.refusal-broken.ensures ∙ c.if-broken-ne0.false }
+
+pub returns-in_default : goal.returns-in_default
+returns-in_default c =
+    let read = c in
+    let t = turned_back_lem Either _ read.read-whole.ensures c.in_default.is c.number.ensures in
+    let e = by_file Either _ read.args.start.now t.0 t.1 in
+    record { answer = from-answer _ _ _ e t.1 _; marking = from-marking _ _ _ e t.1 _ }
+
+pub refusal-broken-requires : goal.refusal-broken-requires
+refusal-broken-requires c = (open_at c.before).good.placed
+
+pub returns-then-broken-ne0 : goal.returns-then-broken-ne0
+returns-then-broken-ne0 c =
+    let e = by_start Either _ _ _ (open_at (whole_of c.before)) c.refusal-broken.ensures in
+    record { answer = from-answer _ _ _ e c.if-broken-ne0.true _; marking = from-marking _ _ _ e c.if-broken-ne0.true _ }
+
+pub replay-requires : goal.replay-requires
+replay-requires c = ready c.before
+
+pub returns : goal.returns
+returns c =
+    let on = c in
+    let r = ready on.before.before.before.before in
+    let o = opened-from r (λ i. omega (arith, (whole_of on.before.before.before.before.before).type_inv.file i)) in
+    let x = (c.replay.ensures.answer, (c.replay.ensures.marking)) in
+    record { answer = on_answer _ _ _ _ r _ (read_answer _ _ o _ _ _ x.answer); marking = on_marking _ _ _ _ r _ (read-marking _ _ o _ _ _ x.marking) }

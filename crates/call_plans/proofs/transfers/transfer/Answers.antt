@@ -1,0 +1,51 @@
+use Rattle.file.specs.Facts.{Opened}
+use Rattle.file_header.specs.declared.Due.TheVariants.{Plan}
+use Rattle.file.proofs.Opening.{opened, turned_back_lem}
+use Rattle.call_plans.proofs.Carrying.{old_turned, new-turned, both_read}
+use Rattle.call_plans.proofs.transfers.transfer.Goals as goal
+use Rattle.call_plans.proofs.transfers.transfer.Goals.{In-Whole-2, In-Whole-second-2, Start}
+
+-- ---- the states: the old plan whole, then the new one
+
+abbrev call : In-Whole-2 → Start
+call c = c.before.before.before.before.before.before.before.before
+
+abbrev old_of : In-Whole-second-2 → In-Whole-2
+old_of c = c.before.before.before.before
+
+-- what is known of the two plans from here on
+old_at : (c : In-Whole-2) → Opened Plan (call c).args.old.now c.in-Whole.o
+old_at c = opened Plan _ c.read-first.ensures c.in-Whole.is
+
+new_at : (c : In-Whole-second-2) → Opened Plan (call (old_of c)).args.new.now c.in-Whole-second.n
+new_at c = opened Plan _ c.read-second.ensures c.in-Whole-second.is
+
+pub returns-in_default : goal.returns-in_default
+returns-in_default c =
+    let read = c in
+    let a = read.args in
+    let told = old_turned a.old.now a.new.now a.running.now a.table.now a.marking.now
+    (turned_back_lem Plan _ read.read-first.ensures c.in_default.is c.number.ensures) in
+    record { answer = told.0; marking = told.1.0; carried = told.1.1 }
+
+pub returns-in_default-second : goal.returns-in_default-second
+returns-in_default-second c =
+    let first = c in
+    let a = (call first.before.before.before.before.before).args in
+    let told = new-turned a.old.now a.new.now a.running.now a.table.now a.marking.now _ (old_at first.before.before.before.before.before)
+    (turned_back_lem Plan _ c.read-second.ensures c.in_default-second.is c.number-in_default-second.ensures) in
+    record { answer = told.0; marking = told.1.0; carried = told.1.1 }
+
+pub carry-requires : goal.carry-requires
+carry-requires c =
+    let second = c in
+    record { bound = (old_at (old_of second.before.before)).good.placed.places; sound = (new_at second.before.before).well_formed }
+
+pub returns : goal.returns
+returns c =
+    let done = c in
+    let second = done in
+    let first = old_of second.before.before.before.before.before in
+    let a = (call first).args in
+    let told = both_read a.old.now a.new.now a.running.now a.table.now a.marking.now _ (old_at first) _ (new_at second.before.before.before.before.before) done.carry.ensures.answer done.carry.ensures.marking in
+    record { answer = told.0; marking = told.1.0; carried = told.1.1 }

@@ -1,0 +1,31 @@
+use mathlib.Core.Path.{sym, ◌∙◌}
+use native.Mathlib.Omega.{arith}
+use Rattle.check_fast.proofs.Walking.{joined-fits}
+use Rattle.check_fast.proofs.Settling.{eighth-in_doubt, sixth-in_doubt}
+use Rattle.check_fast.proofs.doubt_at.Goals as goal
+use Rattle.check_fast.proofs.doubt_at.Goals.{After-word-w, Start}
+
+abbrev start : After-word-w → Start
+start c = c.before.before.before.before.before.before.before
+
+pub joined-z-requires : goal.joined-z-requires
+joined-z-requires c =
+    let pre = ((start c).requires.ready, ((start c).requires.j_lt_arcs)) in
+    let f = joined-fits _ _ _ _ _ _ _ pre.ready _ pre.j_lt_arcs _ c.word-w.ensures (omega arith) in
+    record { w_in_bounds = (f.0, f.1); transitions_bound = f.2 }
+
+pub returns-then-z-eq8 : goal.returns-then-z-eq8
+returns-then-z-eq8 c = λ h.
+    let read = c in
+    let pre = ((start read.before.before).requires.ready, ((start read.before.before).requires.j_lt_arcs)) in
+    eighth-in_doubt _ _ _ _ _ _ _ pre.ready _ pre.j_lt_arcs _ read.word-w.ensures (omega arith) _ c.joined-z.ensures c.if-z-eq8.true
+
+pub returns-then-kept : goal.returns-then-kept
+returns-then-kept c = λ h. absurd (omega arith)
+
+pub returns : goal.returns
+returns c = λ h.
+    let sum = c in
+    let read = sum in
+    let pre = ((start read.before.before.before.before).requires.ready, ((start read.before.before.before.before).requires.j_lt_arcs)) in
+    sixth-in_doubt _ _ _ _ _ _ _ pre.ready _ pre.j_lt_arcs _ read.word-w.ensures (omega arith) _ sum.joined-z.ensures (sym c.kept.ensures ∙ c.if-kept.false)

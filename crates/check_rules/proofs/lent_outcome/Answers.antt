@@ -1,0 +1,37 @@
+use native.Mathlib.Omega.{arith}
+use Rattle.arcs_starts.proofs.Reached.{tabled}
+use Rattle.check_rules.proofs.lent_outcome.Goals as goal
+use Rattle.check_rules.proofs.lent_outcome.Goals.{After-fill_own, After-links_outcome-arg-1, After-starts, After-starts-arg-1, Start}
+
+abbrev start : After-starts-arg-1 → Start
+start c =
+    let lent = c in
+    lent
+
+abbrev filled : After-links_outcome-arg-1 → After-fill_own
+filled c = c.before.before.before.before.before
+
+abbrev starts_at : After-fill_own → After-starts
+starts_at c = c.before.before.before.before.before
+
+pub starts-requires : goal.starts-requires
+starts-requires c = let pre = ((start c).requires.judged, ((start c).requires.agreed, ((start c).requires.room, ((start c).requires.resting, ((start c).requires.limit_len))))) in tabled _ _ _ pre.judged.planned pre.room.starts
+
+pub fill_own-requires : goal.fill_own-requires
+fill_own-requires c = let pre = ((start c.before.before.before.before.before).requires.judged, ((start c.before.before.before.before.before).requires.agreed, ((start c.before.before.before.before.before).requires.room, ((start c.before.before.before.before.before).requires.resting, ((start c.before.before.before.before.before).requires.limit_len))))) in record { sound = pre.judged.sliced; kind_value = pre.judged.kind }
+
+pub links_outcome-requires : goal.links_outcome-requires
+links_outcome-requires c =
+    let numbered = filled c.before.before in
+    let own = numbered.fill_own.ensures in
+    let made = (starts_at numbered).starts.ensures in
+    let pre = ((start (starts_at numbered).before).requires.judged, ((start (starts_at numbered).before).requires.agreed, ((start (starts_at numbered).before).requires.room, ((start (starts_at numbered).before).requires.resting, ((start (starts_at numbered).before).requires.limit_len))))) in
+    record { cases = record {
+        planned = pre.judged.planned;
+        sliced = pre.judged.sliced;
+        starts = record { long = omega (arith, made.0, pre.room.starts); split = made.1 };
+        places = own.places;
+        transitions = own.transitions;
+        places_reached = omega (arith, own.long-p, pre.room.places);
+        transitions_reached = omega (arith, own.long-t, pre.room.transitions);
+      }; transitions_in_bounds = pre.room.runs-start; criterion_value = pre.judged.criterion; resting = pre.resting; limit_len = pre.limit_len; agreed = pre.agreed }

@@ -1,0 +1,34 @@
+use borrow.Author.Rules.{rules}
+use native.Mathlib.Omega.{arith}
+use Rattle.check_rules.proofs.Steps.{broken-here, range4}
+use Rattle.checker.proofs.OnePass.{agreed_told}
+use Rattle.checker.proofs.others_outcome.Goals as goal
+use Rattle.checker.proofs.others_outcome.Goals.{After-agreeing-found, Else-doubt-eq0, Start}
+
+-- from where rules are in doubt back to the pass, and to the start
+abbrev passed : Else-doubt-eq0 → After-agreeing-found
+passed c = c.before.before
+
+abbrev start : After-agreeing-found → Start
+start c = c.before.before.before.before
+
+pub returns-then-doubt-gt10 : goal.returns-then-doubt-gt10
+returns-then-doubt-gt10 c = agreed_told _ _ _ _ c.if-doubt-gt10.true c.agreeing-found.ensures.agreed
+
+pub all_in_doubt-requires : goal.all_in_doubt-requires
+all_in_doubt-requires c = let found = c in record { judged = (start found.before.before).requires.judged; agreed = rw c.if-doubt-eq0.true at found.agreeing-found.ensures.agreed }
+
+pub returns-then-doubt-eq0 : goal.returns-then-doubt-eq0
+returns-then-doubt-eq0 c = c.all_in_doubt.ensures
+
+pub overflow_cast-result : goal.overflow_cast-result
+overflow_cast-result c = omega (arith, c.if-t-hp.true, (start (passed c.before.before)).requires.judged.planned.placed.transitions)
+
+pub returns-then-t-hp : goal.returns-then-t-hp
+returns-then-t-hp c = broken-here 4 _ _ _ _ (range4 _ _) ((passed c.before.before).agreeing-found.ensures.other_value c.if-t-hp.true) c.if-t-hp.true
+
+pub in_doubt-requires : goal.in_doubt-requires
+in_doubt-requires c = let found = passed c.before.before in record { judged = (start found).requires.judged; agreed = found.agreeing-found.ensures.agreed }
+
+pub returns : goal.returns
+returns c = c.in_doubt.ensures

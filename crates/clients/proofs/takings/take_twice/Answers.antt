@@ -1,0 +1,39 @@
+use native.Mathlib.Omega.{arith}
+use Prim.Native.Nat.{◌≤◌}
+use lib.ListN.{length, length-take}
+use borrow.Author.Tests.{not-true, not-false}
+use Rattle.clients.proofs.Taken.{emptied, not-limited, limited_fits, again-0}
+use Rattle.clients.proofs.takings.take_twice.Goals as goal
+use Rattle.clients.proofs.takings.take_twice.Goals.{After-is_limited, After-together-first, Else-not-is_limited, Start}
+
+-- ---- the states: the first answer, whether it is limited, the second
+
+abbrev first_of : After-is_limited → After-together-first
+first_of c = c.before.before.before
+
+abbrev call : After-together-first → Start
+call c = c.before.before.before.before.before.before
+
+-- what is left has as many entries as the marking
+fits : (c : Else-not-is_limited) → length (call (first_of c.before)).args.marking.now ≤ length (call (first_of c.before)).args.rest.now
+fits c =
+    let s = ((first_of c.before).together-first.ensures.answer, ((first_of c.before).together-first.ensures.rest, ((first_of c.before).together-first.ensures.largest))) in
+    limited_fits _ _ _ _ _ s.answer s.largest c.is_limited.ensures (not-false _ c.if-not-is_limited.false-raw)
+
+pub returns-then-not-is_limited : goal.returns-then-not-is_limited
+returns-then-not-is_limited c =
+    let s = ((first_of c.before).together-first.ensures.answer, ((first_of c.before).together-first.ensures.rest, ((first_of c.before).together-first.ensures.largest))) in
+    record { left = emptied _ _ _ _ _ s.answer s.largest; none = λ r u h. not-limited _ _ _ _ _ s.answer s.largest c.is_limited.ensures (not-true _ c.if-not-is_limited.true-raw) r u }
+
+pub slice_bounds-together-end : goal.slice_bounds-together-end
+slice_bounds-together-end c = omega (arith, fits c)
+
+pub slice_bounds-together-end-2 : goal.slice_bounds-together-end-2
+slice_bounds-together-end-2 c = simp length-take (omega (arith, fits c))
+
+pub returns : goal.returns
+returns c =
+    let second = c in
+    let passed = second in
+    let s = ((first_of passed.before.before.before.before.before).together-first.ensures.answer, ((first_of passed.before.before.before.before.before).together-first.ensures.rest, ((first_of passed.before.before.before.before.before).together-first.ensures.largest))) in
+    record { left = emptied _ _ _ _ _ s.answer s.largest; none = again-0 _ _ _ _ _ s.answer s.largest _ _ (omega (arith, fits passed.before.before.before.before)) second.together.ensures.answer second.together.ensures.largest }

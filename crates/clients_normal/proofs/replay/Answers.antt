@@ -1,0 +1,37 @@
+use mathlib.Core.Path.{◌≡◌, sym, ◌∙◌}
+use native.Mathlib.Omega.{arith}
+use lib.ListN.{length, length-take}
+use Rattle.plan_put.specs.Told.{file_numbers}
+use Rattle.clients_normal.proofs.Forms.{fits, same_answer, same-marking}
+use Rattle.clients_normal.proofs.replay.Goals as goal
+use Rattle.clients_normal.proofs.replay.Goals.{After-length_of-end, After-normal-first, After-number-refusal}
+
+-- ---- the states: the normal form asked for, its refusal looked at, its length read
+
+abbrev normal_of : After-number-refusal → After-normal-first
+normal_of c = c.before.before.before
+
+abbrev judged : After-length_of-end → After-number-refusal
+judged c = c.before.before
+
+-- no refusal
+none : (c : After-length_of-end) → (file_numbers (normal_of (judged c)).normal-first.result).refusal ≡ 0
+none c = sym (judged c).number-refusal.ensures ∙ c.if-refusal-ne0.false
+
+pub slice_bounds-replay-end : goal.slice_bounds-replay-end
+slice_bounds-replay-end c =
+    let n = ((normal_of (judged c)).normal-first.ensures.answer, ((normal_of (judged c)).normal-first.ensures.buffer, ((normal_of (judged c)).normal-first.ensures.form))) in
+    omega (arith, c.length_of-end.ensures, fits _ _ _ n.answer n.form (none c))
+
+pub slice_bounds-replay-end-2 : goal.slice_bounds-replay-end-2
+slice_bounds-replay-end-2 c =
+    let l = c in
+    let n = ((normal_of (judged l)).normal-first.ensures.answer, ((normal_of (judged l)).normal-first.ensures.buffer, ((normal_of (judged l)).normal-first.ensures.form))) in
+    simp length-take (omega (arith, l.length_of-end.ensures, fits _ _ _ n.answer n.form (none l)))
+
+pub returns : goal.returns
+returns c =
+    let r = (c.replay-2.ensures.answer, (c.replay-2.ensures.marking)) in
+    let l = c in
+    let n = ((normal_of (judged l.before.before.before.before)).normal-first.ensures.answer, ((normal_of (judged l.before.before.before.before)).normal-first.ensures.buffer, ((normal_of (judged l.before.before.before.before)).normal-first.ensures.form))) in
+    record { answer = r.answer ∙ same_answer _ _ _ n.answer n.form (none l.before.before.before.before) l.length_of-end.ensures _ _; marking = r.marking ∙ same-marking _ _ _ n.answer n.form (none l.before.before.before.before) l.length_of-end.ensures _ _ }

@@ -1,0 +1,69 @@
+use mathlib.Core.Path.{◌≡◌, sym, ◌∙◌}
+use native.Mathlib.Omega.{arith}
+use lib.ListN.{length-take}
+use Rattle.plan_put.specs.Told.{file_numbers}
+use Rattle.clients_normal.proofs.Forms.{fits, again-none, again-long, again-bytes}
+use Rattle.clients_normal.proofs.stays.Goals as goal
+use Rattle.clients_normal.proofs.stays.Goals.{After-length_of-m, After-length_of-n, After-normal-first, After-normal-second, After-number-refusal, Start}
+
+-- ---- the states: the first call, its refusal looked at, its length read; the second call
+
+abbrev first_of : After-number-refusal → After-normal-first
+first_of c = c.before.before.before
+
+abbrev judged : After-length_of-n → After-number-refusal
+judged c = c.before.before
+
+abbrev sized : After-normal-second → After-length_of-n
+sized c = c.before.before.before
+
+abbrev second_of : After-length_of-m → After-normal-second
+second_of c = c.before.before.before
+
+abbrev start_of : After-normal-first → Start
+start_of c = c.before.before.before.before.before
+
+-- no refusal
+none : (c : After-length_of-n) → (file_numbers (first_of (judged c)).normal-first.result).refusal ≡ 0
+none c = sym (judged c).number-refusal.ensures ∙ c.if-refusal-ne0.false
+
+pub slice_bounds-normal-end : goal.slice_bounds-normal-end
+slice_bounds-normal-end c =
+    let l = c in
+    let n = ((first_of (judged l.before)).normal-first.ensures.answer, ((first_of (judged l.before)).normal-first.ensures.buffer, ((first_of (judged l.before)).normal-first.ensures.form))) in
+    omega (arith, l.length_of-n.ensures, fits _ _ _ n.answer n.form (none l.before))
+
+pub slice_bounds-normal-end-2 : goal.slice_bounds-normal-end-2
+slice_bounds-normal-end-2 c =
+    let l = c in
+    let n = ((first_of (judged l.before)).normal-first.ensures.answer, ((first_of (judged l.before)).normal-first.ensures.buffer, ((first_of (judged l.before)).normal-first.ensures.form))) in
+    simp length-take (omega (arith, l.length_of-n.ensures, fits _ _ _ n.answer n.form (none l.before)))
+
+pub returns-then-m-n : goal.returns-then-m-n
+returns-then-m-n c =
+    let again = second_of c.before in
+    let l = sized again in
+    let n = first_of (judged l) in
+    let f = (n.normal-first.ensures.answer, (n.normal-first.ensures.buffer, (n.normal-first.ensures.form))) in
+    let s = (again.normal-second.ensures.answer, (again.normal-second.ensures.buffer, (again.normal-second.ensures.form))) in
+    absurd (c.if-m-n.true (c.length_of-m.ensures ∙ again-long _ _ _ f.answer f.form (none l) (start_of n).args.two.now l.length_of-n.ensures again.if-two-end.false s.answer))
+
+pub equal-requires : goal.equal-requires
+equal-requires c =
+    let again = second_of c.before in
+    let l = sized again in
+    let n = first_of (judged l) in
+    let f = (n.normal-first.ensures.answer, (n.normal-first.ensures.buffer, (n.normal-first.ensures.form))) in
+    let s = (again.normal-second.ensures.answer, (again.normal-second.ensures.buffer, (again.normal-second.ensures.form))) in
+    let long = again.if-two-end.false in
+    let two = (start_of n).args.two.now in
+    record { n_in_bounds = omega (arith, l.length_of-n.ensures, fits _ _ _ f.answer f.form (none l)); n_in_bounds_2 = omega (arith, again-long _ _ _ f.answer f.form (none l) two l.length_of-n.ensures long s.answer, fits _ _ _ s.answer s.form (again-none _ _ _ f.answer f.form (none l) two l.length_of-n.ensures long s.answer)) }
+
+pub returns : goal.returns
+returns c =
+    let again = second_of c.before.before in
+    let l = sized again in
+    let n = first_of (judged l) in
+    let f = (n.normal-first.ensures.answer, (n.normal-first.ensures.buffer, (n.normal-first.ensures.form))) in
+    let s = (again.normal-second.ensures.answer, (again.normal-second.ensures.buffer, (again.normal-second.ensures.form))) in
+    c.equal.ensures.1 (again-bytes _ _ _ f.answer f.form (none l) (start_of n).args.two.now l.length_of-n.ensures again.if-two-end.false s.answer s.buffer)

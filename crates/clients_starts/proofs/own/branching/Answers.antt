@@ -1,0 +1,21 @@
+use native.Mathlib.Omega.{arith}
+use Rattle.clients_starts.proofs.Owning.{own-branching}
+use Rattle.clients_starts.proofs.own.branching.Goals as goal
+use Rattle.clients_starts.proofs.own.branching.Goals.{After-branching_from, After-replay, After-shared_slice_known-1}
+
+-- ---- the states: the own marking replayed, the call from there
+
+abbrev begun : After-branching_from → After-replay
+begun c = c.before.before.before.before
+
+abbrev lent : After-replay → After-shared_slice_known-1
+lent c = c.before.before.before.before.before
+
+pub returns : goal.returns
+returns c =
+    let done = c in
+    let first = begun done.before.before in
+    let known = lent first in
+    let s = known.args in
+    let x = (done.branching_from.ensures.answer, (done.branching_from.ensures.buffer, (done.branching_from.ensures.exact))) in
+    record { answer = λ long. (own-branching s.plan.now s.own.now (λ i. omega (arith, known.type_inv.plan i)) long first.replay.ensures.marking s.criterion.now s.buffer.now x.answer x.buffer).0; buffer = λ long. (own-branching s.plan.now s.own.now (λ i. omega (arith, known.type_inv.plan i)) long first.replay.ensures.marking s.criterion.now s.buffer.now x.answer x.buffer).1 }

@@ -1,0 +1,21 @@
+use native.Mathlib.Omega.{arith}
+use Rattle.clients_starts.proofs.Owning.{own-replay}
+use Rattle.clients_starts.proofs.own.replay.Goals as goal
+use Rattle.clients_starts.proofs.own.replay.Goals.{After-replay, After-replay_from, After-shared_slice_known-1}
+
+-- ---- the states: the own marking replayed, the call from there
+
+abbrev begun : After-replay_from → After-replay
+begun c = c.before.before.before.before
+
+abbrev lent : After-replay → After-shared_slice_known-1
+lent c = c.before.before.before.before.before
+
+pub returns : goal.returns
+returns c =
+    let done = c in
+    let first = begun done.before.before in
+    let known = lent first in
+    let s = known.args in
+    let x = (done.replay_from.ensures.answer, (done.replay_from.ensures.marking)) in
+    record { answer = λ long. (own-replay s.file.now s.own.now (λ i. omega (arith, known.type_inv.file i)) long first.replay.ensures.marking s.list.now s.marking.now x.answer x.marking).0; marking = λ long. (own-replay s.file.now s.own.now (λ i. omega (arith, known.type_inv.file i)) long first.replay.ensures.marking s.list.now s.marking.now x.answer x.marking).1 }

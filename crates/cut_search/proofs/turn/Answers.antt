@@ -1,0 +1,27 @@
+use mathlib.Core.Path.{◌≡◌, sym}
+use borrow.Author.Tests.{eq-eqb, ne_eqb}
+use Rattle.cut_search.proofs.turn.Goals as goal
+use Rattle.cut_search.proofs.turn.Goals.{After-struct_known-1, Start}
+
+abbrev call : After-struct_known-1 → Start
+call c = c.before.before.before.before
+
+pub follow_rows-requires : goal.follow_rows-requires
+follow_rows-requires c =
+    let tested = c in
+    let s = call tested.before.before.before in
+    let two : s.args.h.edition ≡ 2 = tested.if-h-eq-CAPS.true in
+    (s.requires.0, s.requires.1, s.requires.2, sym (eq-eqb _ _ two), s.requires.3)
+
+pub returns-then-h-eq-CAPS : goal.returns-then-h-eq-CAPS
+returns-then-h-eq-CAPS c = c.follow_rows.ensures
+
+pub follow_rows-requires-2 : goal.follow_rows-requires-2
+follow_rows-requires-2 c =
+    let tested = c in
+    let s = call tested.before.before.before in
+    let other : s.args.h.edition ≡ 2 → ⊥ = tested.if-h-eq-CAPS.false in
+    (s.requires.0, s.requires.1, s.requires.2, sym (ne_eqb _ _ other), s.requires.3)
+
+pub returns : goal.returns
+returns c = c.follow_rows-2.ensures

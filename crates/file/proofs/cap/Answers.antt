@@ -1,0 +1,29 @@
+use native.Mathlib.Omega.{arith}
+use Prim.Native.Nat.{◌*◌}
+use mathlib.Core.Path.{◌≡◌, sym, ◌∙◌}
+use borrow.Author.Tests.{eq-eqb, ne_eqb}
+use Rattle.file_header.specs.Layout.{places_length}
+use Rattle.file.proofs.Caps.{cap-at, no_cap-by}
+use Rattle.file.proofs.cap.Goals as goal
+
+pub get32-requires : goal.get32-requires
+get32-requires c =
+    let two = c in
+    let h = two.args.h in
+    let q : places_length h.edition h.places ≡ 8 * h.places = rw (eq-eqb _ _ two.if-h-eq-CAPS.true) in
+    omega arith
+
+pub returns-then-h-eq-CAPS : goal.returns-then-h-eq-CAPS
+returns-then-h-eq-CAPS c =
+    let two = c in
+    let call = two in
+    let s = call.args.file.now in
+    let h = call.args.h in
+    (c.get32.ensures.0 ∙ sym (cap-at s h (eq-eqb _ _ two.if-h-eq-CAPS.true) call.args.place call.requires.place_lt_places), c.get32.ensures.1)
+
+pub returns : goal.returns
+returns c =
+    let call = c in
+    let s = call.args.file.now in
+    let h = call.args.h in
+    (sym (no_cap-by s h (ne_eqb _ _ c.if-h-eq-CAPS.false) call.args.place), omega arith)

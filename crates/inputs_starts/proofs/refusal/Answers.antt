@@ -1,0 +1,16 @@
+use mathlib.Core.Path.{sym, ◌∙◌}
+use native.Mathlib.Omega.{arith}
+use Rattle.inputs_starts.proofs.Steps.{wrong_length, filled}
+use Rattle.inputs_starts.proofs.refusal.Goals as goal
+
+pub returns-then-start-h : goal.returns-then-start-h
+returns-then-start-h c = wrong_length _ _ c.if-start-h.true
+
+pub overfull-requires : goal.overfull-requires
+overfull-requires c = record { placed = c.requires; places_in_bounds = omega (arith, c.if-start-h.false) }
+
+pub returns-then-overfull : goal.returns-then-overfull
+returns-then-overfull c = filled _ _ c.if-start-h.false (sym c.if-overfull.true ∙ c.overfull.ensures)
+
+pub returns : goal.returns
+returns c = filled _ _ c.if-start-h.false (sym c.if-overfull.false ∙ c.overfull.ensures)

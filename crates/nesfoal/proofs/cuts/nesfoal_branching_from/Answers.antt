@@ -1,0 +1,14 @@
+use mathlib.Core.Path.{◌∙◌, ap}
+use Rattle.promise.specs.Calls.{CutAnswer}
+use Rattle.nesfoal.proofs.AsRead.{branching-from_for_c}
+use Rattle.nesfoal.proofs.cuts.nesfoal_branching_from.Goals as goal
+
+pub returns : goal.returns
+returns c =
+    let s = (c.branching_from-c.ensures.answer, (c.branching_from-c.ensures.buffer, (c.branching_from-c.ensures.exact))) in
+    let e = s.answer in
+    let r = c.refusal.ensures ∙ ap (λ (a : CutAnswer). a.refusal) e in
+    let n = c.length_of.ensures ∙ ap (λ (a : CutAnswer). a.length) e in
+    let p = c.places_of.ensures ∙ ap (λ (a : CutAnswer). a.places) e in
+    let t = c.transitions_of.ensures ∙ ap (λ (a : CutAnswer). a.transitions) e in
+    record { answer = r; buffer = s.buffer; long = n; places = p; transitions = t; exact = branching-from_for_c _ _ _ _ _ _ e s.exact r n p t }

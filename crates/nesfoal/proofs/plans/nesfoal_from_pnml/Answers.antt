@@ -1,0 +1,12 @@
+use mathlib.Core.Path.{◌∙◌, ap}
+use Rattle.promise.specs.Normal.{FileAnswer}
+use Rattle.nesfoal.proofs.AsRead.{named-for_c}
+use Rattle.nesfoal.proofs.plans.nesfoal_from_pnml.Goals as goal
+
+pub returns : goal.returns
+returns c =
+    let s = (c.convert-f.ensures.answer, (c.convert-f.ensures.buffer, (c.convert-f.ensures.named))) in
+    let e = s.answer in
+    let r = c.refusal.ensures ∙ ap (λ (a : FileAnswer). a.refusal) e in
+    let n = c.length_of.ensures ∙ ap (λ (a : FileAnswer). a.length) e in
+    record { answer = r; buffer = s.buffer; long = n; named = named-for_c _ _ e s.named r n }

@@ -1,0 +1,12 @@
+use mathlib.Core.Path.{◌∙◌, ap}
+use Rattle.promise.specs.Normal.{FileAnswer}
+use Rattle.nesfoal.proofs.AsRead.{normal-for_c}
+use Rattle.nesfoal.proofs.plans.nesfoal_normal.Goals as goal
+
+pub returns : goal.returns
+returns c =
+    let s = (c.normal-f.ensures.answer, (c.normal-f.ensures.buffer, (c.normal-f.ensures.form))) in
+    let e = s.answer in
+    let r = c.refusal.ensures ∙ ap (λ (a : FileAnswer). a.refusal) e in
+    let n = c.length_of.ensures ∙ ap (λ (a : FileAnswer). a.length) e in
+    record { answer = r; buffer = s.buffer; long = n; form = normal-for_c _ _ e s.form r n }

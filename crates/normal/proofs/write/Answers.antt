@@ -1,0 +1,35 @@
+use Rattle.normal.proofs.Turns.{arcs-told, heavy-answers, light-answers}
+use Rattle.normal.proofs.write.Goals as goal
+use Rattle.normal.proofs.write.Goals.{After-count-left, In-Arcs, In-Arcs-2, Start}
+
+-- ---- the states: the call, the arcs counted, the count found
+
+abbrev call : After-count-left → Start
+call c = c.before.before.before
+
+abbrev left_of : In-Arcs → In-Arcs-2
+left_of c = c.before
+
+abbrev counted_of : In-Arcs → After-count-left
+counted_of c = c.before.before.before
+
+pub returns-in_default : goal.returns-in_default
+returns-in_default c =
+    let counted = c in
+    let s = counted in
+    let a = heavy-answers s.args.plan.now s.args.h s.args.buffer.now counted.count-left.ensures c.in_default.is in
+    record { answer = a.answer; buffer = a.buffer }
+
+pub write_parts-requires : goal.write_parts-requires
+write_parts-requires c =
+    let counted = counted_of c.before in
+    let s = call counted in
+    record { sound = s.requires; arcs_value = (arcs-told s.args.plan.now s.args.h counted.count-left.ensures (left_of c.before).in-Arcs.is).1 }
+
+pub returns : goal.returns
+returns c =
+    let written = c in
+    let counted = counted_of written.before.before.before.before in
+    let s = call counted in
+    let a = light-answers s.args.plan.now s.args.h (arcs-told s.args.plan.now s.args.h counted.count-left.ensures (left_of written.before.before.before.before).in-Arcs.is).0 written.write_parts.ensures in
+    record { answer = a.answer; buffer = a.buffer }

@@ -1,0 +1,28 @@
+use Rattle.pnml_net.specs.Read.{entries}
+use Rattle.pnml_net.specs.Named.{any_off}
+use Rattle.pnml_names.specs.declared.Which.TheVariants.{Arcs}
+use native.Mathlib.Omega.{arith}
+use Prim.Native.Nat.{◌+◌, ◌-◌}
+use mathlib.Core.Path.{◌≡◌, ap, ◌∙◌}
+use lib.ListN.{length}
+use Rattle.pnml_file.proofs.Laws as laws
+use Rattle.pnml_arcs.proofs.Joining.{listing_long}
+use Rattle.pnml_file.proofs.unfit.Goals as goal
+
+pub overflow_add-middle : goal.overflow_add-middle
+overflow_add-middle c = let g = c.requires in omega (arith, listing_long g, g.few)
+
+pub overflow_sub-names : goal.overflow_sub-names
+overflow_sub-names c = let g = c.requires in omega (arith, listing_long g)
+
+pub overflow_sub-names-2 : goal.overflow_sub-names-2
+overflow_sub-names-2 c = let g = c.requires in omega (arith, listing_long g)
+
+-- GONE part-marking-off-end : tie.Need-slice-bounds-marking-off-end
+-- part-marking-off-end c = let g = c.before.before.before.requires in omega (arith, listing_long g)
+
+pub returns : goal.returns
+returns c =
+    let at-counts-off = c in
+    let call = at-counts-off in
+    let g = call.requires in let a : length call.args.names.now - (2 + call.args.places) - call.args.transitions ≡ length (entries Arcs call.args.text.now) = omega (arith, listing_long g) in laws.unfit-is call.args.text.now call.args.off g.place-count g.transition-count a at-counts-off.counts_off-counts.ensures (c.marking_off-markings.ensures ∙ ap (any_off 0 4294967295) (laws.places-part g))

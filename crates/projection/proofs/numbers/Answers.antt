@@ -1,0 +1,15 @@
+use Rattle.projection.proofs.Tables.{origins-of, projects}
+use Rattle.projection.proofs.numbers.Goals as goal
+use Rattle.projection.proofs.numbers.Goals.{After-own_in-arg-1, Start}
+
+abbrev call : After-own_in-arg-1 → Start
+call c = c.before.before.before.before.before
+
+pub own_in-requires : goal.own_in-requires
+own_in-requires c = record { origins = origins-of _ _ (call c).requires.sound.0 (call c).requires.sound.1; by_index = (call c).requires.by_index }
+
+pub returns : goal.returns
+returns c =
+    let numbered = c in
+    let s = (call numbered.before.before.before).args in
+    projects s.slice.now s.h numbered.own_in.ensures.0 numbered.own_in.ensures.1

@@ -1,0 +1,143 @@
+use Rattle.std.proofs.Common.{◌≡◌, ◌<◌, length, sym, refl, ◌∙◌, ⊎_elim, arith, length-set}
+use Rattle.file_header.specs.declared.Header.{Header}
+use Rattle.replay_fast.specs.Moves.{MovesOf, Movable}
+use Rattle.replay_fast.proofs.Moving.{change-is, place_inside, shifting_none, shifting_end, Holding, holding_none, holding_long, holding_still, holding_other, holding_more}
+use Rattle.replay_fast.proofs.shift_joined.Goals as goal
+use Rattle.replay_fast.proofs.shift_joined.Goals.{After-entry-p, After-entry-q, After-wrapping_add_u64-value, At-loop-j, Else-to-from, Joined-q-p, Start}
+
+-- The marking is that of `shift`, with the entry in hand put at its place.
+
+-- ---- the states: the call with an arc at least, the loop, the place in hand
+
+abbrev some_of : Else-to-from → Start
+some_of c = c.before.before.before.before.before
+
+abbrev call : At-loop-j → Start
+call c = some_of c.before.before.before
+
+abbrev joined_of : After-wrapping_add_u64-value → Joined-q-p
+joined_of c = c.before.before.before
+
+-- the place of the first arc is one of the marking's
+first : (c : After-entry-p) → let q = c.entry-p.result in (q < length (some_of c.before).args.marking.now) × (q < 1024)
+first c =
+    let s = some_of c.before in
+    let can = s.requires.movable in
+    let l = c.if-to-from.false in
+    place_inside can s.args.from (omega (arith, l)) (c.entry-p.ensures.0 ∙ s.requires.moves_of.place s.args.from (omega (arith, can.within, l))) refl
+
+-- and so is that of each
+each : (c : After-entry-q) → let q = c.entry-q.result in (q < length (call c.before.before).args.marking.now) × (q < 1024)
+each c =
+    let t = c in
+    let j = t.loop-j.j in
+    let s = call t.before.before in
+    let can = s.requires.movable in
+    let l = t.loop-j-test.true in
+    place_inside can j l (c.entry-q.ensures.0 ∙ s.requires.moves_of.place j (omega (arith, can.within, l))) refl
+
+-- and the one in hand
+inside : (c : At-loop-j) → (c.loop-j.p < length c.loop-j.marking) × (c.loop-j.p < 1024) × (length c.loop-j.marking ≡ length (call c).args.marking.now)
+inside c =
+    let s = call c in
+    let can = s.requires.movable in
+    let x = c.loop-j.invariant.1 s.args.h can s.requires.moves_of in
+    let long = holding_long x in
+    (omega (arith, x.known, long), omega (arith, x.known, can.held, can.sound.placed.places), long)
+
+-- the entry of the arc's place in hand
+met : (c : Joined-q-p) → let x = c in let s = call x.before.before.before in
+    (c.if-q-p.p ≡ c.entry-q.result)
+    × ((h : Header) → Movable s.args.file.now h s.args.from s.args.to s.args.marking.now → MovesOf s.args.file.now h s.args.places.now s.args.changes.now
+    → Holding s.args.file.now h.arcstart s.args.from x.loop-j.j s.args.marking.now c.if-q-p.marking c.if-q-p.p c.if-q-p.value x.loop-j.all)
+met c =
+    let e = c in
+    let inv = e.loop-j.invariant in
+    ⊎_elim (λ w. (w.3, λ h can mv. holding_other (inv.1 h can mv) (each e.before).0 w.2 w.3 w.4)) (λ w. (w.2 ∙ sym w.0.left, λ h can mv. holding_still (inv.1 h can mv) w.1 w.2 w.3))
+    c.if-q-p.branch
+
+-- ---- no arc
+
+pub returns-then-to-from : goal.returns-then-to-from
+returns-then-to-from c = let can = c.requires.movable in shifting_end can.rising c.if-to-from.true (shifting_none can.fits)
+
+-- ---- the first arc's place
+
+pub entry-p-requires : goal.entry-p-requires
+entry-p-requires c = let pre = ((some_of c).requires.movable, ((some_of c).requires.moves_of)) in omega (arith, pre.moves_of.room, pre.movable.within, c.if-to-from.false)
+
+pub offset_bounds-marking-p : goal.offset_bounds-marking-p
+offset_bounds-marking-p c = omega (arith, (first c).1)
+
+pub bounds-marking-p : goal.bounds-marking-p
+bounds-marking-p c = (first c.before).0
+
+pub loop-j-init : goal.loop-j-init
+loop-j-init c = let e = c in ((some_of e.before.before).requires.movable.rising, λ h can mv. holding_none (first e.before).0 can.fits)
+
+-- ---- another place
+
+pub entry-q-requires : goal.entry-q-requires
+entry-q-requires c =
+    let pre = ((call c.before).requires.movable, ((call c.before).requires.moves_of)) in
+    omega (arith, pre.moves_of.room, pre.movable.within, c.loop-j-test.true)
+
+pub offset_bounds-marking-p-then-q-p : goal.offset_bounds-marking-p-then-q-p
+offset_bounds-marking-p-then-q-p c = omega (arith, (inside c.before.before.before).1)
+
+pub bounds-marking-p-then-q-p : goal.bounds-marking-p-then-q-p
+bounds-marking-p-then-q-p c = (inside c.before.before.before).0
+
+pub offset_bounds-marking-q : goal.offset_bounds-marking-q
+offset_bounds-marking-q c = omega (arith, (each c.before).1)
+
+pub bounds-marking-q : goal.bounds-marking-q
+bounds-marking-q c =
+    let e = c in
+    let x = e in
+    omega (arith, (each e.before.before).0, (inside x.before.before.before.before).2, length-set x.loop-j.marking x.loop-j.p x.loop-j.value)
+
+-- ---- the arc
+
+pub offset_bounds-changes-j : goal.offset_bounds-changes-j
+offset_bounds-changes-j c =
+    let t = c in
+    let can = (call t.before.before.before).requires.movable in
+    omega (arith, can.sound.placed.arcs, can.within, t.loop-j-test.true)
+
+pub bounds-changes-j : goal.bounds-changes-j
+bounds-changes-j c =
+    let t = c in
+    let pre = ((call t.before.before.before.before).requires.movable, ((call t.before.before.before.before).requires.moves_of)) in
+    omega (arith, pre.moves_of.long, pre.movable.within, t.loop-j-test.true)
+
+pub loop-j-preserved : goal.loop-j-preserved
+loop-j-preserved c =
+    let joined = joined_of c in
+    let e = joined in
+    let t = e in
+    let j = t.loop-j.j in
+    let l = t.loop-j-test.true in
+    let hand = met joined in (
+      omega (arith, l),
+      λ h can mv.
+          let in_table : j < h.arcs = omega (arith, l, can.within) in
+          holding_more can l (hand.1 h can mv) (change-is mv in_table c.signed-c.ensures) (hand.0 ∙ e.entry-q.ensures.0 ∙ mv.place j in_table) c.wrapping_add_u64-value.result (omega arith) c.wrapping_add_u64-value.ensures,
+    )
+
+-- ---- the last place
+
+pub offset_bounds-marking-p-2 : goal.offset_bounds-marking-p-2
+offset_bounds-marking-p-2 c = omega (arith, (inside c.before).1)
+
+pub bounds-marking-p-2 : goal.bounds-marking-p-2
+bounds-marking-p-2 c = (inside c.before).0
+
+pub shape_of-marking : goal.shape_of-marking
+shape_of-marking c = let s = call c.before in (c.loop-j.invariant.1 s.args.h s.requires.movable s.requires.moves_of).shifting.moving.moved.long
+
+pub returns : goal.returns
+returns c =
+    let x = c.loop-j.invariant in
+    let s = call c.before in
+    shifting_end x.0 c.loop-j-test.false (x.1 s.args.h s.requires.movable s.requires.moves_of).shifting

@@ -1,0 +1,87 @@
+use Prim.Native.Nat.{◌<◌}
+use mathlib.Core.Path.{◌≡◌, sym, ap, ◌∙◌}
+use native.Mathlib.Omega.{arith}
+use borrow.Author.Tests.{eq-eqb, ne_eqb}
+use lib.ListN.{length, get_or}
+use borrow.Author.Count.{below_more}
+use Rattle.file.specs.Layout.{net_from, slice_from}
+use Rattle.file.proofs.Rows.{length-words, words-at}
+use Rattle.rules_origins.proofs.Reached.{place-origins}
+use Rattle.rules_origins.proofs.Keeping.{tokens-decide, other-found, other_none}
+use Rattle.rules_origins.proofs.other_tokens.Goals as goal
+use Rattle.rules_origins.proofs.other_tokens.Goals.{After-get16-p, After-marking, At-loop-i, In-loop-i, Start}
+
+pub loop-i-init : goal.loop-i-init
+loop-i-init c = (omega arith, λ k l. absurd (omega arith))
+
+-- ---- the states: the call, the head of a turn, its origin read, both markings read
+
+abbrev call : At-loop-i → Start
+call c = c.before.before.before
+
+abbrev turn_of : After-get16-p → In-loop-i
+turn_of c = c.before
+
+abbrev origin_of : After-marking → After-get16-p
+origin_of c = c.before.before
+
+-- the origin that was read
+origin_is : (c : After-get16-p) → let t = (turn_of c).before in let a = (call t.before).args in c.get16-p.result ≡ get_or (slice_from a.slice.now a.hs).place_origins t.loop-i.i 0
+origin_is c =
+    let t = turn_of c in
+    let a = (call t.before).args in
+    c.get16-p.ensures.0 ∙ sym (words-at a.slice.now a.hs.originstart a.hs.places t.loop-i.i t.loop-i-test.true)
+
+inside : (c : In-loop-i) → let a = (call c.before).args in c.loop-i.i < length (slice_from a.slice.now a.hs).place_origins
+inside c = let a = (call c.before).args in omega (arith, length-words a.slice.now a.hs.originstart a.hs.places, c.loop-i-test.true)
+
+-- the plan's tokens of that place
+tokens_are : (c : After-marking) → let o = origin_of c in let t = (turn_of o).before in let a = (call t.before).args in
+    c.marking-tokens.result ≡ (net_from a.plan.now a.hp).marking (get_or (slice_from a.slice.now a.hs).place_origins t.loop-i.i 0)
+tokens_are c =
+    let o = origin_of c in
+    let a = (call (turn_of o).before).args in
+    c.marking-tokens.ensures.0 ∙ ap (net_from a.plan.now a.hp).marking (origin_is o)
+
+pub get16-p-requires : goal.get16-p-requires
+get16-p-requires c =
+    let pre = ((call c.before).requires.sound, ((call c.before).requires.sound_2, ((call c.before).requires.kind_value, ((call c.before).requires.known, ((call c.before).requires.uncapped, ((call c.before).requires.uncapped_2)))))) in
+    let w = (place-origins _ _ pre.sound_2 pre.kind_value).fit in
+    omega (arith, c.loop-i-test.true)
+
+pub marking-tokens-requires : goal.marking-tokens-requires
+marking-tokens-requires c =
+    let t = turn_of c in
+    let pre = ((call t.before).requires.sound, ((call t.before).requires.sound_2, ((call t.before).requires.kind_value, ((call t.before).requires.known, ((call t.before).requires.uncapped, ((call t.before).requires.uncapped_2)))))) in
+    let known = pre.known.at t.loop-i.i (inside t) in
+    record { placed = pre.sound.placed; place_lt_places = rw (origin_is c) known }
+
+pub marking-requires : goal.marking-requires
+marking-requires c =
+    let t = turn_of c.before in
+    record { placed = (call t.before).requires.sound_2.placed; place_lt_places = t.loop-i-test.true }
+
+pub returns-then-marking-tokens : goal.returns-then-marking-tokens
+returns-then-marking-tokens c =
+    let read = c in
+    let t = turn_of (origin_of read.before) in
+    let pre = ((call t.before).requires.sound, ((call t.before).requires.sound_2, ((call t.before).requires.kind_value, ((call t.before).requires.known, ((call t.before).requires.uncapped, ((call t.before).requires.uncapped_2)))))) in
+    origin_is (origin_of read.before)
+    ∙ other-found _ _ (pre.sound_2.place_origins pre.kind_value) pre.known t.loop-i.i (inside t) t.loop-i.invariant.1
+    (tokens-decide _ _ pre.uncapped pre.uncapped_2 _ _ ∙ ne_eqb _ _ (λ e. c.if-marking-tokens.true (read.marking.ensures.0 ∙ e ∙ sym (tokens_are read.before))))
+
+pub loop-i-preserved : goal.loop-i-preserved
+loop-i-preserved c =
+    let read = c in
+    let t = turn_of (origin_of read.before) in
+    let pre = ((call t.before).requires.sound, ((call t.before).requires.sound_2, ((call t.before).requires.kind_value, ((call t.before).requires.known, ((call t.before).requires.uncapped, ((call t.before).requires.uncapped_2)))))) in
+    let same = tokens-decide _ _ pre.uncapped pre.uncapped_2 _ _ ∙ eq-eqb _ _ (sym read.marking.ensures.0 ∙ c.if-marking-tokens.false ∙ tokens_are read.before) in
+    (omega (arith, t.loop-i-test.true), below_more _ _ t.loop-i.invariant.1 (record { same = same }))
+
+pub returns : goal.returns
+returns c =
+    let s = call c.before in
+    let a = s.args in
+    let pre = (s.requires.sound, (s.requires.sound_2, (s.requires.kind_value, (s.requires.known, (s.requires.uncapped, (s.requires.uncapped_2)))))) in
+    let long = length-words a.slice.now a.hs.originstart a.hs.places in
+    other_none _ _ (pre.sound_2.place_origins pre.kind_value) pre.known (λ k l. c.loop-i.invariant.1 k (omega (arith, c.loop-i-test.false)))

@@ -1,0 +1,17 @@
+use mathlib.Core.Path.{sym, ap}
+use native.Mathlib.Omega.{arith}
+use lib.Dec.{ltb}
+use Rattle.run_cut.proofs.Filling.{room-for_all}
+use Rattle.run_cut.proofs.lacks.Goals as goal
+use Rattle.run_cut.proofs.lacks.Goals.{After-shared_slice_known-2-1, Start}
+
+-- ---- the states: the call, counted
+
+abbrev call : After-shared_slice_known-2-1 → Start
+call c = c.before.before
+
+pub returns-then-end-room : goal.returns-then-end-room
+returns-then-end-room c = let s = call c.before in sym (room-for_all _ _ _ _ s.requires.1 (omega (arith, c.if-end-room.true)))
+
+pub returns : goal.returns
+returns c = ap (ltb (call c.before.before).args.room) c.counted.ensures

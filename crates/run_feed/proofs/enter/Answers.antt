@@ -1,0 +1,24 @@
+use mathlib.Core.Path.{sym, ◌∙◌}
+use Rattle.run_feed.proofs.Raising.{entered_known, entered_new}
+use Rattle.run_feed.proofs.enter.Goals as goal
+use Rattle.run_feed.proofs.enter.Goals.{After-contains, After-insert, Start}
+
+-- ---- the states: the call, the place asked for, the raisers added
+
+abbrev call : After-contains → Start
+call c = c.before.before.before.before.before.before
+
+abbrev asked : After-insert → After-contains
+asked c = c.before.before.before
+
+pub returns-then-contains : goal.returns-then-contains
+returns-then-contains c =
+    let s = call c.before in
+    entered_known _ s.args.h _ _ _ _ s.requires.3 (sym c.contains.ensures ∙ c.if-contains.true)
+
+pub returns : goal.returns
+returns c =
+    let added = c in
+    let inserted = added in
+    let s = call (asked inserted.before.before.before.before) in
+    entered_new _ s.args.h _ _ _ _ _ _ inserted.insert.ensures added.add_raisers.ensures

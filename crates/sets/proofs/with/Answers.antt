@@ -1,0 +1,4 @@
+use Rattle.sets.proofs.with.Goals as goal
+
+pub returns : goal.returns
+returns c = c.insert.ensures

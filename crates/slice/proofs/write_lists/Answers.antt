@@ -1,0 +1,48 @@
+use native.Mathlib.Omega.{arith}
+use Rattle.slice.proofs.write_lists.Goals as goal
+use Rattle.slice.proofs.write_lists.Goals.{After-positions, After-positions-2, Start}
+
+-- ---- the states: the places numbered, the transitions numbered
+
+abbrev call : After-positions → Start
+call c = c.before.before.before.before.before.before.before.before
+
+abbrev places_of : After-positions-2 → After-positions
+places_of c = c.before.before.before.before
+
+pub positions-requires : goal.positions-requires
+positions-requires c =
+    let s = c in
+    let lists = s.requires.lists in
+    let places = s.requires.cleared.0 in
+    record {
+      short = lists.few-places;
+      rises = lists.places-rise;
+      within = λ i l. omega (arith, lists.places-known i l, places.reach);
+      clear = places.clear;
+    }
+
+pub positions-requires-2 : goal.positions-requires-2
+positions-requires-2 c =
+    let s = call c.before.before.before in
+    let lists = s.requires.lists in
+    let transitions = s.requires.cleared.1 in
+    record {
+      short = lists.few-transitions;
+      rises = lists.transitions-rise;
+      within = λ i l. omega (arith, lists.transitions-known i l, transitions.reach);
+      clear = transitions.clear;
+    }
+
+pub write_if_room-requires : goal.write_if_room-requires
+write_if_room-requires c =
+    let numbered = c in
+    let s = call (places_of numbered.before.before.before) in
+    let places = (places_of numbered.before.before.before).positions.ensures in
+    let transitions = numbered.positions-2.ensures in
+    record { sound = s.requires.sound; lists = s.requires.lists; tables = record {
+          places-reach = omega (arith, places.0, s.requires.cleared.0.reach);
+          transitions-reach = omega (arith, transitions.0, s.requires.cleared.1.reach);
+          places-own = places.1;
+          transitions-own = transitions.1;
+        } }

@@ -1,0 +1,42 @@
+use mathlib.Core.Path.{sym}
+use lib.Seq.{length-take-le}
+use Rattle.slice.proofs.Laws.{lists_kept, slice_kept}
+use Rattle.slice.proofs.write_sets.Goals as goal
+use Rattle.slice.proofs.write_sets.Goals.{After-list_members-np, After-list_members-nt, After-write_lists-arg-1, Start}
+
+-- ---- the states: the places listed, the transitions listed
+
+abbrev call : After-list_members-np → Start
+call c = c.before.before.before.before.before.before.before.before
+
+abbrev places_of : After-list_members-nt → After-list_members-np
+places_of c = c.before.before.before.before
+
+abbrev listed : After-write_lists-arg-1 → After-list_members-nt
+listed c = c.before.before.before
+
+-- ---- listing
+
+-- ---- writing what is listed
+
+pub slice_bounds-write_lists-end-2 : goal.slice_bounds-write_lists-end-2
+slice_bounds-write_lists-end-2 c = sym (length-take-le _ _ (places_of (listed c)).list_members-np.ensures.within)
+
+pub slice_bounds-write_lists-end-4 : goal.slice_bounds-write_lists-end-4
+slice_bounds-write_lists-end-4 c = sym (length-take-le _ _ (listed c.before).list_members-nt.ensures.within)
+
+pub write_lists-requires : goal.write_lists-requires
+write_lists-requires c =
+    let transitions = listed c.before.before in
+    let places = places_of transitions in
+    let s = call places in
+    record { sound = s.requires.sound; lists = lists_kept _ _ _ places.list_members-np.ensures transitions.list_members-nt.ensures s.requires.within s.requires.sound; cleared = s.requires.cleared }
+
+-- ---- the end
+
+pub returns : goal.returns
+returns c =
+    let written = c in
+    let transitions = listed written.before.before.before.before.before.before.before.before.before in
+    let places = places_of transitions in
+    slice_kept _ _ _ places.list_members-np.ensures transitions.list_members-nt.ensures written.write_lists.ensures

@@ -1,0 +1,68 @@
+use borrow.Author.Rules.{rules}
+use Prim.Native.Nat.{◌+◌, ◌<◌, ◌≤◌}
+use mathlib.Core.Path.{◌∙◌}
+use native.Mathlib.Omega.{arith}
+use lib.Dec.{eqb}
+use lib.ListN.{length, get_or}
+use lib.Seq.{sets}
+use Rattle.file_header.specs.Layout.{places_length}
+use Rattle.file_writing.specs.Writing.{place_bytes}
+use Rattle.tables.proofs.Storing.{storing_all, storing_as, storing_from, storing_none}
+use Rattle.slice_put.proofs.Placing.{places-all, places-end, place-stored, places-within, places-none}
+use Rattle.slice_parts.proofs.write_places.Goals as goal
+use Rattle.slice_parts.proofs.write_places.Goals.{After-marking-tokens, At-loop-i, In-loop-i, Start}
+
+-- ---- the states: the call, the head of a turn
+
+abbrev call : At-loop-i → Start
+call c = c.before.before.before.before
+
+abbrev turn_of : After-marking-tokens → In-loop-i
+turn_of c = c.before.before
+
+-- a place of the plan
+known : (c : In-loop-i) → let s = call c.before in get_or s.args.ps.now c.loop-i.i 0 < s.args.h.places
+known c = (call c.before).requires.by_index c.loop-i.i c.loop-i-test.true
+
+-- room for one place more
+room : (c : In-loop-i) → places_length (call c.before).args.h.edition (c.loop-i.i + 1) ≤ length c.loop-i.buffer
+room c =
+    let s = call c.before in
+    omega (arith, s.requires.ps_in_bounds, c.loop-i.invariant.1.long, places-within s.args.h.edition c.loop-i.i (length s.args.ps.now) c.loop-i-test.true)
+
+pub loop-i-init : goal.loop-i-init
+loop-i-init c =
+    let args = c.args in
+    (search rules, storing_from (places-none args.h.edition) (storing_as (storing_all _ _ _) (places-all args.h.edition _ _ _)))
+
+pub overflow_cast-p : goal.overflow_cast-p
+overflow_cast-p c = omega (arith, c.type_inv.ps c.loop-i.i)
+
+pub marking-tokens-requires : goal.marking-tokens-requires
+marking-tokens-requires c = record { placed = (call c.before.before).requires.placed; place_lt_places = known c.before }
+
+pub cap-most-requires : goal.cap-most-requires
+cap-most-requires c = let t = turn_of c in record { placed = (call t.before).requires.placed; place_lt_places = known t }
+
+pub put_place-requires : goal.put_place-requires
+put_place-requires c = room (turn_of c.before.before)
+
+pub loop-i-preserved : goal.loop-i-preserved
+loop-i-preserved c =
+    let put = c in
+    let read = put in
+    let t = turn_of read.before.before.before.before.before in
+    let at = t.loop-i in
+    let e = (call t.before).args.h.edition in
+    let m = read.marking-tokens.ensures.0 in
+    let k = read.cap-most.ensures.0 in
+    (omega arith, place-stored e _ _ _ _ t.loop-i-test.true at.invariant.1 (put.put_place.ensures ∙ (λ j. sets at.buffer (places_length e at.i) (place_bytes (eqb e 2) (m j) (k j)))))
+
+pub shape_of-buffer : goal.shape_of-buffer
+shape_of-buffer c = c.loop-i.invariant.1.long
+
+pub returns : goal.returns
+returns c =
+    let s = call c.before in
+    let at = c.loop-i in
+    storing_none (storing_as at.invariant.1 (places-end s.args.h.edition _ _ (length s.args.ps.now) at.i c.loop-i-test.false))
