@@ -19,20 +19,20 @@ pub loop-j-init : goal.loop-j-init
 loop-j-init c = (omega arith, c.requires.run.rising, looked_none _ _ _ _ _)
 
 pub bounds-limit-p : goal.bounds-limit-p
-bounds-limit-p c = omega (arith, inside c.before, c.requires.limit_len)
+bounds-limit-p c = omega (arith, inside (goal.at.bounds-limit-p c).After-arc-a, c.requires.limit_len)
 
 pub bounds-column-p : goal.bounds-column-p
-bounds-column-p c = omega (arith, inside c.before.before, c.loop-j.invariant.2.long)
+bounds-column-p c = omega (arith, inside (goal.at.bounds-column-p c).After-arc-a, c.loop-j.invariant.2.long)
 
 pub bounds-column-p-in-loop-j : goal.bounds-column-p-in-loop-j
-bounds-column-p-in-loop-j c = omega (arith, inside c.before.before.before, c.loop-j.invariant.2.long)
+bounds-column-p-in-loop-j c = omega (arith, inside (goal.at.bounds-column-p-in-loop-j c).After-arc-a, c.loop-j.invariant.2.long)
 
 pub loop-j-preserved : goal.loop-j-preserved
 loop-j-preserved c =
     let arc = c in
     let head = arc in
     let start = head in
-    (search rules, search rules, looked_more start.args.file.now _ _ start.args.limit.now _ _ _ _ head.loop-j.invariant.2 head.loop-j.invariant.0 _ (place_is arc.before.before.before) (inside arc.before.before.before) _ c.pulling-here.ensures)
+    (search rules, search rules, looked_more start.args.file.now _ _ start.args.limit.now _ _ _ _ head.loop-j.invariant.2 head.loop-j.invariant.0 _ (place_is (goal.at.loop-j-preserved arc).After-arc-a) (inside (goal.at.loop-j-preserved arc).After-arc-a) _ c.pulling-here.ensures)
 
 pub returns : goal.returns
 returns c =

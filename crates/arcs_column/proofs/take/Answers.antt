@@ -17,16 +17,16 @@ pub loop-j-init : goal.loop-j-init
 loop-j-init c = (omega arith, c.requires.run.rising, record { long = refl; at = λ p. refl })
 
 pub bounds-column-p : goal.bounds-column-p
-bounds-column-p c = omega (arith, inside c.before, c.loop-j.invariant.2.long)
+bounds-column-p c = omega (arith, inside (goal.at.bounds-column-p c).After-arc-a, c.loop-j.invariant.2.long)
 
 pub overflow_sub-column : goal.overflow_sub-column
-overflow_sub-column c = enough c.args.file.now _ _ _ _ _ _ c.arc-a.ensures.0 (inside c.before.before) _ c.loop-j-test.true c.loop-j.invariant.2 c.requires.by_index
+overflow_sub-column c = enough c.args.file.now _ _ _ _ _ _ c.arc-a.ensures.0 (inside (goal.at.overflow_sub-column c).After-arc-a) _ c.loop-j-test.true c.loop-j.invariant.2 c.requires.by_index
 
 pub bounds-column-p-in-loop-j : goal.bounds-column-p-in-loop-j
-bounds-column-p-in-loop-j c = omega (arith, inside c.before.before, c.loop-j.invariant.2.long)
+bounds-column-p-in-loop-j c = omega (arith, inside (goal.at.bounds-column-p-in-loop-j c).After-arc-a, c.loop-j.invariant.2.long)
 
 pub loop-j-preserved : goal.loop-j-preserved
-loop-j-preserved c = (search rules, search rules, takes-more c.args.file.now _ _ _ _ _ _ c.arc-a.ensures.0 (inside c.before.before) c.loop-j.invariant.2 (enough c.args.file.now _ _ _ _ _ _ c.arc-a.ensures.0 (inside c.before.before) _ c.loop-j-test.true c.loop-j.invariant.2 c.requires.by_index))
+loop-j-preserved c = (search rules, search rules, takes-more c.args.file.now _ _ _ _ _ _ c.arc-a.ensures.0 (inside (goal.at.loop-j-preserved c).After-arc-a) c.loop-j.invariant.2 (enough c.args.file.now _ _ _ _ _ _ c.arc-a.ensures.0 (inside (goal.at.loop-j-preserved c).After-arc-a) _ c.loop-j-test.true c.loop-j.invariant.2 c.requires.by_index))
 
 pub returns : goal.returns
 returns c =

@@ -8,7 +8,7 @@ use Rattle.arcs_effect.proofs.effect.Goals as goal
 use Rattle.arcs_effect.proofs.effect.Goals.{After-next_from-c, Start}
 
 abbrev call : After-next_from-c → Start
-call c = c.before.before.before.before
+call c = (goal.at.After-next_from-c c).Start
 
 pub first_from-a-requires : goal.first_from-a-requires
 first_from-a-requires c = ordered _ _ c.requires.0
@@ -25,11 +25,11 @@ weight-input-requires c = inputs_in _ _ (call c).requires.0 _ _ _ _ c.first_from
 pub weight-output-requires : goal.weight-output-requires
 weight-output-requires c =
     let found = c in
-    outputs-in _ _ (call found.before).requires.0 _ _ _ _ found.first_from-a.ensures found.next_from-b.ensures found.next_from-c.ensures
+    outputs-in _ _ (call (goal.at.weight-output-requires found).After-next_from-c).requires.0 _ _ _ _ found.first_from-a.ensures found.next_from-b.ensures found.next_from-c.ensures
 
 pub returns : goal.returns
 returns c =
     let found = c in
     to_z-of_z (record { sfits = c.difference.type-inv })
     ∙ c.difference.ensures
-    ∙ effect_is _ _ (call found.before.before.before).requires.0 _ _ _ _ found.first_from-a.ensures found.next_from-b.ensures found.next_from-c.ensures _ _ _ c.weight-input.ensures.0 c.weight-output.ensures.0
+    ∙ effect_is _ _ (call (goal.at.returns found).After-next_from-c).requires.0 _ _ _ _ found.first_from-a.ensures found.next_from-b.ensures found.next_from-c.ensures _ _ _ c.weight-input.ensures.0 c.weight-output.ensures.0

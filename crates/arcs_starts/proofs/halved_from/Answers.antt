@@ -16,10 +16,10 @@ pub loop-low-init : goal.loop-low-init
 loop-low-init c = let pre = c.requires in halving_start pre.0 (λ i j f. pre.0.order i j) pre.1
 
 pub loop-low-preserved-then-slot-k : goal.loop-low-preserved-then-slot-k
-loop-low-preserved-then-slot-k c = halving_up c.loop-low.invariant _ (omega (arith, c.loop-low-test.true)) (omega (arith, c.loop-low-test.true)) (slot_is c.before) c.if-slot-k.true
+loop-low-preserved-then-slot-k c = halving_up c.loop-low.invariant _ (omega (arith, c.loop-low-test.true)) (omega (arith, c.loop-low-test.true)) (slot_is (goal.at.loop-low-preserved-then-slot-k c).After-slot) c.if-slot-k.true
 
 pub loop-low-preserved : goal.loop-low-preserved
-loop-low-preserved c = halving_down c.loop-low.invariant _ (omega (arith, c.loop-low-test.true)) (omega (arith, c.loop-low-test.true)) (slot_is c.before) c.if-slot-k.false
+loop-low-preserved c = halving_down c.loop-low.invariant _ (omega (arith, c.loop-low-test.true)) (omega (arith, c.loop-low-test.true)) (slot_is (goal.at.loop-low-preserved c).After-slot) c.if-slot-k.false
 
 pub returns : goal.returns
 returns c =

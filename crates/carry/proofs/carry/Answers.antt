@@ -13,7 +13,7 @@ use Rattle.carry.proofs.carry.Goals.{Else-table_wrong, Start}
 -- ---- the states: the call, the table found right, no place stranded
 
 abbrev call : Else-table_wrong → Start
-call c = c.before.before.before.before.before.before
+call c = (goal.at.Else-table_wrong c).Start
 
 right_table : (c : Else-table_wrong) → let s = call c in table_wrong s.args.old s.args.h.places s.args.running.now s.args.table.now ≡ false
 right_table c = sym c.table_wrong.ensures ∙ c.if-table_wrong.false
@@ -28,24 +28,24 @@ pub stranded-requires : goal.stranded-requires
 stranded-requires c = (known c).1 ∙ sym (known c).0
 
 pub returns-then-stranded : goal.returns-then-stranded
-returns-then-stranded c = record { answer = carry_23 _ _ _ _ _ (right_table c.before.before) (sym c.stranded.ensures ∙ c.if-stranded.true); marking = refl }
+returns-then-stranded c = record { answer = carry_23 _ _ _ _ _ (right_table (goal.at.returns-then-stranded c).Else-table_wrong) (sym c.stranded.ensures ∙ c.if-stranded.true); marking = refl }
 
 pub slice_bounds-carry_in-end : goal.slice_bounds-carry_in-end
 slice_bounds-carry_in-end c =
-    let s = call c.before.before.before in
+    let s = call (goal.at.slice_bounds-carry_in-end c).Else-table_wrong in
     sym (length-take-le {A = ℕ} s.args.h.places (replicate 1024 0) (omega (arith, s.requires.sound.placed.places, length-replicate {A = ℕ} 1024 0)))
 
 pub carry_in-requires : goal.carry_in-requires
 carry_in-requires c =
     let e = c in
     let t = e in
-    let s = call t.before.before.before.before in
+    let s = call (goal.at.carry_in-requires t).Else-table_wrong in
     let long = length-take-le {A = ℕ} s.args.h.places (replicate 1024 0) (omega (arith, s.requires.sound.placed.places, length-replicate {A = ℕ} 1024 0)) in
     record { sound = s.requires.sound; sums_len = long; passed = record {
-          long = (known t.before.before.before.before).1 ∙ sym (known t.before.before.before.before).0;
-          few = omega (arith, (known t.before.before.before.before).1, s.requires.bound);
+          long = (known (goal.at.carry_in-requires t).Else-table_wrong).1 ∙ sym (known (goal.at.carry_in-requires t).Else-table_wrong).0;
+          few = omega (arith, (known (goal.at.carry_in-requires t).Else-table_wrong).1, s.requires.bound);
           small = omega (arith, long, s.requires.sound.placed.places);
-          placed = subst⁻¹ (λ (P : ℕ). any (names_no_place P) s.args.table.now ≡ false) long (known t.before.before.before.before).2;
+          placed = subst⁻¹ (λ (P : ℕ). any (names_no_place P) s.args.table.now ≡ false) long (known (goal.at.carry_in-requires t).Else-table_wrong).2;
           targets = sym e.stranded.ensures ∙ e.if-stranded.false;
           zeros = zeros-taken s.args.h.places 1024;
         } }
@@ -55,4 +55,4 @@ returns c =
     let done = c in
     let e = done in
     let t = e in
-    record { answer = carry_rest _ _ _ _ _ (right_table t.before.before.before.before.before.before.before.before) (sym e.stranded.ensures ∙ e.if-stranded.false) done.carry_in.ensures.value; marking = done.carry_in.ensures.marking_after }
+    record { answer = carry_rest _ _ _ _ _ (right_table (goal.at.returns t).Else-table_wrong) (sym e.stranded.ensures ∙ e.if-stranded.false) done.carry_in.ensures.value; marking = done.carry_in.ensures.marking_after }

@@ -15,13 +15,13 @@ use Rattle.carry.proofs.carry_in.Goals.{After-add_up, Else-not-add_up, Else-over
 -- ---- the states: the call, the sums made, found whole, found within the caps
 
 abbrev call : After-add_up → Start
-call c = c.before.before.before.before.before.before.before
+call c = (goal.at.After-add_up c).Start
 
 abbrev made : Else-not-add_up → After-add_up
-made c = c.before.before.before
+made c = (goal.at.Else-not-add_up c).After-add_up
 
 abbrev within : Else-overfull → Else-not-add_up
-within c = c.before.before
+within c = (goal.at.Else-overfull c).Else-not-add_up
 
 -- no sum is above
 none_over : (c : Else-overfull) → let s = call (made (within c)) in overfull (net_from s.args.new.now s.args.h) (λ q. carried_to q s.args.table.now s.args.running.now) ≡ false
@@ -33,7 +33,7 @@ none_over c =
 pub returns-then-not-add_up : goal.returns-then-not-add_up
 returns-then-not-add_up c =
     let m = c in
-    let s = call m.before.before.before in
+    let s = call (goal.at.returns-then-not-add_up m).After-add_up in
     record { value = sums-over _ _ _ _ (above-over (net_from s.args.new.now s.args.h) s.args.running.now s.args.table.now 0 s.requires.sums_len m.add_up.ensures (not-true _ c.if-not-add_up.true-raw)); marking_after = refl }
 
 pub overfull-requires : goal.overfull-requires
@@ -45,23 +45,23 @@ overfull-requires c =
 pub returns-then-overfull : goal.returns-then-overfull
 returns-then-overfull c =
     let e = c in
-    let m = made e.before.before in
+    let m = made (goal.at.returns-then-overfull e).Else-not-add_up in
     let s = call m in
     record { value = sums-over _ _ _ _ (sym (sums_same (net_from s.args.new.now s.args.h) s.args.running.now s.args.table.now 0 s.requires.sums_len m.add_up.ensures (not-false _ e.if-not-add_up.false-raw)) ∙ sym c.overfull.ensures ∙ c.if-overfull.true); marking_after = refl }
 
 pub returns-then-marking-places : goal.returns-then-marking-places
-returns-then-marking-places c = record { value = room-short _ _ _ _ (none_over c.before) c.if-marking-places.true; marking_after = refl }
+returns-then-marking-places c = record { value = room-short _ _ _ _ (none_over (goal.at.returns-then-marking-places c).Else-overfull) c.if-marking-places.true; marking_after = refl }
 
 pub slice_bounds-copy-end-2 : goal.slice_bounds-copy-end-2
 slice_bounds-copy-end-2 c =
     let e = c in
-    let s = call (made (within e.before.before)) in
+    let s = call (made (within (goal.at.slice_bounds-copy-end-2 e).Else-overfull)) in
     sym (length-take-le s.args.h.places s.args.marking.now e.if-marking-places.false)
 
 pub copy-requires : goal.copy-requires
 copy-requires c =
     let e = c in
-    let m = made (within e.before.before) in
+    let m = made (within (goal.at.copy-requires e).Else-overfull) in
     let s = call m in
     length-take-le s.args.h.places s.args.marking.now e.if-marking-places.false ∙ sym (m.add_up.ensures.long ∙ s.requires.sums_len)
 
@@ -69,8 +69,8 @@ pub returns : goal.returns
 returns c =
     let copied = c in
     let e = copied in
-    let m = made (within e.before.before.before.before.before) in
+    let m = made (within (goal.at.returns e).Else-overfull) in
     let s = call m in
     let N = net_from s.args.new.now s.args.h in
-    record { value = sums-pass _ _ _ _ (none_over e.before.before.before.before.before) e.if-marking-places.false; marking_after = written-whole 0 s.args.h.places _ _ s.args.marking.now refl refl (length-tokens N _)
-          (copied.copy.ensures ∙ sums-are N s.args.running.now s.args.table.now 0 s.requires.sums_len m.add_up.ensures (not-false _ (within e.before.before.before.before.before).if-not-add_up.false-raw)) }
+    record { value = sums-pass _ _ _ _ (none_over (goal.at.returns e).Else-overfull) e.if-marking-places.false; marking_after = written-whole 0 s.args.h.places _ _ s.args.marking.now refl refl (length-tokens N _)
+          (copied.copy.ensures ∙ sums-are N s.args.running.now s.args.table.now 0 s.requires.sums_len m.add_up.ensures (not-false _ (within (goal.at.returns e).Else-overfull).if-not-add_up.false-raw)) }

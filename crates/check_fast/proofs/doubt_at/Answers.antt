@@ -6,7 +6,7 @@ use Rattle.check_fast.proofs.doubt_at.Goals as goal
 use Rattle.check_fast.proofs.doubt_at.Goals.{After-word-w, Start}
 
 abbrev start : After-word-w → Start
-start c = c.before.before.before.before.before.before.before
+start c = (goal.at.After-word-w c).Start
 
 pub joined-z-requires : goal.joined-z-requires
 joined-z-requires c =
@@ -17,7 +17,7 @@ joined-z-requires c =
 pub returns-then-z-eq8 : goal.returns-then-z-eq8
 returns-then-z-eq8 c = λ h.
     let read = c in
-    let pre = ((start read.before.before).requires.ready, ((start read.before.before).requires.j_lt_arcs)) in
+    let pre = ((start (goal.at.returns-then-z-eq8 read).After-word-w).requires.ready, ((start (goal.at.returns-then-z-eq8 read).After-word-w).requires.j_lt_arcs)) in
     eighth-in_doubt _ _ _ _ _ _ _ pre.ready _ pre.j_lt_arcs _ read.word-w.ensures (omega arith) _ c.joined-z.ensures c.if-z-eq8.true
 
 pub returns-then-kept : goal.returns-then-kept
@@ -27,5 +27,5 @@ pub returns : goal.returns
 returns c = λ h.
     let sum = c in
     let read = sum in
-    let pre = ((start read.before.before.before.before).requires.ready, ((start read.before.before.before.before).requires.j_lt_arcs)) in
+    let pre = ((start (goal.at.returns read).After-word-w).requires.ready, ((start (goal.at.returns read).After-word-w).requires.j_lt_arcs)) in
     sixth-in_doubt _ _ _ _ _ _ _ pre.ready _ pre.j_lt_arcs _ read.word-w.ensures (omega arith) _ sum.joined-z.ensures (sym c.kept.ensures ∙ c.if-kept.false)

@@ -12,14 +12,14 @@ use Rattle.check_fast.proofs.mark_capped.Goals.{After-cap, At-loop-p, In-loop-p,
 -- ---- the states: the call, the head of a turn, its cap read
 
 abbrev call : At-loop-p → Start
-call c = c.before.before.before.before.before
+call c = (goal.at.At-loop-p c).Start
 
 abbrev turn_of : After-cap → In-loop-p
-turn_of c = c.before.before
+turn_of c = (goal.at.After-cap c).In-loop-p
 
 -- the place has an entry
 within : (c : In-loop-p) → c.loop-p.p < length c.loop-p.places
-within c = omega (arith, c.loop-p-test.true, c.loop-p.invariant.1.long, (call c.before).requires.places_in_bounds)
+within c = omega (arith, c.loop-p-test.true, c.loop-p.invariant.1.long, (call (goal.at.In-loop-p c).At-loop-p).requires.places_in_bounds)
 
 pub returns-then-hp-ne-CAPS : goal.returns-then-hp-ne-CAPS
 returns-then-hp-ne-CAPS c =
@@ -30,15 +30,15 @@ pub loop-p-init : goal.loop-p-init
 loop-p-init c = (omega arith, bound-start _ _)
 
 pub bounds-places-p : goal.bounds-places-p
-bounds-places-p c = within c.before
+bounds-places-p c = within (goal.at.bounds-places-p c).In-loop-p
 
 pub bounds-places-p-in-loop-p : goal.bounds-places-p-in-loop-p
-bounds-places-p-in-loop-p c = within (turn_of c.before)
+bounds-places-p-in-loop-p c = within (turn_of (goal.at.bounds-places-p-in-loop-p c).After-cap)
 
 pub loop-p-preserved : goal.loop-p-preserved
 loop-p-preserved c =
     let read = c in
-    let t = turn_of read.before in
+    let t = turn_of (goal.at.loop-p-preserved read).After-cap in
     let at = t.loop-p in
     (omega (arith, t.loop-p-test.true), bound-next _ _ at.p at.places at.invariant.1 (within t) _ (c.bounded.ensures ∙ ap (λ (n : ℕ). bound n (get_or at.places at.p 0)) read.cap.ensures.0))
 

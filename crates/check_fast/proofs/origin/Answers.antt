@@ -11,7 +11,7 @@ use Rattle.check_fast.proofs.origin.Goals as goal
 use Rattle.check_fast.proofs.origin.Goals.{After-word-w, Start}
 
 abbrev start : After-word-w → Start
-start c = c.before.before.before.before.before
+start c = (goal.at.After-word-w c).Start
 
 -- the arc's transition is one of the slice's
 known : (c : After-word-w) → c.word-w.result % 65536 < (start c).args.hs.transitions
@@ -23,11 +23,11 @@ known c =
 pub get16-requires : goal.get16-requires
 get16-requires c =
     let read = c in
-    omega (arith, known read.before.before, (transition-origins _ _ (start read.before.before).requires.sound (start read.before.before).requires.kind_value).fit)
+    omega (arith, known (goal.at.get16-requires read).After-word-w, (transition-origins _ _ (start (goal.at.get16-requires read).After-word-w).requires.sound (start (goal.at.get16-requires read).After-word-w).requires.kind_value).fit)
 
 pub returns : goal.returns
 returns c =
     let read = c in
-    let s = start read.before.before.before in
-    record { value = λ l. c.get16.ensures.0 ∙ sym (words-at s.args.slice.now (s.args.hs.originstart + 2 * s.args.hs.places) s.args.hs.transitions (read.word-w.result % 65536) (known read.before.before.before))
+    let s = start (goal.at.returns read).After-word-w in
+    record { value = λ l. c.get16.ensures.0 ∙ sym (words-at s.args.slice.now (s.args.hs.originstart + 2 * s.args.hs.places) s.args.hs.transitions (read.word-w.result % 65536) (known (goal.at.returns read).After-word-w))
           ∙ ap (λ (a : Arc). get_or (slice_from s.args.slice.now s.args.hs).transition_origins a.transition 0) read.word-w.ensures.arc; value_2 = λ l. absurd (omega (arith, read.if-hs-k.false)) }

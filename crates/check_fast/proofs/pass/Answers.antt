@@ -8,18 +8,18 @@ use Rattle.check_fast.proofs.pass.Goals as goal
 use Rattle.check_fast.proofs.pass.Goals.{After-look-doubt, After-quiet, At-loop-at, In-loop-at, Start}
 
 abbrev start_of : At-loop-at → Start
-start_of c = c.before.before.before.before.before.before.before
+start_of c = (goal.at.At-loop-at c).Start
 
 -- from where an arc is looked at, back to the loop
 abbrev inside : After-look-doubt → In-loop-at
-inside c = c.before.before.before.before.before
+inside c = (goal.at.After-look-doubt c).In-loop-at
 
 abbrev loop_at : In-loop-at → At-loop-at
-loop_at c = c.before.before.before
+loop_at c = (goal.at.In-loop-at c).At-loop-at
 
 -- from where all arcs are gone through, back to the loop
 abbrev ended : After-quiet → At-loop-at
-ended c = c.before.before.before.before
+ended c = (goal.at.After-quiet c).At-loop-at
 
 pub stretch-at-requires : goal.stretch-at-requires
 stretch-at-requires c = record { ready = c.requires; walked = walked_start _ _ _ _ _ }
@@ -32,16 +32,16 @@ returns-then-hs-at c = λ h. absurd (omega arith)
 
 pub overflow_add-tired : goal.overflow_add-tired
 overflow_add-tired c =
-    let at = loop_at c.before.before.before.before in
+    let at = loop_at (goal.at.overflow_add-tired c).In-loop-at in
     omega (arith, at.loop-at.invariant.0.within, (start_of at).requires.planned.placed.arcs)
 
 pub overflow_mul-tired : goal.overflow_mul-tired
 overflow_mul-tired c =
-    let at = loop_at c.before.before.before.before in
+    let at = loop_at (goal.at.overflow_mul-tired c).In-loop-at in
     omega (arith, at.loop-at.invariant.1, at.loop-at.invariant.0.within, (start_of at).requires.planned.placed.arcs)
 
 pub look-doubt-requires : goal.look-doubt-requires
-look-doubt-requires c = let from = c in record { ready = (start_of (loop_at from.before.before.before.before)).requires; j_lt_arcs = from.loop-at-test.true }
+look-doubt-requires c = let from = c in record { ready = (start_of (loop_at (goal.at.look-doubt-requires from).In-loop-at)).requires; j_lt_arcs = from.loop-at-test.true }
 
 pub returns-then-doubt-le4 : goal.returns-then-doubt-le4
 returns-then-doubt-le4 c = λ h. absurd (omega arith)
@@ -49,7 +49,7 @@ returns-then-doubt-le4 c = λ h. absurd (omega arith)
 pub stretch-next-requires : goal.stretch-next-requires
 stretch-next-requires c =
     let looked = c in
-    let from = inside looked.before.before.before in
+    let from = inside (goal.at.stretch-next-requires looked).After-look-doubt in
     let at = loop_at from in
     let low = c.lower.ensures in
     let settled = looked.look-doubt.ensures (omega (arith, c.if-doubt-le4.false)) in
@@ -57,23 +57,23 @@ stretch-next-requires c =
 
 pub overflow_add-seen : goal.overflow_add-seen
 overflow_add-seen c =
-    let at = loop_at (inside c.before.before.before.before) in
+    let at = loop_at (inside (goal.at.overflow_add-seen c).After-look-doubt) in
     omega (arith, at.loop-at.invariant.1, at.loop-at.invariant.0.within, (start_of at).requires.planned.placed.arcs)
 
 pub loop-at-smaller : goal.loop-at-smaller
 loop-at-smaller c =
-    let from = inside c.before.before.before.before in
+    let from = inside (goal.at.loop-at-smaller c).After-look-doubt in
     omega (arith, c.stretch-next.ensures.arc_le_arc, from.loop-at-test.true)
 
 pub loop-at-preserved : goal.loop-at-preserved
 loop-at-preserved c =
-    let at = loop_at (inside c.before.before.before.before) in
+    let at = loop_at (inside (goal.at.loop-at-preserved c).After-look-doubt) in
     (c.stretch-next.ensures.walked_2, omega (arith, c.stretch-next.ensures.arc_le_arc, at.loop-at.invariant.1))
 
 pub returns-then-quiet-at : goal.returns-then-quiet-at
 returns-then-quiet-at c = λ g.
     let calmed = c in
-    let at = ended calmed.before.before.before in
+    let at = ended (goal.at.returns-then-quiet-at calmed).After-quiet in
     let calm = calmed.quiet.result in
     let all = eqb at.loop-at.at.own (start_of at).args.hs.arcs in
     let h = holds (calm && all) c.if-quiet-at.true in

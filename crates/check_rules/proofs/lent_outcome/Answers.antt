@@ -9,23 +9,23 @@ start c =
     lent
 
 abbrev filled : After-links_outcome-arg-1 → After-fill_own
-filled c = c.before.before.before.before.before
+filled c = (goal.at.After-links_outcome-arg-1 c).After-fill_own
 
 abbrev starts_at : After-fill_own → After-starts
-starts_at c = c.before.before.before.before.before
+starts_at c = (goal.at.After-fill_own c).After-starts
 
 pub starts-requires : goal.starts-requires
 starts-requires c = let pre = ((start c).requires.judged, ((start c).requires.agreed, ((start c).requires.room, ((start c).requires.resting, ((start c).requires.limit_len))))) in tabled _ _ _ pre.judged.planned pre.room.starts
 
 pub fill_own-requires : goal.fill_own-requires
-fill_own-requires c = let pre = ((start c.before.before.before.before.before).requires.judged, ((start c.before.before.before.before.before).requires.agreed, ((start c.before.before.before.before.before).requires.room, ((start c.before.before.before.before.before).requires.resting, ((start c.before.before.before.before.before).requires.limit_len))))) in record { sound = pre.judged.sliced; kind_value = pre.judged.kind }
+fill_own-requires c = let pre = ((start (goal.at.fill_own-requires c).After-starts-arg-1).requires.judged, ((start (goal.at.fill_own-requires c).After-starts-arg-1).requires.agreed, ((start (goal.at.fill_own-requires c).After-starts-arg-1).requires.room, ((start (goal.at.fill_own-requires c).After-starts-arg-1).requires.resting, ((start (goal.at.fill_own-requires c).After-starts-arg-1).requires.limit_len))))) in record { sound = pre.judged.sliced; kind_value = pre.judged.kind }
 
 pub links_outcome-requires : goal.links_outcome-requires
 links_outcome-requires c =
-    let numbered = filled c.before.before in
+    let numbered = filled (goal.at.links_outcome-requires c).After-links_outcome-arg-1 in
     let own = numbered.fill_own.ensures in
     let made = (starts_at numbered).starts.ensures in
-    let pre = ((start (starts_at numbered).before).requires.judged, ((start (starts_at numbered).before).requires.agreed, ((start (starts_at numbered).before).requires.room, ((start (starts_at numbered).before).requires.resting, ((start (starts_at numbered).before).requires.limit_len))))) in
+    let pre = ((start (goal.at.After-starts (starts_at numbered)).After-starts-arg-1).requires.judged, ((start (goal.at.After-starts (starts_at numbered)).After-starts-arg-1).requires.agreed, ((start (goal.at.After-starts (starts_at numbered)).After-starts-arg-1).requires.room, ((start (goal.at.After-starts (starts_at numbered)).After-starts-arg-1).requires.resting, ((start (goal.at.After-starts (starts_at numbered)).After-starts-arg-1).requires.limit_len))))) in
     record { cases = record {
         planned = pre.judged.planned;
         sliced = pre.judged.sliced;

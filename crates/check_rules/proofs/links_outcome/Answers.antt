@@ -10,13 +10,13 @@ start c =
     lent
 
 abbrev start_of : After-arcs_breaker-other → Start
-start_of c = start c.before.before
+start_of c = start (goal.at.After-arcs_breaker-other c).After-slice_known-3-1
 
 abbrev arcs_at : Else-other-transitions → After-arcs_breaker-other
-arcs_at c = c.before.before.before
+arcs_at c = (goal.at.Else-other-transitions c).After-arcs_breaker-other
 
 pub arcs_breaker-other-requires : goal.arcs_breaker-other-requires
-arcs_breaker-other-requires c = let pre = ((start c.before).requires.cases, ((start c.before).requires.transitions_in_bounds, ((start c.before).requires.criterion_value, ((start c.before).requires.resting, ((start c.before).requires.limit_len, ((start c.before).requires.agreed)))))) in record { cases = pre.cases; transitions_in_bounds = pre.transitions_in_bounds; unbroken = pre.agreed.fourth }
+arcs_breaker-other-requires c = let pre = ((start (goal.at.arcs_breaker-other-requires c).After-slice_known-3-1).requires.cases, ((start (goal.at.arcs_breaker-other-requires c).After-slice_known-3-1).requires.transitions_in_bounds, ((start (goal.at.arcs_breaker-other-requires c).After-slice_known-3-1).requires.criterion_value, ((start (goal.at.arcs_breaker-other-requires c).After-slice_known-3-1).requires.resting, ((start (goal.at.arcs_breaker-other-requires c).After-slice_known-3-1).requires.limit_len, ((start (goal.at.arcs_breaker-other-requires c).After-slice_known-3-1).requires.agreed)))))) in record { cases = pre.cases; transitions_in_bounds = pre.transitions_in_bounds; unbroken = pre.agreed.fourth }
 
 pub returns-then-other-transitions : goal.returns-then-other-transitions
 returns-then-other-transitions c = broken-here 4 _ _ _ _ (range4 _ _) c.arcs_breaker-other.ensures c.if-other-transitions.true
@@ -26,18 +26,18 @@ criterion_missing-missing-requires c = let pre = ((start_of (arcs_at c)).require
 
 pub returns-then-missing-places : goal.returns-then-missing-places
 returns-then-missing-places c =
-    let arcs = arcs_at c.before.before in
+    let arcs = arcs_at (goal.at.returns-then-missing-places c).Else-other-transitions in
     broken-here 5 _ _ _ _ (range5 _ _ _) (c.criterion_missing-missing.ensures _ _ refl (start_of arcs).requires.cases.places) c.if-missing-places.true
     ∙ holds_here 4 _ _ _ _ (range4 _ _) arcs.arcs_breaker-other.ensures c.if-other-transitions.false
 
 pub movers_outcome-requires : goal.movers_outcome-requires
-movers_outcome-requires c = let pre = ((start_of (arcs_at c.before.before.before.before)).requires.cases, ((start_of (arcs_at c.before.before.before.before)).requires.transitions_in_bounds, ((start_of (arcs_at c.before.before.before.before)).requires.criterion_value, ((start_of (arcs_at c.before.before.before.before)).requires.resting, ((start_of (arcs_at c.before.before.before.before)).requires.limit_len, ((start_of (arcs_at c.before.before.before.before)).requires.agreed)))))) in record { cases = pre.cases; criterion_value = pre.criterion_value; resting = pre.resting; limit_len = pre.limit_len; agreed = pre.agreed }
+movers_outcome-requires c = let pre = ((start_of (arcs_at (goal.at.movers_outcome-requires c).Else-other-transitions)).requires.cases, ((start_of (arcs_at (goal.at.movers_outcome-requires c).Else-other-transitions)).requires.transitions_in_bounds, ((start_of (arcs_at (goal.at.movers_outcome-requires c).Else-other-transitions)).requires.criterion_value, ((start_of (arcs_at (goal.at.movers_outcome-requires c).Else-other-transitions)).requires.resting, ((start_of (arcs_at (goal.at.movers_outcome-requires c).Else-other-transitions)).requires.limit_len, ((start_of (arcs_at (goal.at.movers_outcome-requires c).Else-other-transitions)).requires.agreed)))))) in record { cases = pre.cases; criterion_value = pre.criterion_value; resting = pre.resting; limit_len = pre.limit_len; agreed = pre.agreed }
 
 pub returns : goal.returns
 returns c =
     let moved = c in
     let asked = moved in
-    let arcs = arcs_at asked.before.before.before.before.before.before.before.before.before in
+    let arcs = arcs_at (goal.at.returns asked).Else-other-transitions in
     moved.movers_outcome.ensures
     ∙ holds_here 5 _ _ _ _ (range5 _ _ _) (asked.criterion_missing-missing.ensures _ _ refl (start_of arcs).requires.cases.places) asked.if-missing-places.false
     ∙ holds_here 4 _ _ _ _ (range4 _ _) arcs.arcs_breaker-other.ensures asked.if-other-transitions.false

@@ -11,28 +11,28 @@ use Rattle.checker.proofs.judge_in.Goals as goal
 use Rattle.checker.proofs.judge_in.Goals.{After-decode, Start}
 
 abbrev call : After-decode → Start
-call c = c.before.before.before.before.before.before
+call c = (goal.at.After-decode c).Start
 
 pub slice_bounds-judge-end : goal.slice_bounds-judge-end
 slice_bounds-judge-end c =
     let decoded = c in
-    omega (arith, decoded.decode.auto.1.1.0, (call decoded.before.before).requires.q_in_bounds)
+    omega (arith, decoded.decode.auto.1.1.0, (call (goal.at.slice_bounds-judge-end decoded).After-decode).requires.q_in_bounds)
 
 pub slice_bounds-judge-end-2 : goal.slice_bounds-judge-end-2
 slice_bounds-judge-end-2 c =
     let decoded = c in
-    sym (length-take-le _ _ (omega (arith, decoded.decode.auto.1.1.0, (call decoded.before.before).requires.q_in_bounds)))
+    sym (length-take-le _ _ (omega (arith, decoded.decode.auto.1.1.0, (call (goal.at.slice_bounds-judge-end-2 decoded).After-decode).requires.q_in_bounds)))
 
 pub judge-requires : goal.judge-requires
 judge-requires c =
     let decoded = c in
-    let pre = ((call decoded.before.before).requires.sound, ((call decoded.before.before).requires.sound_2, ((call decoded.before.before).requires.kind_value, ((call decoded.before.before).requires.q_value, ((call decoded.before.before).requires.q_in_bounds))))) in
+    let pre = ((call (goal.at.judge-requires decoded).After-decode).requires.sound, ((call (goal.at.judge-requires decoded).After-decode).requires.sound_2, ((call (goal.at.judge-requires decoded).After-decode).requires.kind_value, ((call (goal.at.judge-requires decoded).After-decode).requires.q_value, ((call (goal.at.judge-requires decoded).After-decode).requires.q_in_bounds))))) in
     record { planned = pre.sound; sliced = pre.sound_2; kind = pre.kind_value; criterion = list-passed _ _ pre.q_value _ decoded.decode.ensures }
 
 pub returns : goal.returns
 returns c =
     let decoded = c in
-    let s = call decoded.before.before.before.before in
+    let s = call (goal.at.returns decoded).After-decode in
     let N = net_from s.args.plan.now s.args.hp in
     let S = slice_from s.args.slice.now s.args.hs in
     c.code.ensures

@@ -23,7 +23,7 @@ OthersDecide s =
 
 -- from where rules 1 to 3 hold, back to where each was looked at
 abbrev transitions_at : Else-p-hp → After-unknown_transition-j
-transitions_at c = c.before.before.before.before.before
+transitions_at c = (goal.at.Else-p-hp c).After-unknown_transition-j
 
 abbrev places_at : Else-p-hp → After-unknown_place-i
 places_at c = (transitions_at c).before.before.before
@@ -82,4 +82,4 @@ pub others_outcome-requires : goal.others_outcome-requires
 others_outcome-requires c = record { judged = (start c).requires; known_in = known c }
 
 pub returns : goal.returns
-returns c = c.others_outcome.ensures ∙ first_three c.before
+returns c = c.others_outcome.ensures ∙ first_three (goal.at.returns c).Else-p-hp

@@ -13,7 +13,7 @@ use Rattle.clients_normal.proofs.equal.Goals.{After-shared_slice_known-in-loop-i
 -- ---- the states: the head of a turn
 
 abbrev turn_of : After-shared_slice_known-in-loop-i-1 → In-loop-i
-turn_of c = c.before.before
+turn_of c = (goal.at.After-shared_slice_known-in-loop-i-1 c).In-loop-i
 
 below_a : (c : In-loop-i) → c.loop-i.i < length c.args.a.now
 below_a c = omega (arith, c.loop-i-test.true, c.requires.n_in_bounds)
@@ -32,13 +32,13 @@ bounds-b-i c = omega (arith, c.loop-i-test.true, c.requires.n_in_bounds_2)
 
 pub returns-then-a-i : goal.returns-then-a-i
 returns-then-a-i c =
-    let t = turn_of c.before in
+    let t = turn_of (goal.at.returns-then-a-i c).After-shared_slice_known-in-loop-i-1 in
     let s = t in
     unlike s.args.a.now s.args.b.now t.loop-i.i (below_a t) (below_b t) s.args.n t.loop-i-test.true c.if-a-i.true
 
 pub loop-i-preserved : goal.loop-i-preserved
 loop-i-preserved c =
-    let t = turn_of c.before in
+    let t = turn_of (goal.at.loop-i-preserved c).After-shared_slice_known-in-loop-i-1 in
     let s = t in
     let i = t.loop-i.i in
     (omega (arith, t.loop-i-test.true), rw (add-one i) (starts_more s.args.a.now s.args.b.now i (below_a t) (below_b t) t.loop-i.invariant.1 c.if-a-i.false))

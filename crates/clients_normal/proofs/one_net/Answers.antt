@@ -10,19 +10,19 @@ use Rattle.clients_normal.proofs.one_net.Goals.{After-length_of-m, After-normal-
 -- ---- the states: the first call and its refusal looked at; the second call and its refusal looked at; both lengths read
 
 abbrev first_of : After-number-refusal → After-normal-first
-first_of c = c.before.before.before
+first_of c = (goal.at.After-number-refusal c).After-normal-first
 
 abbrev start_of : After-normal-first → Start
-start_of c = c.before.before.before.before.before.before
+start_of c = (goal.at.After-normal-first c).Start
 
 abbrev second_of : After-number-other → After-normal-second
-second_of c = c.before.before.before
+second_of c = (goal.at.After-number-other c).After-normal-second
 
 abbrev judged : After-normal-second → After-number-refusal
-judged c = c.before.before.before
+judged c = (goal.at.After-normal-second c).After-number-refusal
 
 abbrev both_judged : After-length_of-m → After-number-other
-both_judged c = c.before.before.before
+both_judged c = (goal.at.After-length_of-m c).After-number-other
 
 bytes_of : (c : After-normal-first) → Bytes (start_of c).args.b.now
 unfolding Bytes
@@ -37,13 +37,13 @@ none_2 c = sym (both_judged c).number-other.ensures ∙ c.if-other-ne0.false
 
 pub returns-then-refusal-ne0 : goal.returns-then-refusal-ne0
 returns-then-refusal-ne0 c =
-    let n = first_of c.before in
+    let n = first_of (goal.at.returns-then-refusal-ne0 c).After-number-refusal in
     let s = start_of n in
     first-refused s.args.a.now s.args.b.now (length s.args.one.now) (length s.args.two.now) n.normal-first.ensures.answer c.number-refusal.ensures c.if-refusal-ne0.true
 
 pub returns-then-other-ne0 : goal.returns-then-other-ne0
 returns-then-other-ne0 c =
-    let again = second_of c.before in
+    let again = second_of (goal.at.returns-then-other-ne0 c).After-number-other in
     let n = first_of (judged again) in
     let s = start_of n in
     let f = (n.normal-first.ensures.answer, (n.normal-first.ensures.buffer, (n.normal-first.ensures.form))) in
@@ -53,41 +53,41 @@ returns-then-other-ne0 c =
 pub returns-then-n-m : goal.returns-then-n-m
 returns-then-n-m c =
     let l = c in
-    let again = second_of (both_judged l.before) in
+    let again = second_of (both_judged (goal.at.returns-then-n-m l).After-length_of-m) in
     let n = first_of (judged again) in
     let f = (n.normal-first.ensures.answer, (n.normal-first.ensures.buffer, (n.normal-first.ensures.form))) in
     let g = (again.normal-second.ensures.answer, (again.normal-second.ensures.buffer, (again.normal-second.ensures.form))) in
     let s = start_of n in
-    other-lengths s.args.a.now s.args.b.now _ _ s.args.two.now (length s.args.one.now) f.answer f.form g.answer g.buffer g.form (bytes_of n) (none again) (none_2 l.before) l.length_of-n.ensures l.length_of-m.ensures c.if-n-m.true
+    other-lengths s.args.a.now s.args.b.now _ _ s.args.two.now (length s.args.one.now) f.answer f.form g.answer g.buffer g.form (bytes_of n) (none again) (none_2 (goal.at.returns-then-n-m l).After-length_of-m) l.length_of-n.ensures l.length_of-m.ensures c.if-n-m.true
 
 pub equal-requires : goal.equal-requires
 equal-requires c =
     let t = c in
     let l = t in
-    let again = second_of (both_judged l.before) in
+    let again = second_of (both_judged (goal.at.equal-requires l).After-length_of-m) in
     let n = first_of (judged again) in
     let f = (n.normal-first.ensures.answer, (n.normal-first.ensures.buffer, (n.normal-first.ensures.form))) in
     let g = (again.normal-second.ensures.answer, (again.normal-second.ensures.buffer, (again.normal-second.ensures.form))) in
-    record { n_in_bounds = omega (arith, l.length_of-n.ensures, fits _ _ _ f.answer f.form (none again)); n_in_bounds_2 = omega (arith, t.if-n-m.false, l.length_of-m.ensures, fits _ _ _ g.answer g.form (none_2 l.before)) }
+    record { n_in_bounds = omega (arith, l.length_of-n.ensures, fits _ _ _ f.answer f.form (none again)); n_in_bounds_2 = omega (arith, t.if-n-m.false, l.length_of-m.ensures, fits _ _ _ g.answer g.form (none_2 (goal.at.equal-requires l).After-length_of-m)) }
 
 pub returns-then-equal : goal.returns-then-equal
 returns-then-equal c =
     let t = c in
     let l = t in
-    let again = second_of (both_judged l.before.before.before) in
+    let again = second_of (both_judged (goal.at.returns-then-equal l).After-length_of-m) in
     let n = first_of (judged again) in
     let f = (n.normal-first.ensures.answer, (n.normal-first.ensures.buffer, (n.normal-first.ensures.form))) in
     let g = (again.normal-second.ensures.answer, (again.normal-second.ensures.buffer, (again.normal-second.ensures.form))) in
     let s = start_of n in
-    same_bytes s.args.a.now s.args.b.now _ _ s.args.two.now (length s.args.one.now) f.answer f.form g.answer g.buffer g.form (bytes_of n) (none again) (none_2 l.before.before.before) l.length_of-n.ensures l.length_of-m.ensures t.if-n-m.false (c.equal.ensures.0 c.if-equal.true)
+    same_bytes s.args.a.now s.args.b.now _ _ s.args.two.now (length s.args.one.now) f.answer f.form g.answer g.buffer g.form (bytes_of n) (none again) (none_2 (goal.at.returns-then-equal l).After-length_of-m) l.length_of-n.ensures l.length_of-m.ensures t.if-n-m.false (c.equal.ensures.0 c.if-equal.true)
 
 pub returns : goal.returns
 returns c =
     let t = c in
     let l = t in
-    let again = second_of (both_judged l.before.before.before) in
+    let again = second_of (both_judged (goal.at.returns l).After-length_of-m) in
     let n = first_of (judged again) in
     let f = (n.normal-first.ensures.answer, (n.normal-first.ensures.buffer, (n.normal-first.ensures.form))) in
     let g = (again.normal-second.ensures.answer, (again.normal-second.ensures.buffer, (again.normal-second.ensures.form))) in
     let s = start_of n in
-    other-bytes s.args.a.now s.args.b.now _ _ s.args.two.now (length s.args.one.now) f.answer f.form g.answer g.buffer g.form (bytes_of n) (none again) (none_2 l.before.before.before) l.length_of-n.ensures l.length_of-m.ensures t.if-n-m.false (λ e. differ (sym c.if-equal.false ∙ c.equal.ensures.1 e))
+    other-bytes s.args.a.now s.args.b.now _ _ s.args.two.now (length s.args.one.now) f.answer f.form g.answer g.buffer g.form (bytes_of n) (none again) (none_2 (goal.at.returns l).After-length_of-m) l.length_of-n.ensures l.length_of-m.ensures t.if-n-m.false (λ e. differ (sym c.if-equal.false ∙ c.equal.ensures.1 e))

@@ -9,10 +9,10 @@ use Rattle.clients_normal.proofs.replay.Goals.{After-length_of-end, After-normal
 -- ---- the states: the normal form asked for, its refusal looked at, its length read
 
 abbrev normal_of : After-number-refusal → After-normal-first
-normal_of c = c.before.before.before
+normal_of c = (goal.at.After-number-refusal c).After-normal-first
 
 abbrev judged : After-length_of-end → After-number-refusal
-judged c = c.before.before
+judged c = (goal.at.After-length_of-end c).After-number-refusal
 
 -- no refusal
 none : (c : After-length_of-end) → (file_numbers (normal_of (judged c)).normal-first.result).refusal ≡ 0
@@ -33,5 +33,5 @@ pub returns : goal.returns
 returns c =
     let r = (c.replay-2.ensures.answer, (c.replay-2.ensures.marking)) in
     let l = c in
-    let n = ((normal_of (judged l.before.before.before.before)).normal-first.ensures.answer, ((normal_of (judged l.before.before.before.before)).normal-first.ensures.buffer, ((normal_of (judged l.before.before.before.before)).normal-first.ensures.form))) in
-    record { answer = r.answer ∙ same_answer _ _ _ n.answer n.form (none l.before.before.before.before) l.length_of-end.ensures _ _; marking = r.marking ∙ same-marking _ _ _ n.answer n.form (none l.before.before.before.before) l.length_of-end.ensures _ _ }
+    let n = ((normal_of (judged (goal.at.returns l).After-length_of-end)).normal-first.ensures.answer, ((normal_of (judged (goal.at.returns l).After-length_of-end)).normal-first.ensures.buffer, ((normal_of (judged (goal.at.returns l).After-length_of-end)).normal-first.ensures.form))) in
+    record { answer = r.answer ∙ same_answer _ _ _ n.answer n.form (none (goal.at.returns l).After-length_of-end) l.length_of-end.ensures _ _; marking = r.marking ∙ same-marking _ _ _ n.answer n.form (none (goal.at.returns l).After-length_of-end) l.length_of-end.ensures _ _ }

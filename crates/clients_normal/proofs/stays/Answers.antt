@@ -9,19 +9,19 @@ use Rattle.clients_normal.proofs.stays.Goals.{After-length_of-m, After-length_of
 -- ---- the states: the first call, its refusal looked at, its length read; the second call
 
 abbrev first_of : After-number-refusal → After-normal-first
-first_of c = c.before.before.before
+first_of c = (goal.at.After-number-refusal c).After-normal-first
 
 abbrev judged : After-length_of-n → After-number-refusal
-judged c = c.before.before
+judged c = (goal.at.After-length_of-n c).After-number-refusal
 
 abbrev sized : After-normal-second → After-length_of-n
-sized c = c.before.before.before
+sized c = (goal.at.After-normal-second c).After-length_of-n
 
 abbrev second_of : After-length_of-m → After-normal-second
-second_of c = c.before.before.before
+second_of c = (goal.at.After-length_of-m c).After-normal-second
 
 abbrev start_of : After-normal-first → Start
-start_of c = c.before.before.before.before.before
+start_of c = (goal.at.After-normal-first c).Start
 
 -- no refusal
 none : (c : After-length_of-n) → (file_numbers (first_of (judged c)).normal-first.result).refusal ≡ 0
@@ -30,18 +30,18 @@ none c = sym (judged c).number-refusal.ensures ∙ c.if-refusal-ne0.false
 pub slice_bounds-normal-end : goal.slice_bounds-normal-end
 slice_bounds-normal-end c =
     let l = c in
-    let n = ((first_of (judged l.before)).normal-first.ensures.answer, ((first_of (judged l.before)).normal-first.ensures.buffer, ((first_of (judged l.before)).normal-first.ensures.form))) in
-    omega (arith, l.length_of-n.ensures, fits _ _ _ n.answer n.form (none l.before))
+    let n = ((first_of (judged (goal.at.slice_bounds-normal-end l).After-length_of-n)).normal-first.ensures.answer, ((first_of (judged (goal.at.slice_bounds-normal-end l).After-length_of-n)).normal-first.ensures.buffer, ((first_of (judged (goal.at.slice_bounds-normal-end l).After-length_of-n)).normal-first.ensures.form))) in
+    omega (arith, l.length_of-n.ensures, fits _ _ _ n.answer n.form (none (goal.at.slice_bounds-normal-end l).After-length_of-n))
 
 pub slice_bounds-normal-end-2 : goal.slice_bounds-normal-end-2
 slice_bounds-normal-end-2 c =
     let l = c in
-    let n = ((first_of (judged l.before)).normal-first.ensures.answer, ((first_of (judged l.before)).normal-first.ensures.buffer, ((first_of (judged l.before)).normal-first.ensures.form))) in
-    simp length-take (omega (arith, l.length_of-n.ensures, fits _ _ _ n.answer n.form (none l.before)))
+    let n = ((first_of (judged (goal.at.slice_bounds-normal-end-2 l).After-length_of-n)).normal-first.ensures.answer, ((first_of (judged (goal.at.slice_bounds-normal-end-2 l).After-length_of-n)).normal-first.ensures.buffer, ((first_of (judged (goal.at.slice_bounds-normal-end-2 l).After-length_of-n)).normal-first.ensures.form))) in
+    simp length-take (omega (arith, l.length_of-n.ensures, fits _ _ _ n.answer n.form (none (goal.at.slice_bounds-normal-end-2 l).After-length_of-n)))
 
 pub returns-then-m-n : goal.returns-then-m-n
 returns-then-m-n c =
-    let again = second_of c.before in
+    let again = second_of (goal.at.returns-then-m-n c).After-length_of-m in
     let l = sized again in
     let n = first_of (judged l) in
     let f = (n.normal-first.ensures.answer, (n.normal-first.ensures.buffer, (n.normal-first.ensures.form))) in
@@ -50,7 +50,7 @@ returns-then-m-n c =
 
 pub equal-requires : goal.equal-requires
 equal-requires c =
-    let again = second_of c.before in
+    let again = second_of (goal.at.equal-requires c).After-length_of-m in
     let l = sized again in
     let n = first_of (judged l) in
     let f = (n.normal-first.ensures.answer, (n.normal-first.ensures.buffer, (n.normal-first.ensures.form))) in
@@ -61,7 +61,7 @@ equal-requires c =
 
 pub returns : goal.returns
 returns c =
-    let again = second_of c.before.before in
+    let again = second_of (goal.at.returns c).After-length_of-m in
     let l = sized again in
     let n = first_of (judged l) in
     let f = (n.normal-first.ensures.answer, (n.normal-first.ensures.buffer, (n.normal-first.ensures.form))) in

@@ -10,16 +10,16 @@ abbrev Turn : Type 0
 Turn = At-loop-j
 
 abbrev call : Turn → Start
-call c = c.before.before.before.before
+call c = (goal.at.At-loop-j c).Start
 
 abbrev Begun : Type 0
 Begun = After-begin-from
 
 abbrev turn_of : Begun → Turn
-turn_of c = c.before.before.before.before.before
+turn_of c = (goal.at.After-begin-from c).At-loop-j
 
 abbrev begun : After-link-j → Begun
-begun c = c.before.before.before
+begun c = (goal.at.After-link-j c).After-begin-from
 
 -- the arc of the turn, to be linked
 next_at : (c : Begun) → let t = turn_of c in let s = call t in
@@ -33,17 +33,17 @@ pub loop-j-init : goal.loop-j-init
 loop-j-init c = linking_none _ _ _ _ c.requires.by_index
 
 pub link-j-requires : goal.link-j-requires
-link-j-requires c = let n = next_at c.before.before in (n.room, n.way)
+link-j-requires c = let n = next_at (goal.at.link-j-requires c).After-begin-from in (n.room, n.way)
 
 pub loop-j-smaller : goal.loop-j-smaller
 loop-j-smaller c =
     let done = c in
-    omega (arith, linked_on done.link-j.ensures, (begun done.before.before.before.before).loop-j-test.true)
+    omega (arith, linked_on done.link-j.ensures, (begun (goal.at.loop-j-smaller done).After-link-j).loop-j-test.true)
 
 pub loop-j-preserved : goal.loop-j-preserved
 loop-j-preserved c =
     let done = c in
-    (next_at (begun done.before.before.before.before)).more _ _ (search rules) (search rules) _ done.link-j.ensures
+    (next_at (begun (goal.at.loop-j-preserved done).After-link-j)).more _ _ (search rules) (search rules) _ done.link-j.ensures
 
 pub shape_of-head : goal.shape_of-head
 shape_of-head c = c.loop-j.invariant.head-long
@@ -54,5 +54,5 @@ shape_of-next c = c.loop-j.invariant.next-long
 pub returns : goal.returns
 returns c =
     let t = c in
-    let s = call t.before.before in
+    let s = call (goal.at.returns t).At-loop-j in
     linking_end _ _ _ _ _ _ _ _ _ t.loop-j.invariant c.loop-j-test.false s.requires.places_in_bounds.0 s.requires.places_in_bounds.1

@@ -67,7 +67,7 @@ ones c =
 
 pub returns-then-given-taken : goal.returns-then-given-taken
 returns-then-given-taken c =
-    let x = ones c.before in
+    let x = ones (goal.at.returns-then-given-taken c).After-get16-given in
     record {
       own = x.1;
       until = _;
@@ -79,7 +79,7 @@ returns-then-given-taken c =
 
 pub returns-then-taken-given : goal.returns-then-taken-given
 returns-then-taken-given c =
-    let x = ones c.before.before.before in
+    let x = ones (goal.at.returns-then-taken-given c).After-get16-given in
     record {
       own = x.1;
       until = _;
@@ -102,7 +102,7 @@ shape_of-head c = ap length c.link_arc.ensures.head-is ∙ simp length-set
 pub returns : goal.returns
 returns c =
     let unlike = c in
-    let x = ones unlike.before.before.before.before.before.before.before.before.before.before in
+    let x = ones (goal.at.returns unlike).After-get16-given in
     record {
       own = x.1;
       until = _;

@@ -8,13 +8,13 @@ use Rattle.cut_index.proofs.link_groups.Goals.{After-group-given, Else-given-tak
 -- ---- the states: both groups summed, then the one that gives not the lighter, then not as heavy
 
 abbrev call : After-group-given → Start
-call c = c.before.before.before.before.before.before
+call c = (goal.at.After-group-given c).Start
 
 abbrev summed : Else-given-taken → After-group-given
-summed c = c.before.before.before
+summed c = (goal.at.Else-given-taken c).After-group-given
 
 abbrev not_less : Else-taken-given → Else-given-taken
-not_less c = c.before.before.before.before
+not_less c = (goal.at.Else-taken-given c).Else-given-taken
 
 pub group-taken-requires : goal.group-taken-requires
 group-taken-requires c =
@@ -40,7 +40,7 @@ returns-then-given-taken c =
 
 pub returns-then-taken-given : goal.returns-then-taken-given
 returns-then-taken-given c =
-    let sums = summed c.before.before.before.before in
+    let sums = summed (goal.at.returns-then-taken-given c).Else-given-taken in
     let taken = sums.group-taken in
     let given = sums.group-given in
     record {
@@ -54,7 +54,7 @@ returns-then-taken-given c =
 
 pub link_arc-requires : goal.link_arc-requires
 link_arc-requires c =
-    let stands = (call (summed (not_less c.before.before))).requires.0.stands in
+    let stands = (call (summed (not_less (goal.at.link_arc-requires c).Else-taken-given))).requires.0.stands in
     (omega (arith, stands.few, stands.some), search rules, search rules, search rules)
 
 pub shape_of-head : goal.shape_of-head
@@ -63,14 +63,14 @@ shape_of-head c = ap length c.link_arc.ensures.head-is ∙ simp length-set
 pub returns : goal.returns
 returns c =
     let more = c in
-    let sums = summed (not_less more.before.before.before.before.before.before.before) in
+    let sums = summed (not_less (goal.at.returns more).Else-taken-given) in
     let taken = sums.group-taken in
     let given = sums.group-given in
     record {
       own = given.ensures.0;
       until = taken.result.end;
       group = taken.ensures.0;
-      less = λ l. absurd (omega (arith, l, (not_less more.before.before.before.before.before.before.before).if-given-taken.false, taken.ensures.1, given.ensures.1));
+      less = λ l. absurd (omega (arith, l, (not_less (goal.at.returns more).Else-taken-given).if-given-taken.false, taken.ensures.1, given.ensures.1));
       level = λ e. absurd (more.if-taken-given.false (taken.ensures.1 ∙ e ∙ sym given.ensures.1));
       more = λ l. c.link_arc.ensures;
     }

@@ -16,35 +16,35 @@ loop-e-init c = let start = c in λ d p way last. following_none _ start.args.h 
 pub overflow_sub-e : goal.overflow_sub-e
 overflow_sub-e c =
     let start = c in
-    let x = along c.before in
+    let x = along (goal.at.overflow_sub-e c).At-loop-e in
     let n = c.loop-e-test.true in
     let b = row-begun _ start.args.h start.requires.0 _ start.requires.1 _ _ _ _ _ _ _ _ _ x n in search rules
 
 pub keep_transition-m-requires : goal.keep_transition-m-requires
 keep_transition-m-requires c =
     let start = c in
-    let x = along c.before.before.before in
+    let x = along (goal.at.keep_transition-m-requires c).At-loop-e in
     let n = c.loop-e-test.true in
     record { sound = (start.requires.0, row_from _ start.args.h start.requires.0 _ start.requires.1 _ _ _ _ _ _ _ _ _ x n, row-split _ start.args.h start.requires.0 _ start.requires.1 _ _ _ _ _ _ _ _ _ x n); capped_value = (start.requires.3, x.grown.sets) }
 
 pub overflow_sub-e-in-loop-e : goal.overflow_sub-e-in-loop-e
 overflow_sub-e-in-loop-e c =
     let start = c in
-    let x = along c.before.before.before.before in
+    let x = along (goal.at.overflow_sub-e-in-loop-e c).At-loop-e in
     let n = c.loop-e-test.true in
     let b = row-arc _ start.args.h start.requires.0 _ start.requires.1 _ _ _ _ _ _ _ _ _ x n in search rules
 
 pub offset_bounds-next-e : goal.offset_bounds-next-e
 offset_bounds-next-e c =
     let start = c in
-    let x = along c.before.before.before.before in
+    let x = along (goal.at.offset_bounds-next-e c).At-loop-e in
     let n = c.loop-e-test.true in
     let b = row_below _ start.args.h start.requires.0 _ start.requires.1 _ _ _ _ _ _ _ _ _ x n in let u = start.requires.0.placed.arcs in search rules
 
 pub bounds-next-e : goal.bounds-next-e
 bounds-next-e c =
     let start = c in
-    let x = along c.before.before.before.before.before in
+    let x = along (goal.at.bounds-next-e c).At-loop-e in
     let n = c.loop-e-test.true in
     let b = row_below _ start.args.h start.requires.0 _ start.requires.1 _ _ _ _ _ _ _ _ _ x n in let u = start.requires.1.long in search rules
 
@@ -54,7 +54,7 @@ overflow_cast-e-in-loop-e c = omega (arith, c.type_inv.next (c.loop-e.e % 65536 
 pub loop-e-smaller : goal.loop-e-smaller
 loop-e-smaller c =
     let start = c in
-    let x = along c.before.before.before.before.before in
+    let x = along (goal.at.loop-e-smaller c).At-loop-e in
     let n = c.loop-e-test.true in
     row-less _ start.args.h start.requires.0 _ start.requires.1 _ _ _ _ _ _ _ _ _ x n
 

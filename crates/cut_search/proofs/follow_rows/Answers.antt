@@ -8,7 +8,7 @@ use Rattle.cut_search.proofs.follow_rows.Goals as goal
 use Rattle.cut_search.proofs.follow_rows.Goals.{Joined-draws_both, Start}
 
 abbrev call : Joined-draws_both → Start
-call c = c.before.before.before.before.before
+call c = (goal.at.Joined-draws_both c).Start
 
 pub follow-m-requires : goal.follow-m-requires
 follow-m-requires c =
@@ -29,11 +29,11 @@ halfway c =
 pub follow-requires : goal.follow-requires
 follow-requires c =
     let joined = c in
-    let s = call joined.before.before.before in
-    (s.requires.0, nexts-of _ s.args.h _ _ s.requires.1, row_at _ s.args.h _ _ s.requires.1 _ (omega (arith, s.requires.2)), s.requires.3, (halfway joined.before.before.before).grown.sets)
+    let s = call (goal.at.follow-requires joined).Joined-draws_both in
+    (s.requires.0, nexts-of _ s.args.h _ _ s.requires.1, row_at _ s.args.h _ _ s.requires.1 _ (omega (arith, s.requires.2)), s.requires.3, (halfway (goal.at.follow-requires joined).Joined-draws_both).grown.sets)
 
 pub returns : goal.returns
 returns c =
     let joined = c in
-    let s = call joined.before.before.before.before in
-    turned _ s.args.h _ _ _ _ _ _ _ _ _ _ _ _ (halfway joined.before.before.before.before) (c.follow.ensures 1 s.args.p (omega arith) (raises _ s.args.h _ _ s.requires.1 _ s.requires.2))
+    let s = call (goal.at.returns joined).Joined-draws_both in
+    turned _ s.args.h _ _ _ _ _ _ _ _ _ _ _ _ (halfway (goal.at.returns joined).Joined-draws_both) (c.follow.ensures 1 s.args.p (omega arith) (raises _ s.args.h _ _ s.requires.1 _ s.requires.2))

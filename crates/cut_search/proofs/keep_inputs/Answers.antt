@@ -14,13 +14,13 @@ abbrev Turn : Type 0
 Turn = At-loop-j
 
 abbrev call : Turn → Start
-call c = c.before.before
+call c = (goal.at.At-loop-j c).Start
 
 abbrev Read : Type 0
 Read = After-arc-a
 
 abbrev turn_of : Read → Turn
-turn_of c = c.before.before
+turn_of c = (goal.at.After-arc-a c).At-loop-j
 
 -- the transition and the direction of the arc as one number
 sum : (c : Read) → let s = call (turn_of c) in let j = (turn_of c).loop-j.j in
@@ -33,14 +33,14 @@ loop-j-init c = let start = c in inputs-none _ start.args.h start.requires.0 _ _
 pub returns-then-a-t : goal.returns-then-a-t
 returns-then-a-t c =
     let read = c in
-    let t = turn_of read.before.before.before in
+    let t = turn_of (goal.at.returns-then-a-t read).After-arc-a in
     let s = call t in
-    inputs-stop _ s.args.h s.requires.0 _ _ s.requires.1 s.requires.2 _ _ _ _ _ t.loop-j.invariant read.loop-j-test.true (λ e. c.if-a-t.true (sum read.before.before.before ∙ e))
+    inputs-stop _ s.args.h s.requires.0 _ _ s.requires.1 s.requires.2 _ _ _ _ _ t.loop-j.invariant read.loop-j-test.true (λ e. c.if-a-t.true (sum (goal.at.returns-then-a-t read).After-arc-a ∙ e))
 
 pub keep-m-requires : goal.keep-m-requires
 keep-m-requires c =
     let read = c in
-    let t = turn_of read.before.before.before.before in
+    let t = turn_of (goal.at.keep-m-requires read).After-arc-a in
     let s = call t in
     let good = good-at s.args.file.now s.args.h s.requires.0 t.loop-j.j read.loop-j-test.true in
     (omega (arith, ap (λ (a : Arc). a.place) read.arc-a.ensures.0, s.requires.0.placed.places, good.place), t.loop-j.invariant.kept.long)
@@ -48,12 +48,12 @@ keep-m-requires c =
 pub loop-j-preserved : goal.loop-j-preserved
 loop-j-preserved c =
     let read = c in
-    let t = turn_of read.before.before.before.before.before in
+    let t = turn_of (goal.at.loop-j-preserved read).After-arc-a in
     let s = call t in
     inputs-more _ s.args.h s.requires.0 _ _ s.requires.1 s.requires.2 _ _ _ _ _ t.loop-j.invariant read.loop-j-test.true
-    (sym (sum read.before.before.before.before.before) ∙ c.if-a-t.false) _ _ _ (ap (λ (a : Arc). a.place) read.arc-a.ensures.0) c.keep-m.ensures
+    (sym (sum (goal.at.loop-j-preserved read).After-arc-a) ∙ c.if-a-t.false) _ _ _ (ap (λ (a : Arc). a.place) read.arc-a.ensures.0) c.keep-m.ensures
 
 pub returns : goal.returns
 returns c =
-    let s = call c.before in
+    let s = call (goal.at.returns c).At-loop-j in
     inputs-all _ s.args.h s.requires.0 _ _ s.requires.1 s.requires.2 _ _ _ _ _ c.loop-j.invariant c.loop-j-test.false

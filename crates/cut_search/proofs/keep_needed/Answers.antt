@@ -13,13 +13,13 @@ abbrev Turn : Type 0
 Turn = At-loop-j
 
 abbrev call : Turn → Start
-call c = c.before.before
+call c = (goal.at.At-loop-j c).Start
 
 abbrev Read : Type 0
 Read = After-arc-a
 
 abbrev turn_of : Read → Turn
-turn_of c = c.before.before
+turn_of c = (goal.at.After-arc-a c).At-loop-j
 
 -- the transition of the arc
 same : (c : Read) → let s = call (turn_of c) in c.arc-a.result.transition ≡ transition_at s.args.file.now s.args.h.arcstart (turn_of c).loop-j.j
@@ -31,14 +31,14 @@ loop-j-init c = let s = c in needed-none _ s.args.h s.requires.0 _ _ s.requires.
 pub returns-then-a-t : goal.returns-then-a-t
 returns-then-a-t c =
     let read = c in
-    let t = turn_of read.before.before in
+    let t = turn_of (goal.at.returns-then-a-t read).After-arc-a in
     let s = call t in
-    needed-stop _ s.args.h s.requires.0 _ _ s.requires.2 _ _ _ _ _ t.loop-j.invariant read.loop-j-test.true (λ e. c.if-a-t.true (same read.before.before ∙ e))
+    needed-stop _ s.args.h s.requires.0 _ _ s.requires.2 _ _ _ _ _ t.loop-j.invariant read.loop-j-test.true (λ e. c.if-a-t.true (same (goal.at.returns-then-a-t read).After-arc-a ∙ e))
 
 pub keep_place-m-requires : goal.keep_place-m-requires
 keep_place-m-requires c =
     let read = c in
-    let t = turn_of read.before.before.before in
+    let t = turn_of (goal.at.keep_place-m-requires read).After-arc-a in
     let s = call t in
     let good = good-at s.args.file.now s.args.h s.requires.0 t.loop-j.j read.loop-j-test.true in
     (s.requires.0, omega (arith, ap (λ (a : Arc). a.place) read.arc-a.ensures.0, good.place), t.loop-j.invariant.kept.long)
@@ -46,12 +46,12 @@ keep_place-m-requires c =
 pub loop-j-preserved : goal.loop-j-preserved
 loop-j-preserved c =
     let read = c in
-    let t = turn_of read.before.before.before.before in
+    let t = turn_of (goal.at.loop-j-preserved read).After-arc-a in
     let s = call t in
     needed-more _ s.args.h s.requires.0 _ _ s.requires.2 _ _ _ _ _ t.loop-j.invariant read.loop-j-test.true
-    (sym (same read.before.before.before.before) ∙ c.if-a-t.false) _ read.arc-a.ensures.0 _ _ c.keep_place-m.ensures
+    (sym (same (goal.at.loop-j-preserved read).After-arc-a) ∙ c.if-a-t.false) _ read.arc-a.ensures.0 _ _ c.keep_place-m.ensures
 
 pub returns : goal.returns
 returns c =
-    let s = call c.before in
+    let s = call (goal.at.returns c).At-loop-j in
     needed-all _ s.args.h s.requires.0 _ _ s.requires.2 _ _ _ _ _ c.loop-j.invariant c.loop-j-test.false

@@ -9,7 +9,7 @@ use Rattle.cut_search.proofs.keep_place.Goals.{After-cap, Start}
 -- ---- the states: the call, the cap of an output's place read
 
 abbrev call : After-cap → Start
-call c = c.before.before.before.before
+call c = (goal.at.After-cap c).Start
 
 pub returns-then-a-eq0 : goal.returns-then-a-eq0
 returns-then-a-eq0 c =
@@ -20,7 +20,7 @@ returns-then-a-eq0 c =
 pub returns-then-cap-eq0 : goal.returns-then-cap-eq0
 returns-then-cap-eq0 c =
     let read = c in
-    let s = call read.before in
+    let s = call (goal.at.returns-then-cap-eq0 read).After-cap in
     let N = net_from s.args.file.now s.args.h in
     let none : N.cap s.args.a.place ≡ 0 = omega (arith, read.cap.ensures.0, c.if-cap-eq0.true) in
     place-left _ _ _ _ (not-needed N s.args.a read.if-a-eq0.false none) s.requires.2
@@ -28,7 +28,7 @@ returns-then-cap-eq0 c =
 pub returns : goal.returns
 returns c =
     let read = c in
-    let s = call read.before.before.before in
+    let s = call (goal.at.returns read).After-cap in
     let N = net_from s.args.file.now s.args.h in
     let some : 0 < N.cap s.args.a.place = omega (arith, read.cap.ensures.0, c.if-cap-eq0.false) in
     place_kept _ _ _ _ (needed-capped N s.args.a some) _ _ c.keep-2.ensures

@@ -21,13 +21,13 @@ use Rattle.cut_search.proofs.keep_transition.Goals.{After-arc-a, After-contains,
 -- ---- the states: the call, the arc read, whether its transition is kept known, the transition put in
 
 abbrev call : After-arc-a → Start
-call c = c.before.before.before
+call c = (goal.at.After-arc-a c).Start
 
 abbrev read : After-contains → After-arc-a
-read c = c.before
+read c = (goal.at.After-contains c).After-arc-a
 
 abbrev asked : After-insert → After-contains
-asked c = c.before.before.before
+asked c = (goal.at.After-insert c).After-contains
 
 -- the transition of the arc, which is one of the net
 same : (c : After-arc-a) → let s = call c in c.arc-a.result.transition ≡ transition_at s.args.file.now s.args.h.arcstart s.args.from
@@ -44,13 +44,13 @@ contains-requires c = few c
 
 pub returns-then-contains : goal.returns-then-contains
 returns-then-contains c =
-    let a = read c.before in
+    let a = read (goal.at.returns-then-contains c).After-contains in
     let s = call a in
     transition-known (needs_of (net_from s.args.file.now s.args.h)) _ _ (same a) _ _ _ (sym c.contains.ensures ∙ c.if-contains.true) s.requires.capped_value.1
 
 pub insert-requires : goal.insert-requires
 insert-requires c =
-    let a = read c.before.before in
+    let a = read (goal.at.insert-requires c).After-contains in
     (omega (arith, few a), (call a).requires.capped_value.1.transitions-long)
 
 -- what both ways of keeping places ask
@@ -75,17 +75,17 @@ new c m P kept =
     transition-new (needs_of (net_from s.args.file.now s.args.h)) _ _ (same a) _ _ _ _ _ _ (sym (asked c).contains.ensures ∙ c.if-contains.false) c.insert.ensures kept
 
 pub keep_needed-requires : goal.keep_needed-requires
-keep_needed-requires c = asks c.before.before
+keep_needed-requires c = asks (goal.at.keep_needed-requires c).After-insert
 
 pub returns-then-capped : goal.returns-then-capped
-returns-then-capped c = new c.before.before.before _ _ c.keep_needed.ensures
+returns-then-capped c = new (goal.at.returns-then-capped c).After-insert _ _ c.keep_needed.ensures
 
 pub keep_inputs-requires : goal.keep_inputs-requires
-keep_inputs-requires c = asks c.before.before
+keep_inputs-requires c = asks (goal.at.keep_inputs-requires c).After-insert
 
 pub returns : goal.returns
 returns c =
     let put = c in
-    let s = call (read (asked put.before.before.before)) in
+    let s = call (read (asked (goal.at.returns put).After-insert)) in
     let other : eqb s.args.h.edition 2 ≡ false = sym s.requires.capped_value.0 ∙ c.if-capped.false in
-    new put.before.before.before _ _ (places-as _ _ _ _ _ _ c.keep_inputs.ensures (needs-inputs s.args.file.now s.args.h other _))
+    new (goal.at.returns put).After-insert _ _ (places-as _ _ _ _ _ _ c.keep_inputs.ensures (needs-inputs s.args.file.now s.args.h other _))

@@ -24,10 +24,10 @@ passes k e z = rw (← e, z)
 -- ---- the states: the call, a slice with good arcs
 
 abbrev call : Else-h-eq0 → Start
-call c = c.before.before.before.before.before
+call c = (goal.at.Else-h-eq0 c).Start
 
 abbrev slice_of : After-struct_known-3-1 → Else-h-eq0
-slice_of c = c.before.before.before.before
+slice_of c = (goal.at.After-struct_known-3-1 c).Else-h-eq0
 
 slice_is : (c : Else-h-eq0) → let s = (call c).args.file.now in let h = (call c).args.h in
     links_refusal s h ≡ or_else (table_refusal s h.originstart 0 h.places) (table_refusal s (h.originstart + 2 * h.places) 0 h.transitions)
@@ -50,13 +50,13 @@ pub refusal-unsorted-requires : goal.refusal-unsorted-requires
 refusal-unsorted-requires c = omega (arith, origins_fit c)
 
 pub returns-then-unsorted-ne0 : goal.returns-then-unsorted-ne0
-returns-then-unsorted-ne0 c = sym (slice_is c.before.before ∙ rw (← c.refusal-unsorted.ensures, or_else_stop _ _ c.if-unsorted-ne0.true))
+returns-then-unsorted-ne0 c = sym (slice_is (goal.at.returns-then-unsorted-ne0 c).Else-h-eq0 ∙ rw (← c.refusal-unsorted.ensures, or_else_stop _ _ c.if-unsorted-ne0.true))
 
 pub refusal-requires : goal.refusal-requires
 refusal-requires c = let told = omega (arith, origins_fit (slice_of c)) in record { count_in_bounds = told.0; places_bound = told.1 }
 
 pub returns : goal.returns
 returns c =
-    let slice = slice_of c.before in
+    let slice = slice_of (goal.at.returns c).After-struct_known-3-1 in
     let places-rise = c in
     sym (slice_is slice ∙ passes _ places-rise.refusal-unsorted.ensures places-rise.if-unsorted-ne0.false ∙ sym c.refusal.ensures)

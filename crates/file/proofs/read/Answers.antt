@@ -32,7 +32,7 @@ pub refusal-broken-requires : goal.refusal-broken-requires
 refusal-broken-requires c = ltb-false _ _ (or-false _ _ c.if-n.false).0
 
 pub returns-then-broken-ne0 : goal.returns-then-broken-ne0
-returns-then-broken-ne0 c = by_trailer _ _ (length_right c.before.before.before) _ (trailer_is c.before) c.if-broken-ne0.true
+returns-then-broken-ne0 c = by_trailer _ _ (length_right (goal.at.returns-then-broken-ne0 c).Else-n) _ (trailer_is (goal.at.returns-then-broken-ne0 c).After-refusal-broken) c.if-broken-ne0.true
 
 pub header-h-requires : goal.header-h-requires
 header-h-requires c =
@@ -47,7 +47,7 @@ body_refusal-broken-requires c =
     rw c.header-h.ensures (trailer_placed _ _ _ e (ltb-false _ _ right.0) (ltb-false _ _ right.1))
 
 pub returns-then-broken-ne0-2 : goal.returns-then-broken-ne0-2
-returns-then-broken-ne0-2 c = by_body _ _ (length_right c.before.before.before.before.before.before) _ (trailer_is c.before.before.before.before) c.if-broken-ne0.false _ (header_is c.before.before) _ c.body_refusal-broken.ensures c.if-broken-ne0-2.true
+returns-then-broken-ne0-2 c = by_body _ _ (length_right (goal.at.returns-then-broken-ne0-2 c).Else-n) _ (trailer_is (goal.at.returns-then-broken-ne0-2 c).After-refusal-broken) c.if-broken-ne0.false _ (header_is (goal.at.returns-then-broken-ne0-2 c).After-header-h) _ c.body_refusal-broken.ensures c.if-broken-ne0-2.true
 
 pub returns : goal.returns
-returns c = by_all _ _ (length_right c.before.before.before.before.before.before) _ (trailer_is c.before.before.before.before) c.if-broken-ne0.false _ (header_is c.before.before) _ c.body_refusal-broken.ensures c.if-broken-ne0-2.false
+returns c = by_all _ _ (length_right (goal.at.returns c).Else-n) _ (trailer_is (goal.at.returns c).After-refusal-broken) c.if-broken-ne0.false _ (header_is (goal.at.returns c).After-header-h) _ c.body_refusal-broken.ensures c.if-broken-ne0-2.false

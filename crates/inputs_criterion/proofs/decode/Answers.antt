@@ -13,7 +13,7 @@ reached : (c : At-loop-i) → length c.loop-i.list ≡ length c.args.list.now
 reached c = let first = c in c.loop-i.invariant.1 ∙ length-set first.args.list.now 0 first.get16.result
 
 inside : (c : In-loop-i) → c.loop-i.i < length c.loop-i.list
-inside c = omega (arith, reached c.before, c.loop-i-test.true, c.requires)
+inside c = omega (arith, reached (goal.at.In-loop-i c).At-loop-i, c.loop-i-test.true, c.requires)
 
 -- ---- the needs
 
@@ -30,7 +30,7 @@ loop-i-init c =
     )
 
 pub bounds-list-i : goal.bounds-list-i
-bounds-list-i c = inside c.before
+bounds-list-i c = inside (goal.at.bounds-list-i c).In-loop-i
 
 pub loop-i-preserved : goal.loop-i-preserved
 loop-i-preserved c =
@@ -38,11 +38,11 @@ loop-i-preserved c =
     let at = turn.loop-i in (
       search rules,
       length-set at.list at.i c.get16-in-loop-i.result ∙ at.invariant.1,
-      words-set _ at.list at.i _ (inside turn.before) at.invariant.2 c.get16-in-loop-i.ensures.0,
+      words-set _ at.list at.i _ (inside (goal.at.loop-i-preserved turn).In-loop-i) at.invariant.2 c.get16-in-loop-i.ensures.0,
     )
 
 pub shape_of-list : goal.shape_of-list
-shape_of-list c = reached c.before
+shape_of-list c = reached (goal.at.shape_of-list c).At-loop-i
 
 pub returns : goal.returns
 returns c =

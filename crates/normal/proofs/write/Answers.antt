@@ -5,13 +5,13 @@ use Rattle.normal.proofs.write.Goals.{After-count-left, In-Arcs, In-Arcs-2, Star
 -- ---- the states: the call, the arcs counted, the count found
 
 abbrev call : After-count-left → Start
-call c = c.before.before.before
+call c = (goal.at.After-count-left c).Start
 
 abbrev left_of : In-Arcs → In-Arcs-2
-left_of c = c.before
+left_of c = (goal.at.In-Arcs c).In-Arcs-2
 
 abbrev counted_of : In-Arcs → After-count-left
-counted_of c = c.before.before.before
+counted_of c = (goal.at.In-Arcs c).After-count-left
 
 pub returns-in_default : goal.returns-in_default
 returns-in_default c =
@@ -22,14 +22,14 @@ returns-in_default c =
 
 pub write_parts-requires : goal.write_parts-requires
 write_parts-requires c =
-    let counted = counted_of c.before in
+    let counted = counted_of (goal.at.write_parts-requires c).In-Arcs in
     let s = call counted in
-    record { sound = s.requires; arcs_value = (arcs-told s.args.plan.now s.args.h counted.count-left.ensures (left_of c.before).in-Arcs.is).1 }
+    record { sound = s.requires; arcs_value = (arcs-told s.args.plan.now s.args.h counted.count-left.ensures (left_of (goal.at.write_parts-requires c).In-Arcs).in-Arcs.is).1 }
 
 pub returns : goal.returns
 returns c =
     let written = c in
-    let counted = counted_of written.before.before.before.before in
+    let counted = counted_of (goal.at.returns written).In-Arcs in
     let s = call counted in
-    let a = light-answers s.args.plan.now s.args.h (arcs-told s.args.plan.now s.args.h counted.count-left.ensures (left_of written.before.before.before.before).in-Arcs.is).0 written.write_parts.ensures in
+    let a = light-answers s.args.plan.now s.args.h (arcs-told s.args.plan.now s.args.h counted.count-left.ensures (left_of (goal.at.returns written).In-Arcs).in-Arcs.is).0 written.write_parts.ensures in
     record { answer = a.answer; buffer = a.buffer }

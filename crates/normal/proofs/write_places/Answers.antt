@@ -13,13 +13,13 @@ use Rattle.normal.proofs.write_places.Goals.{After-marking-tokens, At-loop-p, In
 -- ---- the states: the call, the head of a turn
 
 abbrev call : At-loop-p → Start
-call c = c.before.before.before
+call c = (goal.at.At-loop-p c).Start
 
 abbrev turn_of : After-marking-tokens → In-loop-p
-turn_of c = c.before
+turn_of c = (goal.at.After-marking-tokens c).In-loop-p
 
 abbrev head_of : In-loop-p → At-loop-p
-head_of c = c.before.before
+head_of c = (goal.at.In-loop-p c).At-loop-p
 
 pub loop-p-init : goal.loop-p-init
 loop-p-init c = (search rules, storing_as (storing_all _ _ _) (places-all 2 _ _ _))
@@ -32,7 +32,7 @@ cap-most-requires c = let t = turn_of c in record { placed = (call (head_of t)).
 
 pub put_place-requires : goal.put_place-requires
 put_place-requires c =
-    let t = turn_of c.before.before in
+    let t = turn_of (goal.at.put_place-requires c).After-marking-tokens in
     let x = head_of t in
     omega (arith, t.loop-p-test.true, (call x).requires.places_in_bounds, x.loop-p.invariant.1.long)
 
@@ -40,7 +40,7 @@ pub loop-p-preserved : goal.loop-p-preserved
 loop-p-preserved c =
     let put = c in
     let read = put in
-    let t = turn_of read.before.before.before.before.before in
+    let t = turn_of (goal.at.loop-p-preserved read).After-marking-tokens in
     let x = head_of t in
     let m = read.marking-tokens.ensures.0 in
     let k = read.cap-most.ensures.0 in

@@ -14,10 +14,10 @@ pub loop-a-init : goal.loop-a-init
 loop-a-init c = record { so = refl }
 
 pub returns-then-not-goes_on : goal.returns-then-not-goes_on
-returns-then-not-goes_on c = runs.run-stop c.loop-a.invariant c.loop-a-test.true (sym (going c.before) ∙ not-true _ c.if-not-goes_on.true-raw)
+returns-then-not-goes_on c = runs.run-stop c.loop-a.invariant c.loop-a-test.true (sym (going (goal.at.returns-then-not-goes_on c).After-goes_on) ∙ not-true _ c.if-not-goes_on.true-raw)
 
 pub loop-a-preserved : goal.loop-a-preserved
-loop-a-preserved c = runs.run_on c.loop-a.invariant c.loop-a-test.true (sym (going c.before) ∙ not-false _ c.if-not-goes_on.false-raw)
+loop-a-preserved c = runs.run_on c.loop-a.invariant c.loop-a-test.true (sym (going (goal.at.loop-a-preserved c).After-goes_on) ∙ not-false _ c.if-not-goes_on.false-raw)
 
 pub returns : goal.returns
 returns c = runs.run_end c.loop-a.invariant c.loop-a-test.false

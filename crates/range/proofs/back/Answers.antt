@@ -12,7 +12,7 @@ use Rattle.range.proofs.back.Goals.{At-loop-k, Start}
 -- The entries are what the firings from k on need.
 
 abbrev call : At-loop-k → Start
-call c = c.before.before.before.before.before
+call c = (goal.at.At-loop-k c).Start
 
 -- what was ready at first still is
 ready : (c : At-loop-k) → let s = (call c).args in Ready s.file.now s.h s.table.now c.loop-k.need
@@ -29,15 +29,15 @@ overflow_cast-t c = omega (arith, c.type_inv.list (c.loop-k.k - 1))
 pub step_back-requires : goal.step_back-requires
 step_back-requires c =
     let turn = c in
-    let s = call turn.before.before.before in
+    let s = call (goal.at.step_back-requires turn).At-loop-k in
     let inv = turn.loop-k.invariant in
-    record { ready = ready turn.before.before.before; t_lt_transitions = s.requires.known.known _ (omega (arith, inv.0, c.loop-k-test.true)); by_index = low s.requires.ready s.args.list.now s.requires.known turn.loop-k.k turn.loop-k.need inv.2 }
+    record { ready = ready (goal.at.step_back-requires turn).At-loop-k; t_lt_transitions = s.requires.known.known _ (omega (arith, inv.0, c.loop-k-test.true)); by_index = low s.requires.ready s.args.list.now s.requires.known turn.loop-k.k turn.loop-k.need inv.2 }
 
 pub loop-k-preserved : goal.loop-k-preserved
 loop-k-preserved c =
     let done = c in
     let turn = done in
-    let s = call turn.before.before.before.before.before.before in
+    let s = call (goal.at.loop-k-preserved turn).At-loop-k in
     let inv = turn.loop-k.invariant in
     let f = done.step_back.ensures in (
       omega (arith, inv.0),
@@ -48,7 +48,7 @@ loop-k-preserved c =
 pub returns : goal.returns
 returns c =
     let turn = c in
-    let s = call turn.before in
+    let s = call (goal.at.returns turn).At-loop-k in
     let inv = turn.loop-k.invariant in
     let none : turn.loop-k.k ≡ 0 = omega (arith, c.loop-k-test.false) in
     record { long = inv.1; at = λ p. inv.2 p ∙ ap (λ (k : ℕ). need (net_from s.args.file.now s.args.h) (drop k s.args.list.now) p) none }

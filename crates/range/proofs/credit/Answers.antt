@@ -20,13 +20,13 @@ loop-j-init c = (omega arith, c.requires.rising, credits_none)
 -- slice-read-less c = omega (arith, inside c.before, c.before.before.before.loop.invariant.2.long)
 
 pub bounds-need-p-in-loop-j : goal.bounds-need-p-in-loop-j
-bounds-need-p-in-loop-j c = let a = c in omega (arith, inside a.before.before, a.loop-j.invariant.2.long)
+bounds-need-p-in-loop-j c = let a = c in omega (arith, inside (goal.at.bounds-need-p-in-loop-j a).After-arc-a, a.loop-j.invariant.2.long)
 
 pub loop-j-preserved : goal.loop-j-preserved
 loop-j-preserved c =
     let a = c in
     let inv = a.loop-j.invariant in
-    (omega (arith, inv.0), omega (arith, a.loop-j-test.true), credits_more inv.2 inv.0 _ a.arc-a.ensures.0 (inside a.before.before) c.less-n.ensures)
+    (omega (arith, inv.0), omega (arith, a.loop-j-test.true), credits_more inv.2 inv.0 _ a.arc-a.ensures.0 (inside (goal.at.loop-j-preserved a).After-arc-a) c.less-n.ensures)
 
 pub returns : goal.returns
 returns c = let inv = c.loop-j.invariant in credits_all inv.2 inv.1 (omega (arith, c.loop-j-test.false))

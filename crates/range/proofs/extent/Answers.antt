@@ -13,7 +13,7 @@ use Rattle.range.proofs.extent.Goals.{Else-refused-ne0, Start}
 -- ---- the state where nothing is refused
 
 abbrev call : Else-refused-ne0 → Start
-call c = c.before.before.before.before.before.before
+call c = (goal.at.Else-refused-ne0 c).Start
 
 passed : (c : Else-refused-ne0) → let s = (call c).args in Passed s.file.now s.h s.list.now s.upper.now (take s.h.places s.need.now)
 passed c =
@@ -36,16 +36,16 @@ slice_bounds-extent_all-end c =
     room-enough s.file.now s.h s.list.now s.upper.now (length s.need.now) c.held_back-refused.ensures c.if-refused-ne0.false
 
 pub slice_bounds-extent_all-end-2 : goal.slice_bounds-extent_all-end-2
-slice_bounds-extent_all-end-2 c = sym (passed c.before).room
+slice_bounds-extent_all-end-2 c = sym (passed (goal.at.slice_bounds-extent_all-end-2 c).Else-refused-ne0).room
 
 pub extent_all-requires : goal.extent_all-requires
-extent_all-requires c = passed c.before
+extent_all-requires c = passed (goal.at.extent_all-requires c).Else-refused-ne0
 
 pub returns : goal.returns
 returns c =
     let g = c in
     let f = g in
-    let s = (call f.before.before.before.before).args in
+    let s = (call (goal.at.returns f).Else-refused-ne0).args in
     let N = net_from s.file.now s.h in
     let back = f.held_back-refused.ensures in
     let none = f.if-refused-ne0.false in

@@ -14,13 +14,13 @@ use Rattle.range.proofs.extent_by.Goals.{After-back, After-clear, After-starts, 
 -- ---- the states: the arcs' starts tabled, the need cleared, the list gone through
 
 abbrev tabled_at : After-clear → After-starts
-tabled_at c = c.before.before.before.before
+tabled_at c = (goal.at.After-clear c).After-starts
 
 abbrev cleared_at : After-back → After-clear
-cleared_at c = c.before.before.before.before
+cleared_at c = (goal.at.After-back c).After-clear
 
 abbrev call : After-starts → Start
-call c = c.before.before.before.before.before.before.before
+call c = (goal.at.After-starts c).Start
 
 pub starts-requires : goal.starts-requires
 starts-requires c =
@@ -31,7 +31,7 @@ pub back-requires : goal.back-requires
 unfolding Bytes
 back-requires c =
     let clear = c in
-    let starts = tabled_at clear.before.before.before in
+    let starts = tabled_at (goal.at.back-requires clear).After-clear in
     let known = starts in
     let s = call starts in
     let bytes : Bytes s.args.file.now = λ i. omega (arith, known.type_inv.file i) in
@@ -42,7 +42,7 @@ back-requires c =
 pub returns : goal.returns
 returns c =
     let back = c in
-    let clear = cleared_at back.before.before.before in
+    let clear = cleared_at (goal.at.returns back).After-back in
     let s = call (tabled_at clear) in
     let N = net_from s.args.file.now s.args.h in
     let needed = back.back.ensures in

@@ -8,7 +8,7 @@ use Rattle.range.proofs.step_back.Goals.{After-entry-to, Start}
 -- ---- the states: the call, the arcs of t known
 
 abbrev call : After-entry-to → Start
-call c = c.before.before.before.before.before.before
+call c = (goal.at.After-entry-to c).Start
 
 arcs_of : (c : After-entry-to) → let s = call c in Runs s.args.file.now s.args.h s.args.t c.entry-from.result c.entry-middle.result c.entry-to.result
 arcs_of c =
@@ -17,16 +17,16 @@ arcs_of c =
 
 pub credit-requires : goal.credit-requires
 credit-requires c =
-    let s = call c.before in
-    let x = arcs_of c.before in
+    let s = call (goal.at.credit-requires c).After-entry-to in
+    let x = arcs_of (goal.at.credit-requires c).After-entry-to in
     run_of s.requires.ready s.requires.ready.places (omega (arith, x.second)) (omega (arith, x.within))
 
 pub give-requires : goal.give-requires
 give-requires c =
     let credit = c in
     let known = credit in
-    let s = call known.before.before.before.before.before in
-    let x = arcs_of known.before.before.before.before.before in
+    let s = call (goal.at.give-requires known).After-entry-to in
+    let x = arcs_of (goal.at.give-requires known).After-entry-to in
     let y = credit.credit.ensures in
     record { run = run_of s.requires.ready (y.long ∙ s.requires.ready.places) (omega (arith, x.first)) (omega (arith, x.second, x.within)); by_index = λ p. omega (arith, y.at p, x.inputs p, x.taken p, x.few, s.requires.by_index p) }
 
@@ -35,4 +35,4 @@ returns c =
     let give = c in
     let credit = give in
     let known = credit in
-    turned_back_lem (call known.before.before.before.before.before.before.before.before).requires.ready (arcs_of known.before.before.before.before.before.before.before.before) credit.credit.ensures give.give.ensures
+    turned_back_lem (call (goal.at.returns known).After-entry-to).requires.ready (arcs_of (goal.at.returns known).After-entry-to) credit.credit.ensures give.give.ensures

@@ -24,12 +24,12 @@ pub loop-p-init : goal.loop-p-init
 loop-p-init c = loaded_none c.requires.marking_len
 
 pub get32-requires : goal.get32-requires
-get32-requires c = (capped c.before).fits
+get32-requires c = (capped (goal.at.get32-requires c).In-loop-p).fits
 
 pub loop-p-preserved : goal.loop-p-preserved
 loop-p-preserved c =
     let t = c in
-    loaded_next t.loop-p.invariant t.loop-p-test.true (c.get32.ensures.0 ∙ (capped t.before.before).is)
+    loaded_next t.loop-p.invariant t.loop-p-test.true (c.get32.ensures.0 ∙ (capped (goal.at.loop-p-preserved t).In-loop-p).is)
 
 pub returns-then-h-eq-CAPS : goal.returns-then-h-eq-CAPS
 returns-then-h-eq-CAPS c = loaded_all c.loop-p.invariant c.loop-p-test.false
@@ -40,12 +40,12 @@ pub loop-p-2-init : goal.loop-p-2-init
 loop-p-2-init c = loaded_none c.requires.marking_len
 
 pub get32-requires-in-loop-p-2 : goal.get32-requires-in-loop-p-2
-get32-requires-in-loop-p-2 c = (plain c.before).fits
+get32-requires-in-loop-p-2 c = (plain (goal.at.get32-requires-in-loop-p-2 c).In-loop-p-2).fits
 
 pub loop-p-2-preserved : goal.loop-p-2-preserved
 loop-p-2-preserved c =
     let t = c in
-    loaded_next t.loop-p-2.invariant t.loop-p-2-test.true (c.get32-in-loop-p-2.ensures.0 ∙ (plain t.before.before).is)
+    loaded_next t.loop-p-2.invariant t.loop-p-2-test.true (c.get32-in-loop-p-2.ensures.0 ∙ (plain (goal.at.loop-p-2-preserved t).In-loop-p-2).is)
 
 pub returns : goal.returns
 returns c = loaded_all c.loop-p-2.invariant c.loop-p-2-test.false

@@ -7,14 +7,14 @@ use Rattle.replay.proofs.run_either.Goals.{After-has_caps, After-head_start-k, S
 -- ---- the states: the call, and the marking after the quick way
 
 abbrev ahead : After-has_caps → After-head_start-k
-ahead c = c.before.before.before
+ahead c = (goal.at.After-has_caps c).After-head_start-k
 
 abbrev call : After-head_start-k → Start
-call c = c.before.before.before.before.before.before
+call c = (goal.at.After-head_start-k c).Start
 
 pub run_capped-requires : goal.run_capped-requires
 run_capped-requires c =
-    let k = ahead c.before.before in
+    let k = ahead (goal.at.run_capped-requires c).After-has_caps in
     let s = call k in
     let g = k.head_start-k.ensures in
     record { ready = ready_on g.was g.is s.requires.ready; going = going_from g.is }
@@ -22,13 +22,13 @@ run_capped-requires c =
 pub returns-then-has_caps : goal.returns-then-has_caps
 returns-then-has_caps c =
     let r = c in
-    ended-on (ahead r.before.before.before.before.before).head_start-k.ensures r.run_capped.ensures
+    ended-on (ahead (goal.at.returns-then-has_caps r).After-has_caps).head_start-k.ensures r.run_capped.ensures
 
 -- no place has a cap
 pub run-requires : goal.run-requires
 run-requires c =
     let known = c in
-    let k = ahead known.before.before in
+    let k = ahead (goal.at.run-requires known).After-has_caps in
     let s = call k in
     let none = none-capped s.args.file.now s.args.h (sym known.has_caps.ensures ∙ c.if-has_caps.false) in
     let g = k.head_start-k.ensures in
@@ -37,4 +37,4 @@ run-requires c =
 pub returns : goal.returns
 returns c =
     let r = c in
-    ended-on (ahead r.before.before.before.before.before).head_start-k.ensures r.run.ensures
+    ended-on (ahead (goal.at.returns r).After-has_caps).head_start-k.ensures r.run.ensures

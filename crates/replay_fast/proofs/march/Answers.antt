@@ -13,20 +13,20 @@ abbrev Firing : Type 0
 Firing = At-loop-k
 
 abbrev call : Firing → Start
-call c = c.before.before.before.before.before.before.before
+call c = (goal.at.At-loop-k c).Start
 
 -- the transition listed at k, in the table
-listed : (c : After-shared_slice_known-in-loop-k-1) → let s = call c.before.before in Tabulated s.args.h s.args.table.now s.args.list.now c.loop-k.k
-listed c = tabulated c.loop-k.invariant c.loop-k-test.true (call c.before.before).requires.plain.ready
+listed : (c : After-shared_slice_known-in-loop-k-1) → let s = call (goal.at.After-shared_slice_known-in-loop-k-1 c).At-loop-k in Tabulated s.args.h s.args.table.now s.args.list.now c.loop-k.k
+listed c = tabulated c.loop-k.invariant c.loop-k-test.true (call (goal.at.After-shared_slice_known-in-loop-k-1 c).At-loop-k).requires.plain.ready
 
 -- its firing, by the arcs that the table tells
-step_at : (c : After-entry-to) → let x = c in let s = call x.before.before.before.before in
+step_at : (c : After-entry-to) → let x = c in let s = call (goal.at.After-entry-to x).At-loop-k in
     Step s.args.file.now s.args.h s.args.list.now s.args.marking.now x.loop-k.marking x.loop-k.k c.entry-from.result c.entry-to.result
 step_at c =
     let x = c in
-    let pre = ((call x.before.before.before.before).requires.plain, ((call x.before.before.before.before).requires.listed, ((call x.before.before.before.before).requires.moves_of))) in
+    let pre = ((call (goal.at.After-entry-to x).At-loop-k).requires.plain, ((call (goal.at.After-entry-to x).At-loop-k).requires.listed, ((call (goal.at.After-entry-to x).At-loop-k).requires.moves_of))) in
     let ready = pre.plain.ready in
-    step ready.places x.loop-k.invariant c.loop-k-test.true (by_slots (listed c.before.before).known ready c.entry-from.ensures.0 c.entry-to.ensures.0)
+    step ready.places x.loop-k.invariant c.loop-k-test.true (by_slots (listed (goal.at.After-entry-to c).After-shared_slice_known-in-loop-k-1).known ready c.entry-from.ensures.0 c.entry-to.ensures.0)
 
 pub loop-k-init : goal.loop-k-init
 loop-k-init c = underway_begin c.requires.listed
@@ -41,26 +41,26 @@ pub entry-from-requires : goal.entry-from-requires
 entry-from-requires c = omega (arith, (listed c).known, (listed c).long)
 
 pub overflow_mul-t-in-loop-k : goal.overflow_mul-t-in-loop-k
-overflow_mul-t-in-loop-k c = omega (arith, (listed c.before).known, (listed c.before).few)
+overflow_mul-t-in-loop-k c = omega (arith, (listed (goal.at.overflow_mul-t-in-loop-k c).After-shared_slice_known-in-loop-k-1).known, (listed (goal.at.overflow_mul-t-in-loop-k c).After-shared_slice_known-in-loop-k-1).few)
 
 pub overflow_add-t : goal.overflow_add-t
-overflow_add-t c = omega (arith, (listed c.before).known, (listed c.before).few)
+overflow_add-t c = omega (arith, (listed (goal.at.overflow_add-t c).After-shared_slice_known-in-loop-k-1).known, (listed (goal.at.overflow_add-t c).After-shared_slice_known-in-loop-k-1).few)
 
 pub entry-to-requires : goal.entry-to-requires
-entry-to-requires c = omega (arith, (listed c.before).known, (listed c.before).long)
+entry-to-requires c = omega (arith, (listed (goal.at.entry-to-requires c).After-shared_slice_known-in-loop-k-1).known, (listed (goal.at.entry-to-requires c).After-shared_slice_known-in-loop-k-1).long)
 
 pub shift-r-requires : goal.shift-r-requires
 shift-r-requires c =
     let entry = c in
     let x = entry in
-    record { movable = (step_at entry.before).shifting; moves_of = (call x.before.before.before.before.before).requires.moves_of }
+    record { movable = (step_at (goal.at.shift-r-requires entry).After-entry-to).shifting; moves_of = (call (goal.at.shift-r-requires x).At-loop-k).requires.moves_of }
 
 -- ---- a firing that is undone
 
 pub overflow_add-r : goal.overflow_add-r
 overflow_add-r c =
     let entry = c in
-    let can = (step_at entry.before.before.before.before.before).shifting in
+    let can = (step_at (goal.at.overflow_add-r entry).After-entry-to).shifting in
     omega (arith, c.if-r-to.true, can.within, can.sound.placed.arcs)
 
 pub back-requires : goal.back-requires
@@ -69,19 +69,19 @@ back-requires c =
     let entry = shift in
     let x = entry in
     let part = shift.shift-r.ensures.part c.if-r-to.true in
-    record { movable = (step_at entry.before.before.before.before.before.before).leaving _ part.0 c.if-r-to.true _ part.1; moves_of = (call x.before.before.before.before.before.before.before.before.before.before).requires.moves_of }
+    record { movable = (step_at (goal.at.back-requires entry).After-entry-to).leaving _ part.0 c.if-r-to.true _ part.1; moves_of = (call (goal.at.back-requires x).At-loop-k).requires.moves_of }
 
 pub shape_of-marking-then-r-to : goal.shape_of-marking-then-r-to
 shape_of-marking-then-r-to c =
     let back = c in
     let shift = back in
-    ((step_at shift.before.before.before.before.before.before.before.before.before).left _ _ _ (shift.shift-r.ensures.part back.if-r-to.true).1 back.back.ensures).long
+    ((step_at (goal.at.shape_of-marking-then-r-to shift).After-entry-to).left _ _ _ (shift.shift-r.ensures.part back.if-r-to.true).1 back.back.ensures).long
 
 pub returns-then-r-to : goal.returns-then-r-to
 returns-then-r-to c =
     let back = c in
     let shift = back in
-    (step_at shift.before.before.before.before.before.before.before.before.before).left _ _ _ (shift.shift-r.ensures.part back.if-r-to.true).1 back.back.ensures
+    (step_at (goal.at.returns-then-r-to shift).After-entry-to).left _ _ _ (shift.shift-r.ensures.part back.if-r-to.true).1 back.back.ensures
 
 -- ---- a firing that is done
 
@@ -97,8 +97,8 @@ pub loop-k-preserved : goal.loop-k-preserved
 loop-k-preserved c =
     let shift = c in
     let entry = shift in
-    let plain = (call entry.before.before.before.before.before.before.before.before.before).requires.plain.uncapped in
-    (step_at entry.before.before.before.before.before).fired _ _ (shift.shift-r.ensures.whole c.if-r-to.false) (omega arith) (within-caps _ plain _)
+    let plain = (call (goal.at.loop-k-preserved entry).At-loop-k).requires.plain.uncapped in
+    (step_at (goal.at.loop-k-preserved entry).After-entry-to).fired _ _ (shift.shift-r.ensures.whole c.if-r-to.false) (omega arith) (within-caps _ plain _)
 
 pub shape_of-marking : goal.shape_of-marking
 shape_of-marking c = c.loop-k.invariant.long

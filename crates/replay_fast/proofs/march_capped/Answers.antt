@@ -12,20 +12,20 @@ abbrev Firing : Type 0
 Firing = At-loop-k
 
 abbrev call : Firing → Start
-call c = c.before.before.before.before.before.before.before
+call c = (goal.at.At-loop-k c).Start
 
 -- the transition listed at k, in the table
-listed : (c : After-shared_slice_known-in-loop-k-1) → let s = call c.before.before in Tabulated s.args.h s.args.table.now s.args.list.now c.loop-k.k
-listed c = tabulated c.loop-k.invariant c.loop-k-test.true (call c.before.before).requires.ready
+listed : (c : After-shared_slice_known-in-loop-k-1) → let s = call (goal.at.After-shared_slice_known-in-loop-k-1 c).At-loop-k in Tabulated s.args.h s.args.table.now s.args.list.now c.loop-k.k
+listed c = tabulated c.loop-k.invariant c.loop-k-test.true (call (goal.at.After-shared_slice_known-in-loop-k-1 c).At-loop-k).requires.ready
 
 -- its firing, by the arcs that the table tells
-step_at : (c : After-entry-to) → let x = c in let s = call x.before.before.before.before in
+step_at : (c : After-entry-to) → let x = c in let s = call (goal.at.After-entry-to x).At-loop-k in
     Step s.args.file.now s.args.h s.args.list.now s.args.marking.now x.loop-k.marking x.loop-k.k c.entry-from.result c.entry-to.result
 step_at c =
     let x = c in
-    let pre = ((call x.before.before.before.before).requires.ready, ((call x.before.before.before.before).requires.listed, ((call x.before.before.before.before).requires.moves_of))) in
+    let pre = ((call (goal.at.After-entry-to x).At-loop-k).requires.ready, ((call (goal.at.After-entry-to x).At-loop-k).requires.listed, ((call (goal.at.After-entry-to x).At-loop-k).requires.moves_of))) in
     let ready = pre.ready in
-    step ready.places x.loop-k.invariant c.loop-k-test.true (by_slots (listed c.before.before).known ready c.entry-from.ensures.0 c.entry-to.ensures.0)
+    step ready.places x.loop-k.invariant c.loop-k-test.true (by_slots (listed (goal.at.After-entry-to c).After-shared_slice_known-in-loop-k-1).known ready c.entry-from.ensures.0 c.entry-to.ensures.0)
 
 pub loop-k-init : goal.loop-k-init
 loop-k-init c = underway_begin c.requires.listed
@@ -40,19 +40,19 @@ pub entry-from-requires : goal.entry-from-requires
 entry-from-requires c = omega (arith, (listed c).known, (listed c).long)
 
 pub overflow_mul-t-in-loop-k : goal.overflow_mul-t-in-loop-k
-overflow_mul-t-in-loop-k c = omega (arith, (listed c.before).known, (listed c.before).few)
+overflow_mul-t-in-loop-k c = omega (arith, (listed (goal.at.overflow_mul-t-in-loop-k c).After-shared_slice_known-in-loop-k-1).known, (listed (goal.at.overflow_mul-t-in-loop-k c).After-shared_slice_known-in-loop-k-1).few)
 
 pub overflow_add-t : goal.overflow_add-t
-overflow_add-t c = omega (arith, (listed c.before).known, (listed c.before).few)
+overflow_add-t c = omega (arith, (listed (goal.at.overflow_add-t c).After-shared_slice_known-in-loop-k-1).known, (listed (goal.at.overflow_add-t c).After-shared_slice_known-in-loop-k-1).few)
 
 pub entry-to-requires : goal.entry-to-requires
-entry-to-requires c = omega (arith, (listed c.before).known, (listed c.before).long)
+entry-to-requires c = omega (arith, (listed (goal.at.entry-to-requires c).After-shared_slice_known-in-loop-k-1).known, (listed (goal.at.entry-to-requires c).After-shared_slice_known-in-loop-k-1).long)
 
 pub shift_capped-requires : goal.shift_capped-requires
 shift_capped-requires c =
     let entry = c in
     let x = entry in
-    record { movable = (step_at entry.before).shifting; moves_of = (call x.before.before.before.before.before).requires.moves_of }
+    record { movable = (step_at (goal.at.shift_capped-requires entry).After-entry-to).shifting; moves_of = (call (goal.at.shift_capped-requires x).At-loop-k).requires.moves_of }
 
 -- ---- a firing that is undone
 
@@ -61,19 +61,19 @@ back-requires c =
     let shift = c in
     let entry = shift in
     let x = entry in
-    record { movable = (step_at entry.before.before.before.before.before.before).undoing _ _ shift.shift_capped.ensures.shifted; moves_of = (call x.before.before.before.before.before.before.before.before.before.before).requires.moves_of }
+    record { movable = (step_at (goal.at.back-requires entry).After-entry-to).undoing _ _ shift.shift_capped.ensures.shifted; moves_of = (call (goal.at.back-requires x).At-loop-k).requires.moves_of }
 
 pub shape_of-marking-then-shift_capped-ge9223372036854775808 : goal.shape_of-marking-then-shift_capped-ge9223372036854775808
 shape_of-marking-then-shift_capped-ge9223372036854775808 c =
     let back = c in
     let shift = back in
-    ((step_at shift.before.before.before.before.before.before.before.before.before).undone _ _ _ shift.shift_capped.ensures.shifted back.back.ensures).long
+    ((step_at (goal.at.shape_of-marking-then-shift_capped-ge9223372036854775808 shift).After-entry-to).undone _ _ _ shift.shift_capped.ensures.shifted back.back.ensures).long
 
 pub returns-then-shift_capped-ge9223372036854775808 : goal.returns-then-shift_capped-ge9223372036854775808
 returns-then-shift_capped-ge9223372036854775808 c =
     let back = c in
     let shift = back in
-    (step_at shift.before.before.before.before.before.before.before.before.before).undone _ _ _ shift.shift_capped.ensures.shifted back.back.ensures
+    (step_at (goal.at.returns-then-shift_capped-ge9223372036854775808 shift).After-entry-to).undone _ _ _ shift.shift_capped.ensures.shifted back.back.ensures
 
 -- ---- a firing that is done
 
@@ -88,7 +88,7 @@ loop-k-smaller c = omega (arith, c.loop-k-test.true)
 pub loop-k-preserved : goal.loop-k-preserved
 loop-k-preserved c =
     let shift = c in
-    let now = step_at shift.before.before.before.before.before in
+    let now = step_at (goal.at.loop-k-preserved shift).After-entry-to in
     let told = (shift.shift_capped.ensures.shifted, (shift.shift_capped.ensures.roomy)) in
     let low : shift.shift_capped.result < 9223372036854775808 = omega (arith, c.if-shift_capped-ge9223372036854775808.false) in
     now.fired _ _ told.shifted low (now.fits _ _ told.shifted low (told.roomy low))

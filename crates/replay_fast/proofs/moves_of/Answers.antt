@@ -11,21 +11,21 @@ use Rattle.replay_fast.proofs.moves_of.Goals.{After-struct_known-1, At-loop-j, I
 -- ---- the states: the call, the head of a turn
 
 abbrev call : At-loop-j → Start
-call c = c.before.before.before.before
+call c = (goal.at.At-loop-j c).Start
 
 abbrev turn_of : After-struct_known-1 → In-loop-j
-turn_of c = c.before.before
+turn_of c = (goal.at.After-struct_known-1 c).In-loop-j
 
 -- ---- an arc of the file, with room for it in both tables
 
-fit : (c : In-loop-j) → (call c.before).args.h.arcstart + 8 * c.loop-j.j + 8 ≤ length (call c.before).args.file.now
+fit : (c : In-loop-j) → (call (goal.at.In-loop-j c).At-loop-j).args.h.arcstart + 8 * c.loop-j.j + 8 ≤ length (call (goal.at.In-loop-j c).At-loop-j).args.file.now
 fit c =
-    let p = (call c.before).requires.sound.placed in
+    let p = (call (goal.at.In-loop-j c).At-loop-j).requires.sound.placed in
     omega (arith, c.loop-j-test.true, p.arcs_fit, p.origins_fit)
 
-inside : (c : In-loop-j) → (c.loop-j.j < 4096) × (c.loop-j.j < length (call c.before).args.places.now) × (c.loop-j.j < length (call c.before).args.changes.now)
+inside : (c : In-loop-j) → (c.loop-j.j < 4096) × (c.loop-j.j < length (call (goal.at.In-loop-j c).At-loop-j).args.places.now) × (c.loop-j.j < length (call (goal.at.In-loop-j c).At-loop-j).args.changes.now)
 inside c =
-    let pre = (call c.before).requires in
+    let pre = (call (goal.at.In-loop-j c).At-loop-j).requires in
     let l = c.loop-j-test.true in
     (omega (arith, pre.sound.placed.arcs, l), omega (arith, pre.room, l), omega (arith, pre.long, l))
 
@@ -33,7 +33,7 @@ pub loop-j-init : goal.loop-j-init
 loop-j-init c = (omega arith, filled_none, filled_none)
 
 pub overflow_mul-j : goal.overflow_mul-j
-overflow_mul-j c = omega (arith, (call c.before).requires.sound.placed.arcs, c.loop-j-test.true)
+overflow_mul-j c = omega (arith, (call (goal.at.overflow_mul-j c).At-loop-j).requires.sound.placed.arcs, c.loop-j-test.true)
 
 pub overflow_add-start : goal.overflow_add-start
 overflow_add-start c = omega (arith, fit c)
@@ -53,19 +53,19 @@ bounds-places-j c = omega (arith, (inside (turn_of c)).1, (turn_of c).loop-j.inv
 pub change_of-requires : goal.change_of-requires
 change_of-requires c =
     let t = turn_of c in
-    let s = call t.before in
+    let s = call (goal.at.In-loop-j t).At-loop-j in
     let good = good-at s.args.file.now s.args.h s.requires.sound t.loop-j.j t.loop-j-test.true in
     record { some = omega (arith, ap (λ (a : Arc). a.weight) c.arc-a.ensures.0, good.weight); below = c.arc-a.ensures.1.weight }
 
 pub offset_bounds-changes-j : goal.offset_bounds-changes-j
-offset_bounds-changes-j c = omega (arith, (inside (turn_of c.before)).0)
+offset_bounds-changes-j c = omega (arith, (inside (turn_of (goal.at.offset_bounds-changes-j c).After-struct_known-1)).0)
 
 pub bounds-changes-j : goal.bounds-changes-j
-bounds-changes-j c = let t = turn_of c.before in omega (arith, (inside t).2, t.loop-j.invariant.2.long)
+bounds-changes-j c = let t = turn_of (goal.at.bounds-changes-j c).After-struct_known-1 in omega (arith, (inside t).2, t.loop-j.invariant.2.long)
 
 pub loop-j-preserved : goal.loop-j-preserved
 loop-j-preserved c =
-    let t = turn_of c.before in
+    let t = turn_of (goal.at.loop-j-preserved c).After-struct_known-1 in
     let inv = t.loop-j.invariant in
     let arc = c.arc-a in (
       omega (arith, t.loop-j-test.true),
@@ -82,7 +82,7 @@ shape_of-changes c = c.loop-j.invariant.2.long
 pub returns : goal.returns
 returns c =
     let inv = c.loop-j.invariant in
-    let pre = (call c.before).requires in
+    let pre = (call (goal.at.returns c).At-loop-j).requires in
     let e = c.loop-j-test.false in
     record {
       room = omega (arith, inv.1.long, pre.room);

@@ -10,19 +10,19 @@ use Rattle.replay_fast.proofs.shift_capped.Goals.{After-entry-p, After-signed-c,
 -- ---- the states: the call, the head of a turn, the place and the change in hand
 
 abbrev call : At-loop-j → Start
-call c = c.before.before.before.before.before
+call c = (goal.at.At-loop-j c).Start
 
 abbrev placed_of : After-signed-c → After-entry-p
-placed_of c = c.before.before
+placed_of c = (goal.at.After-signed-c c).After-entry-p
 
 abbrev signed_of : After-wrapping_add_u64-value → After-signed-c
-signed_of c = c.before.before
+signed_of c = (goal.at.After-wrapping_add_u64-value c).After-signed-c
 
 -- the place in the table is the arc's
-is_place : (c : After-entry-p) → let x = c in let s = call x.before.before in c.entry-p.result ≡ place_at s.args.file.now s.args.h.arcstart x.loop-j.j
+is_place : (c : After-entry-p) → let x = c in let s = call (goal.at.After-entry-p x).At-loop-j in c.entry-p.result ≡ place_at s.args.file.now s.args.h.arcstart x.loop-j.j
 is_place c =
     let t = c in
-    let pre = ((call t.before.before).requires.movable, ((call t.before.before).requires.moves_of)) in
+    let pre = ((call (goal.at.After-entry-p t).At-loop-j).requires.movable, ((call (goal.at.After-entry-p t).At-loop-j).requires.moves_of)) in
     c.entry-p.ensures.0 ∙ pre.moves_of.place t.loop-j.j (omega (arith, pre.movable.within, t.loop-j-test.true))
 
 -- it is one of the marking's
@@ -30,7 +30,7 @@ inside : (c : After-entry-p) → let q = c.entry-p.result in (q < length c.loop-
 inside c =
     let t = c in
     let at = t.loop-j in
-    place_inside (call t.before.before).requires.movable at.j t.loop-j-test.true (is_place c) at.invariant.1.moving.moved.long
+    place_inside (call (goal.at.After-entry-p t).At-loop-j).requires.movable at.j t.loop-j-test.true (is_place c) at.invariant.1.moving.moved.long
 
 pub loop-j-init : goal.loop-j-init
 loop-j-init c =
@@ -39,23 +39,23 @@ loop-j-init c =
 
 pub entry-p-requires : goal.entry-p-requires
 entry-p-requires c =
-    let pre = ((call c.before).requires.movable, ((call c.before).requires.moves_of)) in
+    let pre = ((call (goal.at.entry-p-requires c).At-loop-j).requires.movable, ((call (goal.at.entry-p-requires c).At-loop-j).requires.moves_of)) in
     omega (arith, pre.moves_of.room, pre.movable.within, c.loop-j-test.true)
 
 pub offset_bounds-changes-j : goal.offset_bounds-changes-j
-offset_bounds-changes-j c = let t = c in let can = (call t.before.before).requires.movable in omega (arith, can.sound.placed.arcs, can.within, t.loop-j-test.true)
+offset_bounds-changes-j c = let t = c in let can = (call (goal.at.offset_bounds-changes-j t).At-loop-j).requires.movable in omega (arith, can.sound.placed.arcs, can.within, t.loop-j-test.true)
 
 pub bounds-changes-j : goal.bounds-changes-j
 bounds-changes-j c =
     let t = c in
-    let pre = ((call t.before.before.before).requires.movable, ((call t.before.before.before).requires.moves_of)) in
+    let pre = ((call (goal.at.bounds-changes-j t).At-loop-j).requires.movable, ((call (goal.at.bounds-changes-j t).At-loop-j).requires.moves_of)) in
     omega (arith, pre.moves_of.long, pre.movable.within, t.loop-j-test.true)
 
 pub offset_bounds-marking-p : goal.offset_bounds-marking-p
 offset_bounds-marking-p c = omega (arith, (inside (placed_of c)).1)
 
 pub bounds-marking-p : goal.bounds-marking-p
-bounds-marking-p c = (inside (placed_of c.before)).0
+bounds-marking-p c = (inside (placed_of (goal.at.bounds-marking-p c).After-signed-c)).0
 
 pub offset_bounds-marking-p-in-loop-j : goal.offset_bounds-marking-p-in-loop-j
 offset_bounds-marking-p-in-loop-j c = omega (arith, (inside (placed_of (signed_of c))).1)
@@ -67,7 +67,7 @@ pub cap-requires : goal.cap-requires
 cap-requires c =
     let placed = placed_of (signed_of c) in
     let x = placed in
-    let can = (call x.before.before).requires.movable in
+    let can = (call (goal.at.After-entry-p x).At-loop-j).requires.movable in
     record { placed = can.sound.placed; place_lt_places = omega (arith, (inside placed).0, x.loop-j.invariant.1.moving.moved.long, can.held) }
 
 pub excess-over-requires : goal.excess-over-requires
@@ -75,27 +75,27 @@ excess-over-requires c = c.cap.ensures.1
 
 pub overflow_add-j : goal.overflow_add-j
 overflow_add-j c =
-    let placed = placed_of (signed_of c.before.before) in
+    let placed = placed_of (signed_of (goal.at.overflow_add-j c).After-wrapping_add_u64-value) in
     let t = placed in
-    let can = (call t.before.before).requires.movable in
+    let can = (call (goal.at.After-entry-p t).At-loop-j).requires.movable in
     omega (arith, t.loop-j-test.true, can.within, can.sound.placed.arcs)
 
 pub loop-j-smaller : goal.loop-j-smaller
-loop-j-smaller c = omega (arith, (placed_of (signed_of c.before.before)).loop-j-test.true)
+loop-j-smaller c = omega (arith, (placed_of (signed_of (goal.at.loop-j-smaller c).After-wrapping_add_u64-value)).loop-j-test.true)
 
 pub loop-j-preserved : goal.loop-j-preserved
 loop-j-preserved c =
     let sum = c in
-    let placed = placed_of (signed_of sum.before.before) in
+    let placed = placed_of (signed_of (goal.at.loop-j-preserved sum).After-wrapping_add_u64-value) in
     let t = placed in
     let x = t in
     let at = x.loop-j in
-    let s = call x.before.before in
+    let s = call (goal.at.After-entry-p x).At-loop-j in
     let can = s.requires.movable in
     let l = t.loop-j-test.true in
     let in_table : at.j < s.args.h.arcs = omega (arith, l, can.within) in
     let v = sum.wrapping_add_u64-value.result in
-    let shifted = shifting_more can at.j l at.invariant.1 (change-is s.requires.moves_of in_table (signed_of sum.before.before).signed-c.ensures) (is_place placed) v (omega arith) sum.wrapping_add_u64-value.ensures in (
+    let shifted = shifting_more can at.j l at.invariant.1 (change-is s.requires.moves_of in_table (signed_of (goal.at.loop-j-preserved sum).After-wrapping_add_u64-value).signed-c.ensures) (is_place placed) v (omega arith) sum.wrapping_add_u64-value.ensures in (
       omega (arith, l),
       shifting_over shifted c.excess-over.result,
       λ n.

@@ -10,28 +10,28 @@ use Rattle.replay_fast.proofs.shift_joined.Goals.{After-entry-p, After-entry-q, 
 -- ---- the states: the call with an arc at least, the loop, the place in hand
 
 abbrev some_of : Else-to-from → Start
-some_of c = c.before.before.before.before.before
+some_of c = (goal.at.Else-to-from c).Start
 
 abbrev call : At-loop-j → Start
-call c = some_of c.before.before.before
+call c = some_of (goal.at.At-loop-j c).Else-to-from
 
 abbrev joined_of : After-wrapping_add_u64-value → Joined-q-p
-joined_of c = c.before.before.before
+joined_of c = (goal.at.After-wrapping_add_u64-value c).Joined-q-p
 
 -- the place of the first arc is one of the marking's
-first : (c : After-entry-p) → let q = c.entry-p.result in (q < length (some_of c.before).args.marking.now) × (q < 1024)
+first : (c : After-entry-p) → let q = c.entry-p.result in (q < length (some_of (goal.at.After-entry-p c).Else-to-from).args.marking.now) × (q < 1024)
 first c =
-    let s = some_of c.before in
+    let s = some_of (goal.at.After-entry-p c).Else-to-from in
     let can = s.requires.movable in
     let l = c.if-to-from.false in
     place_inside can s.args.from (omega (arith, l)) (c.entry-p.ensures.0 ∙ s.requires.moves_of.place s.args.from (omega (arith, can.within, l))) refl
 
 -- and so is that of each
-each : (c : After-entry-q) → let q = c.entry-q.result in (q < length (call c.before.before).args.marking.now) × (q < 1024)
+each : (c : After-entry-q) → let q = c.entry-q.result in (q < length (call (goal.at.After-entry-q c).At-loop-j).args.marking.now) × (q < 1024)
 each c =
     let t = c in
     let j = t.loop-j.j in
-    let s = call t.before.before in
+    let s = call (goal.at.After-entry-q t).At-loop-j in
     let can = s.requires.movable in
     let l = t.loop-j-test.true in
     place_inside can j l (c.entry-q.ensures.0 ∙ s.requires.moves_of.place j (omega (arith, can.within, l))) refl
@@ -46,14 +46,14 @@ inside c =
     (omega (arith, x.known, long), omega (arith, x.known, can.held, can.sound.placed.places), long)
 
 -- the entry of the arc's place in hand
-met : (c : Joined-q-p) → let x = c in let s = call x.before.before.before in
+met : (c : Joined-q-p) → let x = c in let s = call (goal.at.Joined-q-p x).At-loop-j in
     (c.if-q-p.p ≡ c.entry-q.result)
     × ((h : Header) → Movable s.args.file.now h s.args.from s.args.to s.args.marking.now → MovesOf s.args.file.now h s.args.places.now s.args.changes.now
     → Holding s.args.file.now h.arcstart s.args.from x.loop-j.j s.args.marking.now c.if-q-p.marking c.if-q-p.p c.if-q-p.value x.loop-j.all)
 met c =
     let e = c in
     let inv = e.loop-j.invariant in
-    ⊎_elim (λ w. (w.3, λ h can mv. holding_other (inv.1 h can mv) (each e.before).0 w.2 w.3 w.4)) (λ w. (w.2 ∙ sym w.0.left, λ h can mv. holding_still (inv.1 h can mv) w.1 w.2 w.3))
+    ⊎_elim (λ w. (w.3, λ h can mv. holding_other (inv.1 h can mv) (each (goal.at.Joined-q-p e).After-entry-q).0 w.2 w.3 w.4)) (λ w. (w.2 ∙ sym w.0.left, λ h can mv. holding_still (inv.1 h can mv) w.1 w.2 w.3))
     c.if-q-p.branch
 
 -- ---- no arc
@@ -70,45 +70,45 @@ pub offset_bounds-marking-p : goal.offset_bounds-marking-p
 offset_bounds-marking-p c = omega (arith, (first c).1)
 
 pub bounds-marking-p : goal.bounds-marking-p
-bounds-marking-p c = (first c.before).0
+bounds-marking-p c = (first (goal.at.bounds-marking-p c).After-entry-p).0
 
 pub loop-j-init : goal.loop-j-init
-loop-j-init c = let e = c in ((some_of e.before.before).requires.movable.rising, λ h can mv. holding_none (first e.before).0 can.fits)
+loop-j-init c = let e = c in ((some_of (goal.at.loop-j-init e).Else-to-from).requires.movable.rising, λ h can mv. holding_none (first (goal.at.loop-j-init e).After-entry-p).0 can.fits)
 
 -- ---- another place
 
 pub entry-q-requires : goal.entry-q-requires
 entry-q-requires c =
-    let pre = ((call c.before).requires.movable, ((call c.before).requires.moves_of)) in
+    let pre = ((call (goal.at.entry-q-requires c).At-loop-j).requires.movable, ((call (goal.at.entry-q-requires c).At-loop-j).requires.moves_of)) in
     omega (arith, pre.moves_of.room, pre.movable.within, c.loop-j-test.true)
 
 pub offset_bounds-marking-p-then-q-p : goal.offset_bounds-marking-p-then-q-p
-offset_bounds-marking-p-then-q-p c = omega (arith, (inside c.before.before.before).1)
+offset_bounds-marking-p-then-q-p c = omega (arith, (inside (goal.at.offset_bounds-marking-p-then-q-p c).At-loop-j).1)
 
 pub bounds-marking-p-then-q-p : goal.bounds-marking-p-then-q-p
-bounds-marking-p-then-q-p c = (inside c.before.before.before).0
+bounds-marking-p-then-q-p c = (inside (goal.at.bounds-marking-p-then-q-p c).At-loop-j).0
 
 pub offset_bounds-marking-q : goal.offset_bounds-marking-q
-offset_bounds-marking-q c = omega (arith, (each c.before).1)
+offset_bounds-marking-q c = omega (arith, (each (goal.at.offset_bounds-marking-q c).After-entry-q).1)
 
 pub bounds-marking-q : goal.bounds-marking-q
 bounds-marking-q c =
     let e = c in
     let x = e in
-    omega (arith, (each e.before.before).0, (inside x.before.before.before.before).2, length-set x.loop-j.marking x.loop-j.p x.loop-j.value)
+    omega (arith, (each (goal.at.bounds-marking-q e).After-entry-q).0, (inside (goal.at.bounds-marking-q x).At-loop-j).2, length-set x.loop-j.marking x.loop-j.p x.loop-j.value)
 
 -- ---- the arc
 
 pub offset_bounds-changes-j : goal.offset_bounds-changes-j
 offset_bounds-changes-j c =
     let t = c in
-    let can = (call t.before.before.before).requires.movable in
+    let can = (call (goal.at.offset_bounds-changes-j t).At-loop-j).requires.movable in
     omega (arith, can.sound.placed.arcs, can.within, t.loop-j-test.true)
 
 pub bounds-changes-j : goal.bounds-changes-j
 bounds-changes-j c =
     let t = c in
-    let pre = ((call t.before.before.before.before).requires.movable, ((call t.before.before.before.before).requires.moves_of)) in
+    let pre = ((call (goal.at.bounds-changes-j t).At-loop-j).requires.movable, ((call (goal.at.bounds-changes-j t).At-loop-j).requires.moves_of)) in
     omega (arith, pre.moves_of.long, pre.movable.within, t.loop-j-test.true)
 
 pub loop-j-preserved : goal.loop-j-preserved
@@ -128,16 +128,16 @@ loop-j-preserved c =
 -- ---- the last place
 
 pub offset_bounds-marking-p-2 : goal.offset_bounds-marking-p-2
-offset_bounds-marking-p-2 c = omega (arith, (inside c.before).1)
+offset_bounds-marking-p-2 c = omega (arith, (inside (goal.at.offset_bounds-marking-p-2 c).At-loop-j).1)
 
 pub bounds-marking-p-2 : goal.bounds-marking-p-2
-bounds-marking-p-2 c = (inside c.before).0
+bounds-marking-p-2 c = (inside (goal.at.bounds-marking-p-2 c).At-loop-j).0
 
 pub shape_of-marking : goal.shape_of-marking
-shape_of-marking c = let s = call c.before in (c.loop-j.invariant.1 s.args.h s.requires.movable s.requires.moves_of).shifting.moving.moved.long
+shape_of-marking c = let s = call (goal.at.shape_of-marking c).At-loop-j in (c.loop-j.invariant.1 s.args.h s.requires.movable s.requires.moves_of).shifting.moving.moved.long
 
 pub returns : goal.returns
 returns c =
     let x = c.loop-j.invariant in
-    let s = call c.before in
+    let s = call (goal.at.returns c).At-loop-j in
     shifting_end x.0 c.loop-j-test.false (x.1 s.args.h s.requires.movable s.requires.moves_of).shifting

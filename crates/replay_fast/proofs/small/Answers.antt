@@ -11,7 +11,7 @@ abbrev Fits : Type 0
 Fits = Else-h-list
 
 abbrev call : Fits → Start
-call c = c.before.before.before.before.before.before
+call c = (goal.at.Else-h-list c).Start
 
 few : (c : Fits) → Small (call c).args.h
 few c = small-net (call c).args.h _ c.if-h-list.false
@@ -26,8 +26,8 @@ returns-then-h-list c = underway_begin c.requires.listed
 pub firsts-requires : goal.firsts-requires
 firsts-requires c =
     let f = c in
-    let sound = (call f.before).requires.sound in
-    record { tabled = small-tabled sound (few f.before); by_index = small-ways sound (few f.before) }
+    let sound = (call (goal.at.firsts-requires f).Else-h-list).requires.sound in
+    record { tabled = small-tabled sound (few (goal.at.firsts-requires f).Else-h-list); by_index = small-ways sound (few (goal.at.firsts-requires f).Else-h-list) }
 
 -- ---- the firings
 
@@ -37,10 +37,10 @@ march_read-requires c =
     let table = c in
     let f = table in
     let known = f in
-    let s = call f.before.before.before.before.before in
+    let s = call (goal.at.march_read-requires f).Else-h-list in
     let bytes : Bytes s.args.file.now = λ i. omega (arith, known.type_inv.file i) in
     let firsts = table.firsts.ensures in
-    record { indexed = small-indexed s.requires.sound (few f.before.before.before.before.before) bytes firsts.0 firsts.1 s.requires.marking_len; listed = s.requires.listed }
+    record { indexed = small-indexed s.requires.sound (few (goal.at.march_read-requires f).Else-h-list) bytes firsts.0 firsts.1 s.requires.marking_len; listed = s.requires.listed }
 
 pub returns : goal.returns
 returns c = c.march_read.ensures

@@ -10,7 +10,7 @@ use Rattle.replay_firing.proofs.fire.Goals.{After-entry-to, Start}
 -- ---- the states: the call, the arcs of t known
 
 abbrev call : After-entry-to → Start
-call c = c.before.before.before.before.before.before
+call c = (goal.at.After-entry-to c).Start
 
 arcs_of : (c : After-entry-to) → let s = call c in Runs s.args.file.now s.args.h s.args.t c.entry-from.result c.entry-middle.result c.entry-to.result
 arcs_of c =
@@ -19,16 +19,16 @@ arcs_of c =
 
 pub take-requires : goal.take-requires
 take-requires c =
-    let s = call c.before in
-    let x = arcs_of c.before in
+    let s = call (goal.at.take-requires c).After-entry-to in
+    let x = arcs_of (goal.at.take-requires c).After-entry-to in
     record { run = run_of s.requires.ready s.requires.ready.places (omega (arith, x.first, x.second)) (omega (arith, x.second, x.within)); by_index = λ p. omega (arith, x.inputs p, x.outputs p, s.requires.firable.supplied p) }
 
 pub give-requires : goal.give-requires
 give-requires c =
     let take = c in
     let known = take in
-    let s = call known.before.before.before.before.before in
-    let x = arcs_of known.before.before.before.before.before in
+    let s = call (goal.at.give-requires known).After-entry-to in
+    let x = arcs_of (goal.at.give-requires known).After-entry-to in
     let y = take.take.ensures in
     record { run = run_of s.requires.ready (y.long ∙ s.requires.ready.places) (omega (arith, x.first, x.second)) (omega (arith, x.second, x.within)); by_index = λ p. omega (arith, y.at p, x.inputs p, x.outputs p, x.taken p, x.given p, x.few, s.requires.firable.low p) }
 
@@ -38,7 +38,7 @@ returns c =
     let give = c in
     let take = give in
     let known = take in
-    let s = call known.before.before.before.before.before.before.before.before in
-    let x = arcs_of known.before.before.before.before.before.before.before.before in
+    let s = call (goal.at.returns known).After-entry-to in
+    let x = arcs_of (goal.at.returns known).After-entry-to in
     turned s.requires.ready take.take.ensures give.give.ensures (fire (net_from s.args.file.now s.args.h) s.args.t (held s.args.marking.now)) (fire-off s.requires.ready s.args.t)
     (λ p u v. omega (arith, u, v, x.inputs p, x.outputs p, s.requires.firable.supplied p))

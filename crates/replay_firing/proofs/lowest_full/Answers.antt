@@ -12,10 +12,10 @@ abbrev Output : Type 0
 Output = At-loop-j
 
 abbrev call : Output → Start
-call c = c.before.before.before.before.before.before
+call c = (goal.at.At-loop-j c).Start
 
 -- what was found at arc j
-found : (c : After-above-excess) → let arc = c in let x = arc in let s = call x.before.before.before.before.before.before in
+found : (c : After-above-excess) → let arc = c in let x = arc in let s = call (goal.at.After-above-excess x).At-loop-j in
     Found s.args.file.now s.args.h s.args.t x.entry-from.result x.entry-to.result s.args.marking.now x.loop-j.j arc.arc-a.result.place c.above-excess.result
 found c =
     let cap = c in
@@ -67,10 +67,10 @@ pub overflow_cast-place : goal.overflow_cast-place
 overflow_cast-place c = omega (arith, c.arc-a.ensures.1.place)
 
 pub overflow_cast-amount : goal.overflow_cast-amount
-overflow_cast-amount c = omega (arith, (found c.before).small)
+overflow_cast-amount c = omega (arith, (found (goal.at.overflow_cast-amount c).After-above-excess).small)
 
 pub returns-then-excess-ne0 : goal.returns-then-excess-ne0
-returns-then-excess-ne0 c = (found c.before).full c.if-excess-ne0.true
+returns-then-excess-ne0 c = (found (goal.at.returns-then-excess-ne0 c).After-above-excess).full c.if-excess-ne0.true
 
 -- ---- a place within it
 
@@ -86,7 +86,7 @@ loop-j-smaller c =
     omega (arith, known loop.loop-j.invariant loop.loop-j-test.true)
 
 pub loop-j-preserved : goal.loop-j-preserved
-loop-j-preserved c = (found c.before).fits c.if-excess-ne0.false
+loop-j-preserved c = (found (goal.at.loop-j-preserved c).After-above-excess).fits c.if-excess-ne0.false
 
 pub returns : goal.returns
 returns c = fits_all c.loop-j.invariant c.loop-j-test.false

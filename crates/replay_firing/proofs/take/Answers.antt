@@ -19,16 +19,16 @@ pub loop-j-init : goal.loop-j-init
 loop-j-init c = (omega arith, c.requires.run.rising, record { long = refl; at = λ p. refl })
 
 pub bounds-marking-p : goal.bounds-marking-p
-bounds-marking-p c = omega (arith, inside c.before, c.loop-j.invariant.2.long)
+bounds-marking-p c = omega (arith, inside (goal.at.bounds-marking-p c).After-arc-a, c.loop-j.invariant.2.long)
 
 pub overflow_sub-marking : goal.overflow_sub-marking
-overflow_sub-marking c = enough c.args.file.now _ _ _ _ _ _ c.arc-a.ensures.0 (inside c.before) _ c.loop-j-test.true c.loop-j.invariant.2 c.requires.by_index
+overflow_sub-marking c = enough c.args.file.now _ _ _ _ _ _ c.arc-a.ensures.0 (inside (goal.at.overflow_sub-marking c).After-arc-a) _ c.loop-j-test.true c.loop-j.invariant.2 c.requires.by_index
 
 pub bounds-marking-p-in-loop-j : goal.bounds-marking-p-in-loop-j
-bounds-marking-p-in-loop-j c = omega (arith, inside c.before, c.loop-j.invariant.2.long)
+bounds-marking-p-in-loop-j c = omega (arith, inside (goal.at.bounds-marking-p-in-loop-j c).After-arc-a, c.loop-j.invariant.2.long)
 
 pub loop-j-preserved : goal.loop-j-preserved
-loop-j-preserved c = (search rules, search rules, takes-more c.args.file.now _ _ _ _ _ _ c.arc-a.ensures.0 (inside c.before) c.loop-j.invariant.2 (enough c.args.file.now _ _ _ _ _ _ c.arc-a.ensures.0 (inside c.before) _ c.loop-j-test.true c.loop-j.invariant.2 c.requires.by_index))
+loop-j-preserved c = (search rules, search rules, takes-more c.args.file.now _ _ _ _ _ _ c.arc-a.ensures.0 (inside (goal.at.loop-j-preserved c).After-arc-a) c.loop-j.invariant.2 (enough c.args.file.now _ _ _ _ _ _ c.arc-a.ensures.0 (inside (goal.at.loop-j-preserved c).After-arc-a) _ c.loop-j-test.true c.loop-j.invariant.2 c.requires.by_index))
 
 pub returns : goal.returns
 returns c =

@@ -11,23 +11,23 @@ use Rattle.rules_arcs.proofs.step.Goals as goal
 use Rattle.rules_arcs.proofs.step.Goals.{After-entry-place, After-same, After-word-w, Start}
 
 abbrev start : After-word-w → Start
-start c = c.before.before.before.before
+start c = (goal.at.After-word-w c).Start
 
 -- from where the words are compared, back to where the place was looked up
 abbrev looked_up : After-same → After-entry-place
-looked_up c = c.before.before.before.before.before
+looked_up c = (goal.at.After-same c).After-entry-place
 
 -- the entry is that of the plan's arc
-place_of : (c : After-entry-place) → c.entry-place.result ≡ get_or (start c.before).args.ownp.now (arc_at (start c.before).args.plan.now (start c.before).args.at).place 0
-place_of c = c.entry-place.ensures.0 ∙ ap (λ (a : Arc). get_or (start c.before).args.ownp.now a.place 0) c.word-w.ensures.arc
+place_of : (c : After-entry-place) → c.entry-place.result ≡ get_or (start (goal.at.After-entry-place c).After-word-w).args.ownp.now (arc_at (start (goal.at.After-entry-place c).After-word-w).args.plan.now (start (goal.at.After-entry-place c).After-word-w).args.at).place 0
+place_of c = c.entry-place.ensures.0 ∙ ap (λ (a : Arc). get_or (start (goal.at.After-entry-place c).After-word-w).args.ownp.now a.place 0) c.word-w.ensures.arc
 
 -- the comparison is that of the two arcs
 compared : (c : After-same)
-    → let s = start (looked_up c).before in
+    → let s = start (goal.at.After-entry-place (looked_up c)).After-word-w in
     c.same.result ≡ same_arc (arc_at s.args.slice.now (s.args.hs.arcstart + 8 * s.args.k)) (numbered (arc_at s.args.plan.now s.args.at) s.args.own ((looked_up c).entry-place.result - 1))
 compared c =
     let e = looked_up c in
-    let s = start e.before in
+    let s = start (goal.at.After-entry-place e).After-word-w in
     let below = c.if-upto-k.false in
     c.same.ensures
     ∙ one_word _ _ _ e.word-w.ensures s.requires.walk.zero _ _ _ c.word-v.ensures
@@ -40,25 +40,25 @@ entry-place-requires c = omega (arith, ap (λ (a : Arc). a.place) c.word-w.ensur
 pub returns-then-place-eq0 : goal.returns-then-place-eq0
 returns-then-place-eq0 c =
     let e = c in
-    let s = start e.before.before in
-    step-out _ _ _ _ _ _ _ _ s.requires.walk s.requires.against _ (place_of e.before) c.if-place-eq0.true
+    let s = start (goal.at.returns-then-place-eq0 e).After-word-w in
+    step-out _ _ _ _ _ _ _ _ s.requires.walk s.requires.against _ (place_of (goal.at.returns-then-place-eq0 e).After-entry-place) c.if-place-eq0.true
 
 pub returns-then-upto-k : goal.returns-then-upto-k
 returns-then-upto-k c =
     let e = c in
-    let s = start e.before.before.before in
-    step_end _ _ _ _ _ _ _ _ s.requires.walk s.requires.against _ (place_of e.before.before) c.if-place-eq0.false c.if-upto-k.true
+    let s = start (goal.at.returns-then-upto-k e).After-word-w in
+    step_end _ _ _ _ _ _ _ _ s.requires.walk s.requires.against _ (place_of (goal.at.returns-then-upto-k e).After-entry-place) c.if-place-eq0.false c.if-upto-k.true
 
 pub returns-then-same : goal.returns-then-same
 returns-then-same c =
-    let e = looked_up c.before in
-    let s = start e.before in
+    let e = looked_up (goal.at.returns-then-same c).After-same in
+    let s = start (goal.at.After-entry-place e).After-word-w in
     let none = c in
-    step_same _ _ _ _ _ _ _ _ s.requires.walk s.requires.against _ (place_of e) none.if-place-eq0.false none.if-upto-k.false _ (compared c.before) c.if-same.true
+    step_same _ _ _ _ _ _ _ _ s.requires.walk s.requires.against _ (place_of e) none.if-place-eq0.false none.if-upto-k.false _ (compared (goal.at.returns-then-same c).After-same) c.if-same.true
 
 pub returns : goal.returns
 returns c =
-    let e = looked_up c.before in
-    let s = start e.before in
+    let e = looked_up (goal.at.returns c).After-same in
+    let s = start (goal.at.After-entry-place e).After-word-w in
     let none = c in
-    step_other _ _ _ _ _ _ _ _ s.requires.walk s.requires.against _ (place_of e) none.if-place-eq0.false none.if-upto-k.false _ (compared c.before) c.if-same.false
+    step_other _ _ _ _ _ _ _ _ s.requires.walk s.requires.against _ (place_of e) none.if-place-eq0.false none.if-upto-k.false _ (compared (goal.at.returns c).After-same) c.if-same.false

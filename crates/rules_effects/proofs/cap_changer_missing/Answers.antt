@@ -7,7 +7,7 @@ use Rattle.rules_effects.proofs.cap_changer_missing.Goals.{After-limit_capped, A
 -- ---- the states: the plan's bytes known, the limits set
 
 abbrev bytes_of : After-limit_capped → After-shared_slice_known-1
-bytes_of c = c.before.before.before.before.before.before.before.before
+bytes_of c = (goal.at.After-limit_capped c).After-shared_slice_known-1
 
 abbrev call : After-limit_capped → Start
 call c = (bytes_of c).before
@@ -20,11 +20,11 @@ limit_capped-requires c =
 pub first_mover-requires : goal.first_mover-requires
 first_mover-requires c =
     let limited = c in
-    let s = call limited.before.before.before in
+    let s = call (goal.at.first_mover-requires limited).After-limit_capped in
     record { cases = s.requires.cases; resting = s.requires.resting; limit_len = limited.limit_capped.auto.1.1.1.0 ∙ s.requires.limit_len }
 
 pub returns : goal.returns
 returns c =
     let found = (c.first_mover.ensures.value, (c.first_mover.ensures.resting_2)) in
     let limited = c in
-    record { value = first-cap_changer _ _ _ _ _ _ _ (call limited.before.before.before.before.before.before).requires.cases (λ i. omega (arith, (bytes_of limited.before.before.before.before.before.before).type_inv.plan i)) _ limited.limit_capped.ensures _ found.value; resting_2 = found.resting_2 }
+    record { value = first-cap_changer _ _ _ _ _ _ _ (call (goal.at.returns limited).After-limit_capped).requires.cases (λ i. omega (arith, (bytes_of (goal.at.returns limited).After-limit_capped).type_inv.plan i)) _ limited.limit_capped.ensures _ found.value; resting_2 = found.resting_2 }

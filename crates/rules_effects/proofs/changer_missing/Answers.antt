@@ -19,18 +19,18 @@ abbrev call : After-unlimited → Start
 call c = (bytes_of c).before
 
 abbrev cleared : After-limit_criterion → After-unlimited
-cleared c = c.before.before.before.before
+cleared c = (goal.at.After-limit_criterion c).After-unlimited
 
 pub limit_criterion-requires : goal.limit_criterion-requires
 limit_criterion-requires c =
     let clear = c in
-    let s = call clear.before.before.before in
+    let s = call (goal.at.limit_criterion-requires clear).After-unlimited in
     criterion-fits _ _ s.requires.criterion_value _ (omega (arith, s.requires.resting.reached, s.requires.limit_len, clear.unlimited.auto.0))
 
 pub first_mover-requires : goal.first_mover-requires
 first_mover-requires c =
     let limited = c in
-    let clear = cleared limited.before.before.before in
+    let clear = cleared (goal.at.first_mover-requires limited).After-limit_criterion in
     let s = call clear in
     record { cases = s.requires.cases; resting = s.requires.resting; limit_len = limited.limit_criterion.auto.1.0 ∙ clear.unlimited.kept.0 ∙ s.requires.limit_len }
 
@@ -38,7 +38,7 @@ pub returns : goal.returns
 returns c =
     let found = (c.first_mover.ensures.value, (c.first_mover.ensures.resting_2)) in
     let limited = c in
-    let clear = cleared limited.before.before.before.before.before.before in
+    let clear = cleared (goal.at.returns limited).After-limit_criterion in
     let s = call clear in
     let Q = s.args.criterion.now in
     let in-limit : (p : ℕ) → p < s.args.hp.places → p < length clear.unlimited.new.limit = λ p l. omega (arith, s.requires.resting.reached, s.requires.limit_len, clear.unlimited.kept.0) in

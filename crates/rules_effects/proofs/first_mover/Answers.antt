@@ -6,43 +6,43 @@ use Rattle.rules_effects.proofs.first_mover.Goals.{After-left_out_moves, At-loop
 -- ---- the states: the call, the head of a turn, its transition tried
 
 abbrev call : At-loop-t → Start
-call c = c.before.before.before.before.before.before.before.before
+call c = (goal.at.At-loop-t c).Start
 
 abbrev Tried : Type 0
 Tried = After-left_out_moves
 
 abbrev tested : Tried → In-loop-t
-tested c = c.before.before
+tested c = (goal.at.After-left_out_moves c).In-loop-t
 
 abbrev turn_of : In-loop-t → At-loop-t
-turn_of c = c.before.before
+turn_of c = (goal.at.In-loop-t c).At-loop-t
 
 pub loop-t-init : goal.loop-t-init
 loop-t-init c = (none-start _ _, c.requires.resting, refl)
 
 pub left_out_moves-requires : goal.left_out_moves-requires
 left_out_moves-requires c =
-    let inv = (turn_of c.before).loop-t.invariant in
-    let s = call (turn_of c.before) in
+    let inv = (turn_of (goal.at.left_out_moves-requires c).In-loop-t).loop-t.invariant in
+    let s = call (turn_of (goal.at.left_out_moves-requires c).In-loop-t) in
     record { cases = s.requires.cases; resting = inv.1; limit_len = s.requires.limit_len ∙ sym inv.2; t_lt_transitions = c.loop-t-test.true }
 
 pub shape_of-column-then-left_out_moves : goal.shape_of-column-then-left_out_moves
 shape_of-column-then-left_out_moves c =
     let tried = c in
-    tried.left_out_moves.auto.1.1.1.1.1.1.1.1.1.0 ∙ (turn_of (tested tried.before.before.before)).loop-t.invariant.2
+    tried.left_out_moves.auto.1.1.1.1.1.1.1.1.1.0 ∙ (turn_of (tested (goal.at.shape_of-column-then-left_out_moves tried).After-left_out_moves)).loop-t.invariant.2
 
 pub returns-then-left_out_moves : goal.returns-then-left_out_moves
 returns-then-left_out_moves c =
     let tried = c in
     let moves = (tried.left_out_moves.ensures.value, (tried.left_out_moves.ensures.resting_2)) in
-    record { value = lowest-found _ _ _ (turn_of (tested tried.before.before.before)).loop-t.invariant.0 (tested tried.before.before.before).loop-t-test.true (sym moves.value ∙ c.if-left_out_moves.true); resting_2 = moves.resting_2 }
+    record { value = lowest-found _ _ _ (turn_of (tested (goal.at.returns-then-left_out_moves tried).After-left_out_moves)).loop-t.invariant.0 (tested (goal.at.returns-then-left_out_moves tried).After-left_out_moves).loop-t-test.true (sym moves.value ∙ c.if-left_out_moves.true); resting_2 = moves.resting_2 }
 
 pub loop-t-preserved : goal.loop-t-preserved
 loop-t-preserved c =
     let tried = c in
     let moves = (tried.left_out_moves.ensures.value, (tried.left_out_moves.ensures.resting_2)) in
-    let inv = (turn_of (tested tried.before.before.before)).loop-t.invariant in
-    (none-next _ _ _ inv.0 (tested tried.before.before.before).loop-t-test.true (sym moves.value ∙ c.if-left_out_moves.false), moves.resting_2, tried.left_out_moves.auto.1.1.1.1.1.1.1.1.1.0 ∙ inv.2)
+    let inv = (turn_of (tested (goal.at.loop-t-preserved tried).After-left_out_moves)).loop-t.invariant in
+    (none-next _ _ _ inv.0 (tested (goal.at.loop-t-preserved tried).After-left_out_moves).loop-t-test.true (sym moves.value ∙ c.if-left_out_moves.false), moves.resting_2, tried.left_out_moves.auto.1.1.1.1.1.1.1.1.1.0 ∙ inv.2)
 
 pub shape_of-column : goal.shape_of-column
 shape_of-column c = c.loop-t.invariant.2

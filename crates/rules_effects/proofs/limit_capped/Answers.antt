@@ -11,14 +11,14 @@ use Rattle.rules_effects.proofs.limit_capped.Goals.{After-change_limit, At-loop-
 -- ---- the states: the call, the head of a turn
 
 abbrev call : At-loop-p → Start
-call c = c.before.before.before.before
+call c = (goal.at.At-loop-p c).Start
 
 abbrev turn_of : After-change_limit → In-loop-p
-turn_of c = c.before.before.before
+turn_of c = (goal.at.After-change_limit c).In-loop-p
 
 -- the place has an entry
 within : (c : In-loop-p) → c.loop-p.p < length c.loop-p.limit
-within c = omega (arith, c.loop-p-test.true, c.loop-p.invariant.1, (call c.before).requires.places_in_bounds_2)
+within c = omega (arith, c.loop-p-test.true, c.loop-p.invariant.1, (call (goal.at.In-loop-p c).At-loop-p).requires.places_in_bounds_2)
 
 pub loop-p-init : goal.loop-p-init
 loop-p-init c = (omega arith, refl, λ q l. absurd (omega arith))
@@ -30,7 +30,7 @@ pub loop-p-preserved : goal.loop-p-preserved
 loop-p-preserved c =
     let t = turn_of c in
     let at = t.loop-p in
-    let a = (call t.before).args in
+    let a = (call (goal.at.In-loop-p t).At-loop-p).args in
     let read = c in
     let due = c.change_limit.ensures ∙ ap (λ (n : ℕ). change_limit n read.cap.result) read.entry-own.ensures.0 ∙ ap (change_limit (get_or a.ownp.now at.p 0)) read.cap.ensures.0 in (
       omega arith,

@@ -15,14 +15,14 @@ due n = limit_on (eqb n 0) 4294967295 1073741824
 -- ---- the states: the call, the head of a turn
 
 abbrev call : At-loop-p → Start
-call c = c.before.before.before
+call c = (goal.at.At-loop-p c).Start
 
 abbrev turn_of : After-raise_limit → In-loop-p
-turn_of c = c.before.before
+turn_of c = (goal.at.After-raise_limit c).In-loop-p
 
 -- the place has an entry
 within : (c : In-loop-p) → c.loop-p.p < length c.loop-p.limit
-within c = omega (arith, c.loop-p-test.true, c.loop-p.invariant.1, (call c.before).requires.places_in_bounds_2)
+within c = omega (arith, c.loop-p-test.true, c.loop-p.invariant.1, (call (goal.at.In-loop-p c).At-loop-p).requires.places_in_bounds_2)
 
 pub loop-p-init : goal.loop-p-init
 loop-p-init c = (omega arith, refl, λ q l. absurd (omega arith))
@@ -34,7 +34,7 @@ pub loop-p-preserved : goal.loop-p-preserved
 loop-p-preserved c =
     let t = turn_of c in
     let at = t.loop-p in
-    let ownp = (call t.before).args.ownp.now in (
+    let ownp = (call (goal.at.In-loop-p t).At-loop-p).args.ownp.now in (
       omega arith,
       still_long at.limit at.p c.raise_limit.result _ at.invariant.1,
       written (λ q. due (get_or ownp q 0)) at.limit at.p c.raise_limit.result (within t) at.invariant.2 (c.raise_limit.ensures ∙ ap due c.entry.ensures.0),

@@ -7,7 +7,7 @@ use Rattle.rules_effects.proofs.raiser_missing.Goals.{After-limit_kept, After-sh
 -- ---- the states: the plan's bytes known, the limits set
 
 abbrev bytes_of : After-limit_kept → After-shared_slice_known-1
-bytes_of c = c.before.before.before.before.before.before.before.before
+bytes_of c = (goal.at.After-limit_kept c).After-shared_slice_known-1
 
 abbrev call : After-limit_kept → Start
 call c = (bytes_of c).before
@@ -20,11 +20,11 @@ limit_kept-requires c =
 pub first_mover-requires : goal.first_mover-requires
 first_mover-requires c =
     let limited = c in
-    let s = call limited.before.before.before in
+    let s = call (goal.at.first_mover-requires limited).After-limit_kept in
     record { cases = s.requires.cases; resting = s.requires.resting; limit_len = limited.limit_kept.auto.1.1.0 ∙ s.requires.limit_len }
 
 pub returns : goal.returns
 returns c =
     let found = (c.first_mover.ensures.value, (c.first_mover.ensures.resting_2)) in
     let limited = c in
-    record { value = first-raiser _ _ _ _ _ _ _ (call limited.before.before.before.before.before.before).requires.cases (λ i. omega (arith, (bytes_of limited.before.before.before.before.before.before).type_inv.plan i)) _ limited.limit_kept.ensures _ found.value; resting_2 = found.resting_2 }
+    record { value = first-raiser _ _ _ _ _ _ _ (call (goal.at.returns limited).After-limit_kept).requires.cases (λ i. omega (arith, (bytes_of (goal.at.returns limited).After-limit_kept).type_inv.plan i)) _ limited.limit_kept.ensures _ found.value; resting_2 = found.resting_2 }

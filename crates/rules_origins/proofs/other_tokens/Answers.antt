@@ -17,70 +17,70 @@ loop-i-init c = (omega arith, λ k l. absurd (omega arith))
 -- ---- the states: the call, the head of a turn, its origin read, both markings read
 
 abbrev call : At-loop-i → Start
-call c = c.before.before.before
+call c = (goal.at.At-loop-i c).Start
 
 abbrev turn_of : After-get16-p → In-loop-i
-turn_of c = c.before
+turn_of c = (goal.at.After-get16-p c).In-loop-i
 
 abbrev origin_of : After-marking → After-get16-p
-origin_of c = c.before.before
+origin_of c = (goal.at.After-marking c).After-get16-p
 
 -- the origin that was read
-origin_is : (c : After-get16-p) → let t = (turn_of c).before in let a = (call t.before).args in c.get16-p.result ≡ get_or (slice_from a.slice.now a.hs).place_origins t.loop-i.i 0
+origin_is : (c : After-get16-p) → let t = (turn_of c).before in let a = (call (goal.at.In-loop-i t).At-loop-i).args in c.get16-p.result ≡ get_or (slice_from a.slice.now a.hs).place_origins t.loop-i.i 0
 origin_is c =
     let t = turn_of c in
-    let a = (call t.before).args in
+    let a = (call (goal.at.In-loop-i t).At-loop-i).args in
     c.get16-p.ensures.0 ∙ sym (words-at a.slice.now a.hs.originstart a.hs.places t.loop-i.i t.loop-i-test.true)
 
-inside : (c : In-loop-i) → let a = (call c.before).args in c.loop-i.i < length (slice_from a.slice.now a.hs).place_origins
-inside c = let a = (call c.before).args in omega (arith, length-words a.slice.now a.hs.originstart a.hs.places, c.loop-i-test.true)
+inside : (c : In-loop-i) → let a = (call (goal.at.In-loop-i c).At-loop-i).args in c.loop-i.i < length (slice_from a.slice.now a.hs).place_origins
+inside c = let a = (call (goal.at.In-loop-i c).At-loop-i).args in omega (arith, length-words a.slice.now a.hs.originstart a.hs.places, c.loop-i-test.true)
 
 -- the plan's tokens of that place
-tokens_are : (c : After-marking) → let o = origin_of c in let t = (turn_of o).before in let a = (call t.before).args in
+tokens_are : (c : After-marking) → let o = origin_of c in let t = (turn_of o).before in let a = (call (goal.at.In-loop-i t).At-loop-i).args in
     c.marking-tokens.result ≡ (net_from a.plan.now a.hp).marking (get_or (slice_from a.slice.now a.hs).place_origins t.loop-i.i 0)
 tokens_are c =
     let o = origin_of c in
-    let a = (call (turn_of o).before).args in
+    let a = (call (goal.at.In-loop-i (turn_of o)).At-loop-i).args in
     c.marking-tokens.ensures.0 ∙ ap (net_from a.plan.now a.hp).marking (origin_is o)
 
 pub get16-p-requires : goal.get16-p-requires
 get16-p-requires c =
-    let pre = ((call c.before).requires.sound, ((call c.before).requires.sound_2, ((call c.before).requires.kind_value, ((call c.before).requires.known, ((call c.before).requires.uncapped, ((call c.before).requires.uncapped_2)))))) in
+    let pre = ((call (goal.at.get16-p-requires c).At-loop-i).requires.sound, ((call (goal.at.get16-p-requires c).At-loop-i).requires.sound_2, ((call (goal.at.get16-p-requires c).At-loop-i).requires.kind_value, ((call (goal.at.get16-p-requires c).At-loop-i).requires.known, ((call (goal.at.get16-p-requires c).At-loop-i).requires.uncapped, ((call (goal.at.get16-p-requires c).At-loop-i).requires.uncapped_2)))))) in
     let w = (place-origins _ _ pre.sound_2 pre.kind_value).fit in
     omega (arith, c.loop-i-test.true)
 
 pub marking-tokens-requires : goal.marking-tokens-requires
 marking-tokens-requires c =
     let t = turn_of c in
-    let pre = ((call t.before).requires.sound, ((call t.before).requires.sound_2, ((call t.before).requires.kind_value, ((call t.before).requires.known, ((call t.before).requires.uncapped, ((call t.before).requires.uncapped_2)))))) in
+    let pre = ((call (goal.at.In-loop-i t).At-loop-i).requires.sound, ((call (goal.at.In-loop-i t).At-loop-i).requires.sound_2, ((call (goal.at.In-loop-i t).At-loop-i).requires.kind_value, ((call (goal.at.In-loop-i t).At-loop-i).requires.known, ((call (goal.at.In-loop-i t).At-loop-i).requires.uncapped, ((call (goal.at.In-loop-i t).At-loop-i).requires.uncapped_2)))))) in
     let known = pre.known.at t.loop-i.i (inside t) in
     record { placed = pre.sound.placed; place_lt_places = rw (origin_is c) known }
 
 pub marking-requires : goal.marking-requires
 marking-requires c =
-    let t = turn_of c.before in
-    record { placed = (call t.before).requires.sound_2.placed; place_lt_places = t.loop-i-test.true }
+    let t = turn_of (goal.at.marking-requires c).After-get16-p in
+    record { placed = (call (goal.at.In-loop-i t).At-loop-i).requires.sound_2.placed; place_lt_places = t.loop-i-test.true }
 
 pub returns-then-marking-tokens : goal.returns-then-marking-tokens
 returns-then-marking-tokens c =
     let read = c in
-    let t = turn_of (origin_of read.before) in
-    let pre = ((call t.before).requires.sound, ((call t.before).requires.sound_2, ((call t.before).requires.kind_value, ((call t.before).requires.known, ((call t.before).requires.uncapped, ((call t.before).requires.uncapped_2)))))) in
-    origin_is (origin_of read.before)
+    let t = turn_of (origin_of (goal.at.returns-then-marking-tokens read).After-marking) in
+    let pre = ((call (goal.at.In-loop-i t).At-loop-i).requires.sound, ((call (goal.at.In-loop-i t).At-loop-i).requires.sound_2, ((call (goal.at.In-loop-i t).At-loop-i).requires.kind_value, ((call (goal.at.In-loop-i t).At-loop-i).requires.known, ((call (goal.at.In-loop-i t).At-loop-i).requires.uncapped, ((call (goal.at.In-loop-i t).At-loop-i).requires.uncapped_2)))))) in
+    origin_is (origin_of (goal.at.returns-then-marking-tokens read).After-marking)
     ∙ other-found _ _ (pre.sound_2.place_origins pre.kind_value) pre.known t.loop-i.i (inside t) t.loop-i.invariant.1
-    (tokens-decide _ _ pre.uncapped pre.uncapped_2 _ _ ∙ ne_eqb _ _ (λ e. c.if-marking-tokens.true (read.marking.ensures.0 ∙ e ∙ sym (tokens_are read.before))))
+    (tokens-decide _ _ pre.uncapped pre.uncapped_2 _ _ ∙ ne_eqb _ _ (λ e. c.if-marking-tokens.true (read.marking.ensures.0 ∙ e ∙ sym (tokens_are (goal.at.returns-then-marking-tokens read).After-marking))))
 
 pub loop-i-preserved : goal.loop-i-preserved
 loop-i-preserved c =
     let read = c in
-    let t = turn_of (origin_of read.before) in
-    let pre = ((call t.before).requires.sound, ((call t.before).requires.sound_2, ((call t.before).requires.kind_value, ((call t.before).requires.known, ((call t.before).requires.uncapped, ((call t.before).requires.uncapped_2)))))) in
-    let same = tokens-decide _ _ pre.uncapped pre.uncapped_2 _ _ ∙ eq-eqb _ _ (sym read.marking.ensures.0 ∙ c.if-marking-tokens.false ∙ tokens_are read.before) in
+    let t = turn_of (origin_of (goal.at.loop-i-preserved read).After-marking) in
+    let pre = ((call (goal.at.In-loop-i t).At-loop-i).requires.sound, ((call (goal.at.In-loop-i t).At-loop-i).requires.sound_2, ((call (goal.at.In-loop-i t).At-loop-i).requires.kind_value, ((call (goal.at.In-loop-i t).At-loop-i).requires.known, ((call (goal.at.In-loop-i t).At-loop-i).requires.uncapped, ((call (goal.at.In-loop-i t).At-loop-i).requires.uncapped_2)))))) in
+    let same = tokens-decide _ _ pre.uncapped pre.uncapped_2 _ _ ∙ eq-eqb _ _ (sym read.marking.ensures.0 ∙ c.if-marking-tokens.false ∙ tokens_are (goal.at.loop-i-preserved read).After-marking) in
     (omega (arith, t.loop-i-test.true), below_more _ _ t.loop-i.invariant.1 (record { same = same }))
 
 pub returns : goal.returns
 returns c =
-    let s = call c.before in
+    let s = call (goal.at.returns c).At-loop-i in
     let a = s.args in
     let pre = (s.requires.sound, (s.requires.sound_2, (s.requires.kind_value, (s.requires.known, (s.requires.uncapped, (s.requires.uncapped_2)))))) in
     let long = length-words a.slice.now a.hs.originstart a.hs.places in

@@ -5,32 +5,32 @@ use Rattle.run_cut.proofs.fed_by.Goals.{After-back, After-enter_criterion, After
 -- ---- the states: the call, the rows made, the criterion entered, gone back over
 
 abbrev call : After-slice_known-4-1 → Start
-call c = c.before.before.before.before.before.before.before
+call c = (goal.at.After-slice_known-4-1 c).Start
 
 abbrev start_of : After-index → Start
-start_of c = call c.before.before.before
+start_of c = call (goal.at.After-index c).After-slice_known-4-1
 
 abbrev indexed_of : After-slice_known-6-1 → After-index
-indexed_of c = c.before.before.before.before
+indexed_of c = (goal.at.After-slice_known-6-1 c).After-index
 
 abbrev entered_of : After-slice_known-7-1 → After-enter_criterion
-entered_of c = c.before.before
+entered_of c = (goal.at.After-slice_known-7-1 c).After-enter_criterion
 
 abbrev lent_of : After-enter_criterion → After-slice_known-6-1
-lent_of c = c.before.before.before
+lent_of c = (goal.at.After-enter_criterion c).After-slice_known-6-1
 
 abbrev ready_of : After-back → After-slice_known-7-1
-ready_of c = c.before.before.before.before.before
+ready_of c = (goal.at.After-back c).After-slice_known-7-1
 
 pub index-requires : goal.index-requires
 index-requires c =
-    let s = call c.before.before in
+    let s = call (goal.at.index-requires c).After-slice_known-4-1 in
     let lent = s.requires.lent.0 in
     record { sound = s.requires.given.sound; places_in_bounds = (lent.head-long, lent.next-long); by_index = lent.no_row }
 
 pub enter_criterion-requires : goal.enter_criterion-requires
 enter_criterion-requires c =
-    let indexed = indexed_of c.before.before in
+    let indexed = indexed_of (goal.at.enter_criterion-requires c).After-slice_known-6-1 in
     let s = start_of indexed in
     let tables = s.requires.lent in
     let places = s.requires.empty.0 in
@@ -38,7 +38,7 @@ enter_criterion-requires c =
 
 pub back-requires : goal.back-requires
 back-requires c =
-    let entered = entered_of c.before.before.before.before in
+    let entered = entered_of (goal.at.back-requires c).After-slice_known-7-1 in
     let indexed = indexed_of (lent_of entered) in
     let s = start_of indexed in
     let g = s.requires.given in
@@ -49,5 +49,5 @@ back-requires c =
 pub returns : goal.returns
 returns c =
     let gone-back = c in
-    let s = start_of (indexed_of (lent_of (entered_of (ready_of gone-back.before.before.before.before)))) in
+    let s = start_of (indexed_of (lent_of (entered_of (ready_of (goal.at.returns gone-back).After-back)))) in
     traced _ s.args.h _ _ s.requires.given _ _ _ _ _ gone-back.back.ensures

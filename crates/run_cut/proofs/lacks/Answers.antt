@@ -8,10 +8,10 @@ use Rattle.run_cut.proofs.lacks.Goals.{After-shared_slice_known-2-1, Start}
 -- ---- the states: the call, counted
 
 abbrev call : After-shared_slice_known-2-1 → Start
-call c = c.before.before
+call c = (goal.at.After-shared_slice_known-2-1 c).Start
 
 pub returns-then-end-room : goal.returns-then-end-room
-returns-then-end-room c = let s = call c.before in sym (room-for_all _ _ _ _ s.requires.1 (omega (arith, c.if-end-room.true)))
+returns-then-end-room c = let s = call (goal.at.returns-then-end-room c).After-shared_slice_known-2-1 in sym (room-for_all _ _ _ _ s.requires.1 (omega (arith, c.if-end-room.true)))
 
 pub returns : goal.returns
-returns c = ap (ltb (call c.before.before).args.room) c.counted.ensures
+returns c = ap (ltb (call (goal.at.returns c).After-shared_slice_known-2-1).args.room) c.counted.ensures

@@ -13,13 +13,13 @@ use Rattle.run_cut.proofs.write.Goals.{After-lacks, After-write-slice, In-Writte
 -- ---- the states: the call, whether positions lack room, the slice written
 
 abbrev call : After-lacks → Start
-call c = c.before.before.before.before.before.before.before
+call c = (goal.at.After-lacks c).Start
 
 abbrev asked_of : After-write-slice → After-lacks
-asked_of c = c.before.before.before
+asked_of c = (goal.at.After-write-slice c).After-lacks
 
 abbrev written_of : In-Written-2 → After-write-slice
-written_of c = c.before.before.before.before
+written_of c = (goal.at.In-Written-2 c).After-write-slice
 
 -- the sets that are lent
 abbrev kept_of : Start → KeptSets
@@ -34,21 +34,21 @@ lacks-requires c = let f = c.requires.fed_by in (f.reached, f.ended)
 
 pub returns-then-lacks : goal.returns-then-lacks
 returns-then-lacks c =
-    let s = call c.before in
+    let s = call (goal.at.returns-then-lacks c).After-lacks in
     no_entries _ s.args.h _ _ _ (kept_of s) _ s.requires.given s.requires.fed_by _ _ (ltb-true _ _ (sym c.lacks.ensures ∙ c.if-lacks.true))
 
 pub write-slice-requires : goal.write-slice-requires
-write-slice-requires c = let s = call c.before.before in record { sound = s.requires.given.sound; within = s.requires.fed_by.within }
+write-slice-requires c = let s = call (goal.at.write-slice-requires c).After-lacks in record { sound = s.requires.given.sound; within = s.requires.fed_by.within }
 
 pub returns-in_default : goal.returns-in_default
 returns-in_default c =
     let after = c in
-    let s = call (asked_of after.before.before.before.before) in
+    let s = call (asked_of (goal.at.returns-in_default after).After-write-slice) in
     no_room _ s.args.h _ _ _ (kept_of s) _ s.requires.given s.requires.fed_by _ _ _ after.write-slice.ensures.buffer _ (sym (ap cut_numbers c.in_default.is) ∙ after.write-slice.ensures.answer)
 
 pub write_positions-count-requires : goal.write_positions-count-requires
 write_positions-count-requires c =
-    let after = written_of c.before.before in
+    let after = written_of (goal.at.write_positions-count-requires c).In-Written-2 in
     let s = call (asked_of after) in
     let f = s.requires.fed_by in
     (f.reached, f.ended, enough after)
@@ -56,14 +56,14 @@ write_positions-count-requires c =
 pub overflow_cast-chosen : goal.overflow_cast-chosen
 overflow_cast-chosen c =
     let put = c in
-    let s = call (asked_of (written_of put.before.before.before.before.before)) in
+    let s = call (asked_of (written_of (goal.at.overflow_cast-chosen put).In-Written-2)) in
     omega (arith, put.write_positions-count.ensures.0, count-few _ s.args.h _ _ _ (kept_of s) _ s.requires.given s.requires.fed_by s.args.buffer.now s.args.positions.now)
 
 pub returns : goal.returns
 returns c =
     let put = c in
     let told = put in
-    let after = written_of told.before.before.before.before.before in
+    let after = written_of (goal.at.returns told).In-Written-2 in
     let s = call (asked_of after) in
     whole _ s.args.h _ _ _ (kept_of s) _ s.requires.given s.requires.fed_by _ _ _ after.write-slice.ensures.buffer _ _ _ (sym (ap cut_numbers told.in-Written.is) ∙ after.write-slice.ensures.answer)
     (enough after) _ put.write_positions-count.ensures.0 _ put.write_positions-count.ensures.1

@@ -14,10 +14,10 @@ abbrev Met : Type 0
 Met = After-met-k
 
 abbrev start_of : After-slice_known-2-1 → Start
-start_of c = c.before.before.before.before.before.before.before
+start_of c = (goal.at.After-slice_known-2-1 c).Start
 
 abbrev call : Met → Start
-call c = start_of c.before
+call c = start_of (goal.at.After-met-k c).After-slice_known-2-1
 
 abbrev Turn : Type 0
 Turn = At-loop-k
@@ -26,10 +26,10 @@ abbrev Taken : Type 0
 Taken = After-take_up-end
 
 abbrev turn_of : Taken → Turn
-turn_of c = c.before.before.before.before.before.before
+turn_of c = (goal.at.After-take_up-end c).At-loop-k
 
 abbrev first_of : After-last-1 → After-first-1
-first_of c = c.before.before
+first_of c = (goal.at.After-last-1 c).After-first-1
 
 abbrev taken_of : After-last-1 → Taken
 taken_of c = (first_of c).before
@@ -47,38 +47,38 @@ loop-k-init c =
     (met_next _ s.args.h s.requires.sound.0 _ s.requires.sound.2 _ _ _ _ _ _ _ _ c.met-k.ensures s.requires.back, c.met-k.ensures.waiting, refl, refl)
 
 -- the firing before k stands in the list
-in_list : (t : Turn) → 0 < t.loop-k.k → t.loop-k.k - 1 < length (call t.before).args.list.now
+in_list : (t : Turn) → 0 < t.loop-k.k → t.loop-k.k - 1 < length (call (goal.at.At-loop-k t).After-met-k).args.list.now
 in_list t some = omega (arith, t.loop-k.invariant.0.within)
 
 pub take_up-end-requires : goal.take_up-end-requires
 take_up-end-requires c =
     let turn = c in
     let t = turn in
-    let s = call t.before.before.before.before.before.before in
+    let s = call (goal.at.take_up-end-requires t).After-met-k in
     let some = turn.loop-k-test.true in
-    record { sound = s.requires.sound; k_nonzero = (some, s.requires.list_len_bound.0, s.requires.list_len_bound.1 (t.loop-k.k - 1) (in_list t.before.before.before.before.before some), t.loop-k.invariant.1 some); back = t.loop-k.invariant.0 }
+    record { sound = s.requires.sound; k_nonzero = (some, s.requires.list_len_bound.0, s.requires.list_len_bound.1 (t.loop-k.k - 1) (in_list (goal.at.take_up-end-requires t).At-loop-k some), t.loop-k.invariant.1 some); back = t.loop-k.invariant.0 }
 
 pub met-k-requires-in-loop-k : goal.met-k-requires-in-loop-k
 met-k-requires-in-loop-k c =
-    let taken = taken_of c.before in
+    let taken = taken_of (goal.at.met-k-requires-in-loop-k c).After-last-1 in
     let t = turn_of taken in
-    let s = call t.before in
+    let s = call (goal.at.At-loop-k t).After-met-k in
     (omega (arith, t.loop-k.invariant.0.within), λ i l. omega (arith, s.requires.list_len_bound.1 i l, taken.take_up-end.ensures.first-long))
 
 pub loop-k-smaller : goal.loop-k-smaller
 loop-k-smaller c =
-    let t = taken_of c.before.before in
+    let t = taken_of (goal.at.loop-k-smaller c).After-last-1 in
     omega (arith, c.met-k-in-loop-k.ensures.within, t.loop-k-test.true)
 
 pub loop-k-preserved : goal.loop-k-preserved
 loop-k-preserved c =
     let kept = c in
-    let taken = taken_of kept.before.before in
+    let taken = taken_of (goal.at.loop-k-preserved kept).After-last-1 in
     let t = turn_of taken in
-    let s = call t.before in (
+    let s = call (goal.at.At-loop-k t).After-met-k in (
       met_next _ s.args.h s.requires.sound.0 _ s.requires.sound.2 _ _ _ _ _ _ _ _ c.met-k-in-loop-k.ensures taken.take_up-end.ensures,
       c.met-k-in-loop-k.ensures.waiting,
-      (first_of kept.before.before).first-1.given ∙ t.loop-k.invariant.2,
+      (first_of (goal.at.loop-k-preserved kept).After-last-1).first-1.given ∙ t.loop-k.invariant.2,
       kept.last-1.given ∙ t.loop-k.invariant.3,
     )
 
@@ -91,5 +91,5 @@ shape_of-last c = c.loop-k.invariant.3
 pub returns : goal.returns
 returns c =
     let t = c in
-    let s = call t.before.before in
+    let s = call (goal.at.returns t).After-met-k in
     back_end _ s.args.h s.requires.sound.0 _ s.requires.sound.2 _ _ _ _ _ _ _ (omega (arith, c.loop-k-test.false)) t.loop-k.invariant.0

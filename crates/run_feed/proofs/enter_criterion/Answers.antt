@@ -11,13 +11,13 @@ abbrev Turn : Type 0
 Turn = At-loop-i
 
 abbrev call : Turn → Start
-call c = c.before.before.before.before.before.before.before
+call c = (goal.at.At-loop-i c).Start
 
 abbrev Read : Type 0
 Read = After-wide
 
 abbrev turn_of : Read → Turn
-turn_of c = c.before.before.before
+turn_of c = (goal.at.After-wide c).At-loop-i
 
 pub loop-i-init : goal.loop-i-init
 loop-i-init c = let start = c in criterion-none _ start.args.h _ start.args.criterion.now _ _ start.requires.sound.2
@@ -25,7 +25,7 @@ loop-i-init c = let start = c in criterion-none _ start.args.h _ start.args.crit
 pub enter-requires : goal.enter-requires
 enter-requires c =
     let read = c in
-    let t = turn_of read.before.before in
+    let t = turn_of (goal.at.enter-requires read).After-wide in
     let s = call t in
     let Q = s.args.criterion.now in (
       s.requires.sound.0,
@@ -40,7 +40,7 @@ pub loop-i-preserved : goal.loop-i-preserved
 loop-i-preserved c =
     let entered = c in
     let read = entered in
-    let t = turn_of read.before.before.before.before.before in
+    let t = turn_of (goal.at.loop-i-preserved read).After-wide in
     let s = call t in
     criterion-more _ s.args.h _ _ _ _ _ _ _ t.loop-i.invariant _ _ _ read.loop-i-test.true read.wide.ensures.0 entered.enter.ensures
 
@@ -48,4 +48,4 @@ pub shape_of-first : goal.shape_of-first
 shape_of-first c = c.loop-i.invariant.first-long
 
 pub returns : goal.returns
-returns c = let s = call c.before in criterion-end _ s.args.h _ _ _ _ _ _ _ c.loop-i.invariant c.loop-i-test.false
+returns c = let s = call (goal.at.returns c).At-loop-i in criterion-end _ s.args.h _ _ _ _ _ _ _ c.loop-i.invariant c.loop-i-test.false

@@ -14,16 +14,16 @@ abbrev Turn : Type 0
 Turn = At-loop-j
 
 abbrev call : Turn → Start
-call c = c.before.before.before.before.before.before
+call c = (goal.at.At-loop-j c).Start
 
 abbrev Read : Type 0
 Read = After-arc-a
 
 abbrev turn_of : Read → Turn
-turn_of c = c.before.before
+turn_of c = (goal.at.After-arc-a c).At-loop-j
 
 abbrev read_of : Else-a-t → Read
-read_of c = c.before.before.before
+read_of c = (goal.at.Else-a-t c).After-arc-a
 
 -- the transition and the direction of the arc as one number
 sum : (c : Read) → let s = call (turn_of c) in let j = (turn_of c).loop-j.j in
@@ -40,18 +40,18 @@ loop-j-init c =
     inputs-none _ start.args.h _ start.requires.sound.0 _ _ start.requires.t_lt_transitions.0 start.requires.t_lt_transitions.1 _ _ start.requires.sound.2
 
 pub shape_of-first-then-a-t : goal.shape_of-first-then-a-t
-shape_of-first-then-a-t c = (turn_of c.before.before.before).loop-j.invariant.entered.first-long
+shape_of-first-then-a-t c = (turn_of (goal.at.shape_of-first-then-a-t c).After-arc-a).loop-j.invariant.entered.first-long
 
 pub returns-then-a-t : goal.returns-then-a-t
 returns-then-a-t c =
     let read = c in
-    let t = turn_of read.before.before.before in
+    let t = turn_of (goal.at.returns-then-a-t read).After-arc-a in
     let s = call t in
-    inputs-stop _ s.args.h _ s.requires.sound.0 _ _ s.requires.t_lt_transitions.0 s.requires.t_lt_transitions.1 _ _ _ _ _ t.loop-j.invariant (below read.before.before.before) (λ e. c.if-a-t.true (sum read.before.before.before ∙ e))
+    inputs-stop _ s.args.h _ s.requires.sound.0 _ _ s.requires.t_lt_transitions.0 s.requires.t_lt_transitions.1 _ _ _ _ _ t.loop-j.invariant (below (goal.at.returns-then-a-t read).After-arc-a) (λ e. c.if-a-t.true (sum (goal.at.returns-then-a-t read).After-arc-a ∙ e))
 
 pub enter-requires : goal.enter-requires
 enter-requires c =
-    let read = read_of c.before.before in
+    let read = read_of (goal.at.enter-requires c).Else-a-t in
     let t = turn_of read in
     let s = call t in
     let good = good-at s.args.file.now s.args.h s.requires.sound.0 t.loop-j.j (below read) in (
@@ -66,14 +66,14 @@ enter-requires c =
 pub overflow_add-j : goal.overflow_add-j
 overflow_add-j c =
     let entered = c in
-    let read = read_of entered.before.before.before.before.before in
+    let read = read_of (goal.at.overflow_add-j entered).Else-a-t in
     omega (arith, below read, (call (turn_of read)).requires.sound.0.placed.arcs)
 
 pub loop-j-preserved : goal.loop-j-preserved
 loop-j-preserved c =
     let entered = c in
     let else = entered in
-    let read = read_of else.before.before.before.before.before in
+    let read = read_of (goal.at.loop-j-preserved else).Else-a-t in
     let t = turn_of read in
     let s = call t in
     inputs-more _ s.args.h _ s.requires.sound.0 _ _ s.requires.t_lt_transitions.0 s.requires.t_lt_transitions.1 _ _ _ _ _ t.loop-j.invariant (below read)
@@ -84,5 +84,5 @@ shape_of-first c = c.loop-j.invariant.entered.first-long
 
 pub returns : goal.returns
 returns c =
-    let s = call c.before in
+    let s = call (goal.at.returns c).At-loop-j in
     inputs-all _ s.args.h _ s.requires.sound.0 _ _ s.requires.t_lt_transitions.0 s.requires.t_lt_transitions.1 _ _ _ _ _ c.loop-j.invariant (omega (arith, c.loop-j-test.false))

@@ -12,10 +12,10 @@ abbrev Turn : Type 0
 Turn = At-loop-i
 
 abbrev call : Turn → Start
-call c = c.before.before.before.before
+call c = (goal.at.At-loop-i c).Start
 
 abbrev turn_of : After-waiting → Turn
-turn_of c = c.before.before
+turn_of c = (goal.at.After-waiting c).At-loop-i
 
 -- none from i to k waits
 so_far : (t : Turn) → let s = call t in (t.loop-i.i ≤ s.args.k) × PassedBy s.args.list.now s.args.first.now t.loop-i.i s.args.k
@@ -28,18 +28,18 @@ pub loop-i-init : goal.loop-i-init
 loop-i-init c = (within, passed)
 
 pub waiting-requires : goal.waiting-requires
-waiting-requires c = let t = c in let s = call t.before in (omega (arith, c.loop-i-test.true, (so_far t.before).0, s.requires.0), s.requires.1)
+waiting-requires c = let t = c in let s = call (goal.at.waiting-requires t).At-loop-i in (omega (arith, c.loop-i-test.true, (so_far (goal.at.waiting-requires t).At-loop-i).0, s.requires.0), s.requires.1)
 
 pub returns-then-waiting-ne0 : goal.returns-then-waiting-ne0
 returns-then-waiting-ne0 c =
     let read = c in
-    let x = so_far (turn_of read.before) in
+    let x = so_far (turn_of (goal.at.returns-then-waiting-ne0 read).After-waiting) in
     record { within = x.0; passed = x.1; waiting = λ w. omega (arith, read.waiting.ensures.0, c.if-waiting-ne0.true) }
 
 pub loop-i-preserved : goal.loop-i-preserved
 loop-i-preserved c =
     let read = c in
-    let t = turn_of read.before in
+    let t = turn_of (goal.at.loop-i-preserved read).After-waiting in
     let x = t.loop-i.invariant within passed in
     let s = call t in
     let list = s.args.list.now in
@@ -48,5 +48,5 @@ loop-i-preserved c =
 
 pub returns : goal.returns
 returns c =
-    let x = so_far c.before in
+    let x = so_far (goal.at.returns c).At-loop-i in
     record { within = omega arith; passed = λ j a b. x.1 j (omega (arith, c.loop-i-test.false)) b; waiting = λ w. absurd (omega arith) }

@@ -10,19 +10,19 @@ use Rattle.run_feed.proofs.take_up.Goals.{After-enter_inputs, After-entry-from, 
 -- ---- the states: the call, the transition read, its entry, it is inserted, its inputs entered
 
 abbrev call : After-slice_known-1 → Start
-call c = c.before.before.before.before.before.before
+call c = (goal.at.After-slice_known-1 c).Start
 
 abbrev known_of : After-wide-t → After-slice_known-1
-known_of c = c.before.before.before
+known_of c = (goal.at.After-wide-t c).After-slice_known-1
 
 abbrev read_of : After-entry-from → After-wide-t
-read_of c = c.before
+read_of c = (goal.at.After-entry-from c).After-wide-t
 
 abbrev entry_of : After-insert → After-entry-from
-entry_of c = c.before.before
+entry_of c = (goal.at.After-insert c).After-entry-from
 
 abbrev inserted_of : After-enter_inputs → After-insert
-inserted_of c = c.before.before.before
+inserted_of c = (goal.at.After-enter_inputs c).After-insert
 
 abbrev start_of : After-wide-t → Start
 start_of c = call (known_of c)
@@ -42,7 +42,7 @@ overflow_sub-from c = let e = entry_of c in omega (arith, e.entry-from.ensures.0
 
 pub enter_inputs-requires : goal.enter_inputs-requires
 enter_inputs-requires c =
-    let e = entry_of c.before.before in
+    let e = entry_of (goal.at.enter_inputs-requires c).After-insert in
     let read = read_of e in
     let s = start_of read in
     let x = s.requires.back in
@@ -52,13 +52,13 @@ enter_inputs-requires c =
 pub shape_of-first : goal.shape_of-first
 shape_of-first c =
     let entered = c in
-    let read = read_of (entry_of (inserted_of entered.before.before.before)) in
+    let read = read_of (entry_of (inserted_of (goal.at.shape_of-first entered).After-enter_inputs)) in
     entered.enter_inputs.ensures.first-long ∙ length-set (start_of read).args.first.now read.wide-t.result 0
 
 pub returns : goal.returns
 returns c =
     let entered = c in
-    let inserted = inserted_of entered.before.before.before in
+    let inserted = inserted_of (goal.at.returns entered).After-enter_inputs in
     let read = read_of (entry_of inserted) in
     let s = start_of read in
     taken-up _ s.args.h s.requires.sound.0 _ s.requires.sound.2 _ _ _ _ _ _ _ s.requires.k_nonzero.0 s.requires.back _ (t_is read) (waiting read) (below read)

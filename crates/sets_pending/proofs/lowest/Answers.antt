@@ -21,16 +21,16 @@ abbrev Marked_word : Type 0
 Marked_word = In-At-2
 
 abbrev call : Turn → Start
-call c = c.before
+call c = (goal.at.At-loop-i c).Start
 
 abbrev turn_of : Marked_word → Turn
-turn_of c = c.before.before.before
+turn_of c = (goal.at.In-At-2 c).At-loop-i
 
 abbrev word_of : In-At-here-2 → Marked_word
-word_of c = c.before.before.before.before.before.before.before.before
+word_of c = (goal.at.In-At-here-2 c).In-At-2
 
 abbrev passed_word : In_default-here → Marked_word
-passed_word c = c.before.before.before.before.before.before.before.before
+passed_word c = (goal.at.In_default-here c).In-At-2
 
 -- the word found is the first that is marked
 first : (c : Marked_word) → IsLowest 64 (bit (turn_of c).loop-i.marks) (At c.in-At.i)
@@ -56,45 +56,45 @@ loop-i-init c = c.requires.1
 pub returns-in_default : goal.returns-in_default
 returns-in_default c =
     let t = c in
-    lowest-none _ _ (call t.before.before.before).requires.0 _ t.loop-i.invariant (subst (IsLowest 64 (bit t.loop-i.marks)) c.in_default.is c.lowest_bit-first.ensures)
+    lowest-none _ _ (call (goal.at.returns-in_default t).At-loop-i).requires.0 _ t.loop-i.invariant (subst (IsLowest 64 (bit t.loop-i.marks)) c.in_default.is c.lowest_bit-first.ensures)
 
 pub offset_bounds-places-i : goal.offset_bounds-places-i
-offset_bounds-places-i c = let l = word c.before in search rules
+offset_bounds-places-i c = let l = word (goal.at.offset_bounds-places-i c).In-At-2 in search rules
 
 pub bounds-places-i : goal.bounds-places-i
-bounds-places-i c = let l = word c.before.before in search rules
+bounds-places-i c = let l = word (goal.at.bounds-places-i c).In-At-2 in search rules
 
 pub offset_bounds-gone-i : goal.offset_bounds-gone-i
-offset_bounds-gone-i c = let l = word c.before.before.before in search rules
+offset_bounds-gone-i c = let l = word (goal.at.offset_bounds-gone-i c).In-At-2 in search rules
 
 pub bounds-gone-i : goal.bounds-gone-i
-bounds-gone-i c = let l = word c.before.before.before.before in search rules
+bounds-gone-i c = let l = word (goal.at.bounds-gone-i c).In-At-2 in search rules
 
 pub overflow_mul-result : goal.overflow_mul-result
-overflow_mul-result c = let l = word (word_of c.before) in search rules
+overflow_mul-result c = let l = word (word_of (goal.at.overflow_mul-result c).In-At-here-2) in search rules
 
 pub overflow_add-result : goal.overflow_add-result
-overflow_add-result c = omega (arith, word (word_of c.before), (here c.before).0)
+overflow_add-result c = omega (arith, word (word_of (goal.at.overflow_add-result c).In-At-here-2), (here (goal.at.overflow_add-result c).In-At-here-2).0)
 
 pub returns-in-At-here : goal.returns-in-At-here
 returns-in-At-here c =
-    let w = word_of c.before in
+    let w = word_of (goal.at.returns-in-At-here c).In-At-here-2 in
     let t = turn_of w in
-    lowest-at _ _ (call t).requires.0 _ t.loop-i.invariant _ (first w) _ (here c.before)
+    lowest-at _ _ (call t).requires.0 _ t.loop-i.invariant _ (first w) _ (here (goal.at.returns-in-At-here c).In-At-here-2)
 
 pub without-requires : goal.without-requires
-without-requires c = let l = word (passed_word c.before) in omega arith
+without-requires c = let l = word (passed_word (goal.at.without-requires c).In_default-here) in omega arith
 
 pub loop-i-smaller : goal.loop-i-smaller
 loop-i-smaller c =
     let none = c in
-    let w = passed_word none.before.before in
+    let w = passed_word (goal.at.loop-i-smaller none).In_default-here in
     let t = turn_of w in
-    marks_fewer _ _ (call t).requires.0 _ t.loop-i.invariant _ (first w) (nothing none.before.before) _ c.without.ensures
+    marks_fewer _ _ (call t).requires.0 _ t.loop-i.invariant _ (first w) (nothing (goal.at.loop-i-smaller none).In_default-here) _ c.without.ensures
 
 pub loop-i-preserved : goal.loop-i-preserved
 loop-i-preserved c =
     let none = c in
-    let w = passed_word none.before.before in
+    let w = passed_word (goal.at.loop-i-preserved none).In_default-here in
     let t = turn_of w in
-    marks_less _ _ (call t).requires.0 _ t.loop-i.invariant _ (first w) (nothing none.before.before) _ c.without.ensures
+    marks_less _ _ (call t).requires.0 _ t.loop-i.invariant _ (first w) (nothing (goal.at.loop-i-preserved none).In_default-here) _ c.without.ensures

@@ -6,7 +6,7 @@ use Rattle.shadow.proofs.project_few.Goals.{After-numbers, Start}
 -- ---- the states: the call, the table made
 
 abbrev call : After-numbers → Start
-call c = c.before.before.before.before.before
+call c = (goal.at.After-numbers c).Start
 
 pub numbers-requires : goal.numbers-requires
 numbers-requires c =
@@ -16,10 +16,10 @@ numbers-requires c =
 pub write_fired-requires : goal.write_fired-requires
 write_fired-requires c =
     let numbered = c in
-    fireable (call numbered.before.before.before).requires numbered.numbers.ensures
+    fireable (call (goal.at.write_fired-requires numbered).After-numbers).requires numbered.numbers.ensures
 
 pub returns : goal.returns
 returns c =
     let cast = c in
     let numbered = cast in
-    cast_by_lem (call numbered.before.before.before.before.before.before).requires numbered.numbers.ensures cast.write_fired.ensures
+    cast_by_lem (call (goal.at.returns numbered).After-numbers).requires numbered.numbers.ensures cast.write_fired.ensures

@@ -6,10 +6,10 @@ use Rattle.shadow.proofs.write_fired.Goals.{After-fired-end, After-lacks-lacking
 -- ---- the states: the end of what is fired known, then the room tested
 
 abbrev call : After-fired-end → Start
-call c = c.before.before.before.before
+call c = (goal.at.After-fired-end c).Start
 
 abbrev ended : After-lacks-lacking → After-fired-end
-ended c = c.before
+ended c = (goal.at.After-lacks-lacking c).After-fired-end
 
 pub slice_bounds-part-end : goal.slice_bounds-part-end
 slice_bounds-part-end c = part-long (call c).requires c.fired-end.ensures
@@ -19,24 +19,24 @@ lacks-lacking-requires c = part-reached (call c).requires c.fired-end.ensures
 
 pub returns-then-lacking : goal.returns-then-lacking
 returns-then-lacking c =
-    let end = ended c.before in
+    let end = ended (goal.at.returns-then-lacking c).After-lacks-lacking in
     cast_none (call end).requires end.fired-end.ensures c.lacks-lacking.ensures c.if-lacking.true
 
 pub write-n-requires : goal.write-n-requires
 write-n-requires c =
     let room = c in
-    let end = ended room.before.before in
+    let end = ended (goal.at.write-n-requires room).After-lacks-lacking in
     record { reached = part-reached (call end).requires end.fired-end.ensures; list_in_bounds = space_enough (call end).requires end.fired-end.ensures (call end).args.out.now room.lacks-lacking.ensures room.if-lacking.false }
 
 pub overflow_cast-count : goal.overflow_cast-count
 overflow_cast-count c =
     let written = c in
-    let end = ended written.before.before.before.before.before in
+    let end = ended (goal.at.overflow_cast-count written).After-lacks-lacking in
     omega (arith, written.write-n.ensures.count, few-chosen (call end).requires end.fired-end.ensures)
 
 pub returns : goal.returns
 returns c =
     let written = c in
     let room = written in
-    let end = ended room.before.before.before.before.before.before in
+    let end = ended (goal.at.returns room).After-lacks-lacking in
     cast_all (call end).requires end.fired-end.ensures room.lacks-lacking.ensures room.if-lacking.false written.write-n.ensures.count written.write-n.ensures.output c.with_count.ensures

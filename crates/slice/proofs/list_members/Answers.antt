@@ -4,15 +4,15 @@ use Rattle.slice.proofs.list_members.Goals as goal
 use Rattle.slice.proofs.list_members.Goals.{After-count-count, Start}
 
 abbrev call : After-count-count → Start
-call c = c.before.before
+call c = (goal.at.After-count-count c).Start
 
 pub members-requires : goal.members-requires
 members-requires c =
-    let s = call c.before in
+    let s = call (goal.at.members-requires c).After-count-count in
     record { count_bound = omega (arith, s.requires.few); count_in_bounds = members-fit s.requires }
 
 pub returns : goal.returns
 returns c =
     let stored = c in
     let counted = stored in
-    members-listed (call counted.before.before.before.before).requires _ _ counted.count-count.ensures stored.members.ensures
+    members-listed (call (goal.at.returns counted).After-count-count).requires _ _ counted.count-count.ensures stored.members.ensures

@@ -12,10 +12,10 @@ use Rattle.slice.proofs.write_if_room.Goals.{After-count_arcs-arcs, After-places
 -- ---- the states: the call, its places' length told, the arcs counted
 
 abbrev call : After-places_length → Start
-call c = c.before.before.before.before.before.before.before
+call c = (goal.at.After-places_length c).Start
 
 abbrev long_of : After-count_arcs-arcs → After-places_length
-long_of c = c.before.before.before
+long_of c = (goal.at.After-count_arcs-arcs c).After-places_length
 
 -- the slice's arcs
 abbrev arcs : Start → ℕ
@@ -44,13 +44,13 @@ few c = let s = call (long_of c) in omega (arith, counted c, fewer s, s.requires
 pub write_parts-requires : goal.write_parts-requires
 write_parts-requires c =
     let long = c in
-    let s = call long.before.before.before in
-    record { sound = s.requires.sound; lists = s.requires.lists; tables = s.requires.tables; ts_in_bounds = omega (arith, whole long.before.before.before, fewer s, c.if-rest-h.true) }
+    let s = call (goal.at.write_parts-requires long).After-places_length in
+    record { sound = s.requires.sound; lists = s.requires.lists; tables = s.requires.tables; ts_in_bounds = omega (arith, whole (goal.at.write_parts-requires long).After-places_length, fewer s, c.if-rest-h.true) }
 
 -- ---- room for those that are kept, or none
 
 pub count_arcs-arcs-requires : goal.count_arcs-arcs-requires
-count_arcs-arcs-requires c = let s = call c.before.before in arcs-known _ _ s.requires.sound _ _ _ _ s.requires.tables
+count_arcs-arcs-requires c = let s = call (goal.at.count_arcs-arcs-requires c).After-places_length in arcs-known _ _ s.requires.sound _ _ _ _ s.requires.tables
 
 pub overflow_mul-arcs : goal.overflow_mul-arcs
 overflow_mul-arcs c = omega (arith, few c)
@@ -62,14 +62,14 @@ overflow_add-rest-5 c =
 
 pub returns-then-buffer-rest : goal.returns-then-buffer-rest
 returns-then-buffer-rest c =
-    let long = long_of c.before in
+    let long = long_of (goal.at.returns-then-buffer-rest c).After-count_arcs-arcs in
     let s = call long in
     let S = keeping (net_from s.args.plan.now s.args.h) s.args.ps.now s.args.ts.now in
-    no_room s.args.h.edition S s.args.buffer.now (omega (arith, whole long, counted c.before, c.if-buffer-rest.true))
+    no_room s.args.h.edition S s.args.buffer.now (omega (arith, whole long, counted (goal.at.returns-then-buffer-rest c).After-count_arcs-arcs, c.if-buffer-rest.true))
 
 pub write_parts-requires-2 : goal.write_parts-requires-2
 write_parts-requires-2 c =
     let tally = c in
-    let long = long_of tally.before.before in
+    let long = long_of (goal.at.write_parts-requires-2 tally).After-count_arcs-arcs in
     let s = call long in
-    record { sound = s.requires.sound; lists = s.requires.lists; tables = s.requires.tables; ts_in_bounds = omega (arith, whole long, counted tally.before.before, c.if-buffer-rest.false) }
+    record { sound = s.requires.sound; lists = s.requires.lists; tables = s.requires.tables; ts_in_bounds = omega (arith, whole long, counted (goal.at.write_parts-requires-2 tally).After-count_arcs-arcs, c.if-buffer-rest.false) }

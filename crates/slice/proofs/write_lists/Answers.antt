@@ -5,10 +5,10 @@ use Rattle.slice.proofs.write_lists.Goals.{After-positions, After-positions-2, S
 -- ---- the states: the places numbered, the transitions numbered
 
 abbrev call : After-positions → Start
-call c = c.before.before.before.before.before.before.before.before
+call c = (goal.at.After-positions c).Start
 
 abbrev places_of : After-positions-2 → After-positions
-places_of c = c.before.before.before.before
+places_of c = (goal.at.After-positions-2 c).After-positions
 
 pub positions-requires : goal.positions-requires
 positions-requires c =
@@ -24,7 +24,7 @@ positions-requires c =
 
 pub positions-requires-2 : goal.positions-requires-2
 positions-requires-2 c =
-    let s = call c.before.before.before in
+    let s = call (goal.at.positions-requires-2 c).After-positions in
     let lists = s.requires.lists in
     let transitions = s.requires.cleared.1 in
     record {
@@ -37,8 +37,8 @@ positions-requires-2 c =
 pub write_if_room-requires : goal.write_if_room-requires
 write_if_room-requires c =
     let numbered = c in
-    let s = call (places_of numbered.before.before.before) in
-    let places = (places_of numbered.before.before.before).positions.ensures in
+    let s = call (places_of (goal.at.write_if_room-requires numbered).After-positions-2) in
+    let places = (places_of (goal.at.write_if_room-requires numbered).After-positions-2).positions.ensures in
     let transitions = numbered.positions-2.ensures in
     record { sound = s.requires.sound; lists = s.requires.lists; tables = record {
           places-reach = omega (arith, places.0, s.requires.cleared.0.reach);

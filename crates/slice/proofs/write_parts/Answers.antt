@@ -15,22 +15,22 @@ use Rattle.slice.proofs.write_parts.Goals.{After-places_length-start, After-put_
 
 -- from a part that was written back to the one before it
 abbrev start_of : After-places_length-start → Start
-start_of c = c.before.before.before.before.before.before.before
+start_of c = (goal.at.After-places_length-start c).Start
 
 abbrev length_of : After-write_places → After-places_length-start
-length_of c = c.before.before
+length_of c = (goal.at.After-write_places c).After-places_length-start
 
 abbrev marks_of : After-write_arcs-middle → After-write_places
-marks_of c = c.before.before.before.before
+marks_of c = (goal.at.After-write_arcs-middle c).After-write_places
 
 abbrev arcs_of : After-write_origins → After-write_arcs-middle
-arcs_of c = c.before.before.before.before
+arcs_of c = (goal.at.After-write_origins c).After-write_arcs-middle
 
 abbrev places_of : After-write_origins-2 → After-write_origins
-places_of c = c.before.before.before.before
+places_of c = (goal.at.After-write_origins-2 c).After-write_origins
 
 abbrev transitions_of : After-put_trailer → After-write_origins-2
-transitions_of c = c.before.before.before.before
+transitions_of c = (goal.at.After-put_trailer c).After-write_origins-2
 
 -- the call, from the arcs
 abbrev call : After-write_arcs-middle → Start
@@ -38,7 +38,7 @@ call c = start_of (length_of (marks_of c))
 
 -- from the last place back to the arcs
 abbrev arcs_at : After-slice_known-6-1 → After-write_arcs-middle
-arcs_at c = arcs_of (places_of (transitions_of c.before.before))
+arcs_at c = arcs_of (places_of (transitions_of (goal.at.After-slice_known-6-1 c).After-put_trailer))
 
 -- the slice's arcs
 abbrev arcs : Start → ℕ
@@ -75,30 +75,30 @@ low c = omega (arith, middle_is c, few (call c), (length_of (marks_of c)).places
 
 pub write_places-requires : goal.write_places-requires
 write_places-requires c =
-    let start = start_of c.before in
+    let start = start_of (goal.at.write_places-requires c).After-places_length-start in
     record { placed = start.requires.sound.placed; by_index = start.requires.lists.places-known; ps_in_bounds = omega (arith, size start) }
 
 pub write_arcs-middle-requires : goal.write_arcs-middle-requires
 write_arcs-middle-requires c =
-    let long = length_of c.before.before.before in
+    let long = length_of (goal.at.write_arcs-middle-requires c).After-write_places in
     let start = start_of long in
     record { arcs = arcs-known _ _ start.requires.sound _ _ _ _ start.requires.tables; count_in_bounds = omega (arith, size start, found_length start, long.places_length-start.ensures.0) }
 
 pub overflow_add-end : goal.overflow_add-end
-overflow_add-end c = omega (arith, ends c.before.before)
+overflow_add-end c = omega (arith, ends (goal.at.overflow_add-end c).After-write_arcs-middle)
 
 pub overflow_add-body : goal.overflow_add-body
-overflow_add-body c = omega (arith, ends c.before.before)
+overflow_add-body c = omega (arith, ends (goal.at.overflow_add-body c).After-write_arcs-middle)
 
 pub write_origins-requires : goal.write_origins-requires
-write_origins-requires c = omega (arith, ends c.before.before.before)
+write_origins-requires c = omega (arith, ends (goal.at.write_origins-requires c).After-write_arcs-middle)
 
 pub write_origins-requires-2 : goal.write_origins-requires-2
-write_origins-requires-2 c = omega (arith, ends (arcs_of c.before.before.before))
+write_origins-requires-2 c = omega (arith, ends (arcs_of (goal.at.write_origins-requires-2 c).After-write_origins))
 
 pub put_trailer-requires : goal.put_trailer-requires
 put_trailer-requires c =
-    let written = arcs_of (places_of c.before.before.before) in
+    let written = arcs_of (places_of (goal.at.put_trailer-requires c).After-write_origins-2) in
     record { kind_bound = (omega arith, omega (arith, (call written).requires.sound.placed.edition_small)); body_in_bounds = omega (arith, ends written) }
 
 -- the three numbers of the answer
@@ -121,7 +121,7 @@ overflow_cast-kept_transitions c = omega (arith, (call (arcs_at c)).requires.lis
 pub returns : goal.returns
 returns c =
     let trailer = c in
-    let transitions = transitions_of trailer.before.before in
+    let transitions = transitions_of (goal.at.returns trailer).After-put_trailer in
     let places = places_of transitions in
     let middle = arcs_of places in
     let marks = marks_of middle in

@@ -7,13 +7,13 @@ use Rattle.slice.proofs.write_sets.Goals.{After-list_members-np, After-list_memb
 -- ---- the states: the places listed, the transitions listed
 
 abbrev call : After-list_members-np → Start
-call c = c.before.before.before.before.before.before.before.before
+call c = (goal.at.After-list_members-np c).Start
 
 abbrev places_of : After-list_members-nt → After-list_members-np
-places_of c = c.before.before.before.before
+places_of c = (goal.at.After-list_members-nt c).After-list_members-np
 
 abbrev listed : After-write_lists-arg-1 → After-list_members-nt
-listed c = c.before.before.before
+listed c = (goal.at.After-write_lists-arg-1 c).After-list_members-nt
 
 -- ---- listing
 
@@ -27,7 +27,7 @@ slice_bounds-write_lists-end-4 c = sym (length-take-le _ _ (listed c.before).lis
 
 pub write_lists-requires : goal.write_lists-requires
 write_lists-requires c =
-    let transitions = listed c.before.before in
+    let transitions = listed (goal.at.write_lists-requires c).After-write_lists-arg-1 in
     let places = places_of transitions in
     let s = call places in
     record { sound = s.requires.sound; lists = lists_kept _ _ _ places.list_members-np.ensures transitions.list_members-nt.ensures s.requires.within s.requires.sound; cleared = s.requires.cleared }
@@ -37,6 +37,6 @@ write_lists-requires c =
 pub returns : goal.returns
 returns c =
     let written = c in
-    let transitions = listed written.before.before.before.before.before.before.before.before.before in
+    let transitions = listed (goal.at.returns written).After-write_lists-arg-1 in
     let places = places_of transitions in
     slice_kept _ _ _ places.list_members-np.ensures transitions.list_members-nt.ensures written.write_lists.ensures

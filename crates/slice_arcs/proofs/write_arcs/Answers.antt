@@ -15,16 +15,16 @@ use Rattle.slice_arcs.proofs.write_arcs.Goals.{After-arc-a, After-write_arc-arg-
 -- ---- the states: the call, the head of a turn, its arc read
 
 abbrev call : At-loop-j → Start
-call c = c.before.before.before.before.before
+call c = (goal.at.At-loop-j c).Start
 
 abbrev Read : Type 0
 Read = After-arc-a
 
 abbrev turn_of : Read → At-loop-j
-turn_of c = c.before.before
+turn_of c = (goal.at.After-arc-a c).At-loop-j
 
 abbrev read : After-write_arc-arg-1 → Read
-read c = c.before.before.before
+read c = (goal.at.After-write_arc-arg-1 c).After-arc-a
 
 -- the arc's transition and its place have entries
 transition_known : (c : Read) → c.arc-a.result.transition < length (call (turn_of c)).args.transitions.now
@@ -42,13 +42,13 @@ pub offset_bounds-transitions-t : goal.offset_bounds-transitions-t
 offset_bounds-transitions-t c = omega (arith, transition_known c)
 
 pub bounds-transitions-t : goal.bounds-transitions-t
-bounds-transitions-t c = transition_known c.before
+bounds-transitions-t c = transition_known (goal.at.bounds-transitions-t c).After-arc-a
 
 pub offset_bounds-places-p : goal.offset_bounds-places-p
-offset_bounds-places-p c = omega (arith, place_known c.before)
+offset_bounds-places-p c = omega (arith, place_known (goal.at.offset_bounds-places-p c).After-arc-a)
 
 pub bounds-places-p : goal.bounds-places-p
-bounds-places-p c = place_known c.before.before
+bounds-places-p c = place_known (goal.at.bounds-places-p c).After-arc-a
 
 pub write_arc-at-requires : goal.write_arc-at-requires
 write_arc-at-requires c =
@@ -59,7 +59,7 @@ write_arc-at-requires c =
 pub loop-j-preserved : goal.loop-j-preserved
 loop-j-preserved c =
     let put = c in
-    let a = read put.before.before.before in
+    let a = read (goal.at.loop-j-preserved put).After-write_arc-arg-1 in
     let arc = a.arc-a.result in
     let at = (turn_of a).loop-j in
     let args = (call (turn_of a)).args in
@@ -73,6 +73,6 @@ shape_of-buffer c = c.loop-j.invariant.1.long
 
 pub returns : goal.returns
 returns c =
-    let args = (call c.before).args in
+    let args = (call (goal.at.returns c).At-loop-j).args in
     let at = c.loop-j in
     written (writing_as at.invariant.1 (no_bytes (none_left args.plan.now args.start args.places.now args.transitions.now at.j args.count c.loop-j-test.false)))

@@ -15,19 +15,19 @@ use Rattle.slice_parts.proofs.write_places.Goals.{After-marking-tokens, At-loop-
 -- ---- the states: the call, the head of a turn
 
 abbrev call : At-loop-i → Start
-call c = c.before.before.before.before
+call c = (goal.at.At-loop-i c).Start
 
 abbrev turn_of : After-marking-tokens → In-loop-i
-turn_of c = c.before.before
+turn_of c = (goal.at.After-marking-tokens c).In-loop-i
 
 -- a place of the plan
-known : (c : In-loop-i) → let s = call c.before in get_or s.args.ps.now c.loop-i.i 0 < s.args.h.places
-known c = (call c.before).requires.by_index c.loop-i.i c.loop-i-test.true
+known : (c : In-loop-i) → let s = call (goal.at.In-loop-i c).At-loop-i in get_or s.args.ps.now c.loop-i.i 0 < s.args.h.places
+known c = (call (goal.at.In-loop-i c).At-loop-i).requires.by_index c.loop-i.i c.loop-i-test.true
 
 -- room for one place more
-room : (c : In-loop-i) → places_length (call c.before).args.h.edition (c.loop-i.i + 1) ≤ length c.loop-i.buffer
+room : (c : In-loop-i) → places_length (call (goal.at.In-loop-i c).At-loop-i).args.h.edition (c.loop-i.i + 1) ≤ length c.loop-i.buffer
 room c =
-    let s = call c.before in
+    let s = call (goal.at.In-loop-i c).At-loop-i in
     omega (arith, s.requires.ps_in_bounds, c.loop-i.invariant.1.long, places-within s.args.h.edition c.loop-i.i (length s.args.ps.now) c.loop-i-test.true)
 
 pub loop-i-init : goal.loop-i-init
@@ -39,21 +39,21 @@ pub overflow_cast-p : goal.overflow_cast-p
 overflow_cast-p c = omega (arith, c.type_inv.ps c.loop-i.i)
 
 pub marking-tokens-requires : goal.marking-tokens-requires
-marking-tokens-requires c = record { placed = (call c.before.before).requires.placed; place_lt_places = known c.before }
+marking-tokens-requires c = record { placed = (call (goal.at.marking-tokens-requires c).At-loop-i).requires.placed; place_lt_places = known (goal.at.marking-tokens-requires c).In-loop-i }
 
 pub cap-most-requires : goal.cap-most-requires
-cap-most-requires c = let t = turn_of c in record { placed = (call t.before).requires.placed; place_lt_places = known t }
+cap-most-requires c = let t = turn_of c in record { placed = (call (goal.at.In-loop-i t).At-loop-i).requires.placed; place_lt_places = known t }
 
 pub put_place-requires : goal.put_place-requires
-put_place-requires c = room (turn_of c.before.before)
+put_place-requires c = room (turn_of (goal.at.put_place-requires c).After-marking-tokens)
 
 pub loop-i-preserved : goal.loop-i-preserved
 loop-i-preserved c =
     let put = c in
     let read = put in
-    let t = turn_of read.before.before.before.before.before in
+    let t = turn_of (goal.at.loop-i-preserved read).After-marking-tokens in
     let at = t.loop-i in
-    let e = (call t.before).args.h.edition in
+    let e = (call (goal.at.In-loop-i t).At-loop-i).args.h.edition in
     let m = read.marking-tokens.ensures.0 in
     let k = read.cap-most.ensures.0 in
     (omega arith, place-stored e _ _ _ _ t.loop-i-test.true at.invariant.1 (put.put_place.ensures ∙ (λ j. sets at.buffer (places_length e at.i) (place_bytes (eqb e 2) (m j) (k j)))))
@@ -63,6 +63,6 @@ shape_of-buffer c = c.loop-i.invariant.1.long
 
 pub returns : goal.returns
 returns c =
-    let s = call c.before in
+    let s = call (goal.at.returns c).At-loop-i in
     let at = c.loop-i in
     storing_none (storing_as at.invariant.1 (places-end s.args.h.edition _ _ (length s.args.ps.now) at.i c.loop-i-test.false))

@@ -11,22 +11,22 @@ abbrev Head : Type 0
 Head = At-loop-j
 
 abbrev call : Head → Start
-call c = c.before.before.before
+call c = (goal.at.At-loop-j c).Start
 
 pub loop-j-init : goal.loop-j-init
 loop-j-init c = weighed-none c.requires.one_way (λ p. omega (arith, c.type_inv.marking p))
 
 pub overflow_mul-j : goal.overflow_mul-j
-overflow_mul-j c = omega (arith, c.loop-j-test.true, (call c.before).requires.one_way.few)
+overflow_mul-j c = omega (arith, c.loop-j-test.true, (call (goal.at.overflow_mul-j c).At-loop-j).requires.one_way.few)
 
 pub overflow_add-start : goal.overflow_add-start
-overflow_add-start c = let o = (call c.before).requires.one_way in omega (arith, c.loop-j-test.true, o.run.fit, o.run.short)
+overflow_add-start c = let o = (call (goal.at.overflow_add-start c).At-loop-j).requires.one_way in omega (arith, c.loop-j-test.true, o.run.fit, o.run.short)
 
 pub arc-a-requires : goal.arc-a-requires
-arc-a-requires c = let o = (call c.before).requires.one_way in omega (arith, c.loop-j-test.true, o.run.fit)
+arc-a-requires c = let o = (call (goal.at.arc-a-requires c).At-loop-j).requires.one_way in omega (arith, c.loop-j-test.true, o.run.fit)
 
 pub group-all-requires : goal.group-all-requires
-group-all-requires c = let x = c in stands (call x.before.before).requires.one_way x.loop-j.invariant c.loop-j-test.true
+group-all-requires c = let x = c in stands (call (goal.at.group-all-requires x).At-loop-j).requires.one_way x.loop-j.invariant c.loop-j-test.true
 
 pub offset_bounds-marking-p : goal.offset_bounds-marking-p
 offset_bounds-marking-p c = omega (arith, c.arc-a.ensures.1.place)
@@ -35,7 +35,7 @@ pub bounds-marking-p : goal.bounds-marking-p
 bounds-marking-p c =
     let a = c in
     let x = a in
-    inside (call x.before.before.before.before).requires.one_way x.loop-j.invariant a.loop-j-test.true _ a.arc-a.ensures.0
+    inside (call (goal.at.bounds-marking-p x).At-loop-j).requires.one_way x.loop-j.invariant a.loop-j-test.true _ a.arc-a.ensures.0
 
 -- a group has at least the weight of its first arc, and that is not 0
 -- GONE div-here : tie.Need-nonzero-div-here invariant-loop decreases-loop
@@ -55,10 +55,10 @@ loop-j-preserved c =
     let g = c in
     let a = g in
     let x = a in
-    weigh (call x.before.before.before.before.before).requires.one_way x.loop-j.invariant a.loop-j-test.true _ a.arc-a.ensures.0 g.group-all.ensures.0 g.group-all.ensures.1 c.smaller-least.ensures
+    weigh (call (goal.at.loop-j-preserved x).At-loop-j).requires.one_way x.loop-j.invariant a.loop-j-test.true _ a.arc-a.ensures.0 g.group-all.ensures.0 g.group-all.ensures.1 c.smaller-least.ensures
 
 pub returns : goal.returns
 returns c =
     let x = c in
-    let s = call x.before in
+    let s = call (goal.at.returns x).At-loop-j in
     weighed-all s.requires.one_way x.loop-j.invariant s.requires.from_lt_to (omega (arith, c.loop-j-test.false))

@@ -20,9 +20,9 @@ as_many c = omega (arith, c.if-entries-h.false)
 pub returns-then-room-h : goal.returns-then-room-h
 returns-then-room-h c =
     let b = c in
-    rw (lt-leb _ _ b.if-h-transition.false, eq-eqb _ _ (as_many b.before.before), lt-ltb _ _ c.if-room-h.true)
+    rw (lt-leb _ _ b.if-h-transition.false, eq-eqb _ _ (as_many (goal.at.returns-then-room-h b).Else-entries-h), lt-ltb _ _ c.if-room-h.true)
 
 pub returns : goal.returns
 returns c =
     let b = c in
-    rw (lt-leb _ _ b.if-h-transition.false, eq-eqb _ _ (as_many b.before.before), le-ltb _ _ c.if-room-h.false)
+    rw (lt-leb _ _ b.if-h-transition.false, eq-eqb _ _ (as_many (goal.at.returns b).Else-entries-h), le-ltb _ _ c.if-room-h.false)

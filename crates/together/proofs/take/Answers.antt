@@ -15,10 +15,10 @@ abbrev Head : Type 0
 Head = At-loop-j
 
 abbrev call : Head → Start
-call c = c.before.before.before
+call c = (goal.at.At-loop-j c).Start
 
 abbrev head : After-arc-a → Head
-head c = c.before.before
+head c = (goal.at.After-arc-a c).At-loop-j
 
 -- arc j's place is one of the marking's, and has what the arc wants k times
 inside : (c : After-arc-a) → c.arc-a.result.place < length (call (head c)).args.marking.now
@@ -33,34 +33,34 @@ pub loop-j-init : goal.loop-j-init
 loop-j-init c = (omega arith, c.requires.run.rising, takes_none)
 
 pub overflow_mul-j : goal.overflow_mul-j
-overflow_mul-j c = let r = (call c.before).requires.run in omega (arith, c.loop-j-test.true, r.fit, r.short)
+overflow_mul-j c = let r = (call (goal.at.overflow_mul-j c).At-loop-j).requires.run in omega (arith, c.loop-j-test.true, r.fit, r.short)
 
 pub overflow_add-start : goal.overflow_add-start
-overflow_add-start c = let r = (call c.before).requires.run in omega (arith, c.loop-j-test.true, r.fit, r.short)
+overflow_add-start c = let r = (call (goal.at.overflow_add-start c).At-loop-j).requires.run in omega (arith, c.loop-j-test.true, r.fit, r.short)
 
 pub arc-a-requires : goal.arc-a-requires
-arc-a-requires c = let r = (call c.before).requires.run in omega (arith, c.loop-j-test.true, r.fit)
+arc-a-requires c = let r = (call (goal.at.arc-a-requires c).At-loop-j).requires.run in omega (arith, c.loop-j-test.true, r.fit)
 
 pub offset_bounds-marking-p : goal.offset_bounds-marking-p
 offset_bounds-marking-p c = omega (arith, c.arc-a.ensures.1.place)
 
 pub bounds-marking-p : goal.bounds-marking-p
-bounds-marking-p c = omega (arith, inside c.before, (head c.before).loop-j.invariant.2.long)
+bounds-marking-p c = omega (arith, inside (goal.at.bounds-marking-p c).After-arc-a, (head (goal.at.bounds-marking-p c).After-arc-a).loop-j.invariant.2.long)
 
 pub overflow_mul-marking : goal.overflow_mul-marking
-overflow_mul-marking c = omega (arith, wanted c.before, c.slice_known-in-loop-j-1.given c.arc-a.result.place)
+overflow_mul-marking c = omega (arith, wanted (goal.at.overflow_mul-marking c).After-arc-a, c.slice_known-in-loop-j-1.given c.arc-a.result.place)
 
 pub overflow_sub-marking : goal.overflow_sub-marking
-overflow_sub-marking c = omega (arith, wanted c.before)
+overflow_sub-marking c = omega (arith, wanted (goal.at.overflow_sub-marking c).After-arc-a)
 
 pub offset_bounds-marking-p-in-loop-j : goal.offset_bounds-marking-p-in-loop-j
 offset_bounds-marking-p-in-loop-j c = omega (arith, c.arc-a.ensures.1.place)
 
 pub bounds-marking-p-in-loop-j : goal.bounds-marking-p-in-loop-j
-bounds-marking-p-in-loop-j c = omega (arith, inside c.before, (head c.before).loop-j.invariant.2.long)
+bounds-marking-p-in-loop-j c = omega (arith, inside (goal.at.bounds-marking-p-in-loop-j c).After-arc-a, (head (goal.at.bounds-marking-p-in-loop-j c).After-arc-a).loop-j.invariant.2.long)
 
 pub overflow_add-j : goal.overflow_add-j
-overflow_add-j c = let a = c in let r = (call (head a.before)).requires.run in omega (arith, a.loop-j-test.true, r.fit, r.short)
+overflow_add-j c = let a = c in let r = (call (head (goal.at.overflow_add-j a).After-arc-a)).requires.run in omega (arith, a.loop-j-test.true, r.fit, r.short)
 
 pub loop-j-smaller : goal.loop-j-smaller
 loop-j-smaller c = omega (arith, c.loop-j-test.true)
@@ -68,8 +68,8 @@ loop-j-smaller c = omega (arith, c.loop-j-test.true)
 pub loop-j-preserved : goal.loop-j-preserved
 loop-j-preserved c =
     let a = c in
-    let inv = (head a.before).loop-j.invariant in
-    (omega (arith, inv.0), omega (arith, a.loop-j-test.true), takes-more inv.2 inv.0 _ a.arc-a.ensures.0 (inside a.before) (wanted a.before))
+    let inv = (head (goal.at.loop-j-preserved a).After-arc-a).loop-j.invariant in
+    (omega (arith, inv.0), omega (arith, a.loop-j-test.true), takes-more inv.2 inv.0 _ a.arc-a.ensures.0 (inside (goal.at.loop-j-preserved a).After-arc-a) (wanted (goal.at.loop-j-preserved a).After-arc-a))
 
 pub shape_of-marking : goal.shape_of-marking
 shape_of-marking c = c.loop-j.invariant.2.long

@@ -37,16 +37,16 @@ slice_bounds-largest-end c =
     room-enough s.h s.transition (length s.marking.now) (length s.rest.now) c.held_back-refused.ensures c.if-refused-ne0.false
 
 pub slice_bounds-largest-end-2 : goal.slice_bounds-largest-end-2
-slice_bounds-largest-end-2 c = sym (passed c.before).room
+slice_bounds-largest-end-2 c = sym (passed (goal.at.slice_bounds-largest-end-2 c).Else-refused-ne0).room
 
 pub largest-requires : goal.largest-requires
-largest-requires c = passed c.before
+largest-requires c = passed (goal.at.largest-requires c).Else-refused-ne0
 
 pub returns : goal.returns
 returns c =
     let g = c in
     let f = g in
-    let s = (call f.before.before.before.before).args in
+    let s = (call (goal.at.returns f).Else-refused-ne0).args in
     let N = net_from s.file.now s.h in
     let M = standing s.marking.now in
     let back = f.held_back-refused.ensures in

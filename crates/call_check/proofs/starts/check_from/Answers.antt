@@ -15,16 +15,16 @@ use Rattle.call_check.proofs.starts.check_from.Goals.{After-refusal-broken, Afte
 -- ---- the states: the plan whole, then the slice, then the start passed
 
 abbrev known : In-Whole-2 → After-shared_slice_known-1
-known c = c.before.before.before.before.before.before
+known c = (goal.at.In-Whole-2 c).After-shared_slice_known-1
 
 abbrev call : In-Whole-2 → Start
 call c = (known c).before
 
 abbrev plan_of : In-Whole-second-2 → In-Whole-2
-plan_of c = c.before.before.before.before
+plan_of c = (goal.at.In-Whole-second-2 c).In-Whole-2
 
 abbrev slice_of : After-refusal-broken → In-Whole-second-2
-slice_of c = c.before.before
+slice_of c = (goal.at.After-refusal-broken c).In-Whole-second-2
 
 -- what is known of the two files from here on, and of the start
 plan_at : (c : In-Whole-2) → Opened due.Plan (call c).args.plan.now c.in-Whole.p
@@ -33,11 +33,11 @@ plan_at c = opened due.Plan _ c.read-first.ensures c.in-Whole.is
 slice_at : (c : In-Whole-second-2) → Opened due.Slice (call (plan_of c)).args.slice.now c.in-Whole-second.s
 slice_at c = opened due.Slice _ c.read-second.ensures c.in-Whole-second.is
 
-passes : (c : Else-broken-ne0) → let f = plan_of (slice_of c.before) in start_refusal (net_from (call f).args.plan.now f.in-Whole.p) (call f).args.start.now ≡ 0
+passes : (c : Else-broken-ne0) → let f = plan_of (slice_of (goal.at.Else-broken-ne0 c).After-refusal-broken) in start_refusal (net_from (call f).args.plan.now f.in-Whole.p) (call f).args.start.now ≡ 0
 passes c = sym c.refusal-broken.ensures ∙ c.if-broken-ne0.false
 
-ready : (c : Else-broken-ne0) → let f = plan_of (slice_of c.before) in Startable due.Plan (call f).args.plan.now f.in-Whole.p (call f).args.start.now
-ready c = record { opened = plan_at (plan_of (slice_of c.before)); passes = passes c }
+ready : (c : Else-broken-ne0) → let f = plan_of (slice_of (goal.at.Else-broken-ne0 c).After-refusal-broken) in Startable due.Plan (call f).args.plan.now f.in-Whole.p (call f).args.start.now
+ready c = record { opened = plan_at (plan_of (slice_of (goal.at.Else-broken-ne0 c).After-refusal-broken)); passes = passes c }
 
 pub returns-in_default : goal.returns-in_default
 returns-in_default c =
@@ -51,17 +51,17 @@ returns-in_default c =
 pub returns-in_default-second : goal.returns-in_default-second
 returns-in_default-second c =
     let first = c in
-    let a = (call first.before.before.before.before.before).args in
-    let told = with-guarantee a.plan.now a.slice.now a.start.now a.criterion.now (λ i. omega (arith, (known first.before.before.before.before.before).type_inv.plan i))
-    (slice-stops _ _ _ _ _ (plan_at first.before.before.before.before.before) _ (turned_back_lem due.Slice _ c.read-second.ensures c.in_default-second.is c.number-in_default-second.ensures)) in
+    let a = (call (goal.at.returns-in_default-second first).In-Whole-2).args in
+    let told = with-guarantee a.plan.now a.slice.now a.start.now a.criterion.now (λ i. omega (arith, (known (goal.at.returns-in_default-second first).In-Whole-2).type_inv.plan i))
+    (slice-stops _ _ _ _ _ (plan_at (goal.at.returns-in_default-second first).In-Whole-2) _ (turned_back_lem due.Slice _ c.read-second.ensures c.in_default-second.is c.number-in_default-second.ensures)) in
     record { answer = told.0; guarantee = told.1 }
 
 pub refusal-broken-requires : goal.refusal-broken-requires
-refusal-broken-requires c = (plan_at (plan_of c.before)).good.placed
+refusal-broken-requires c = (plan_at (plan_of (goal.at.refusal-broken-requires c).In-Whole-second-2)).good.placed
 
 pub returns-then-broken-ne0 : goal.returns-then-broken-ne0
 returns-then-broken-ne0 c =
-    let second = slice_of c.before in
+    let second = slice_of (goal.at.returns-then-broken-ne0 c).After-refusal-broken in
     let first = plan_of second in
     let a = (call first).args in
     let told = with-guarantee a.plan.now a.slice.now a.start.now a.criterion.now (λ i. omega (arith, (known first).type_inv.plan i))
@@ -69,33 +69,33 @@ returns-then-broken-ne0 c =
     record { answer = told.0; guarantee = told.1 }
 
 -- the plan with the start in it
-started_at : (c : Else-broken-ne0) → let f = plan_of (slice_of c.before) in Opened due.Plan (started_from (call f).args.plan.now f.in-Whole.p (call f).args.start.now) f.in-Whole.p
-started_at c = opened-from (ready c) (λ i. omega (arith, (known (plan_of (slice_of c.before))).type_inv.plan i))
+started_at : (c : Else-broken-ne0) → let f = plan_of (slice_of (goal.at.Else-broken-ne0 c).After-refusal-broken) in Opened due.Plan (started_from (call f).args.plan.now f.in-Whole.p (call f).args.start.now) f.in-Whole.p
+started_at c = opened-from (ready c) (λ i. omega (arith, (known (plan_of (slice_of (goal.at.Else-broken-ne0 c).After-refusal-broken))).type_inv.plan i))
 
 pub returns-then-misplaced-ne0 : goal.returns-then-misplaced-ne0
 returns-then-misplaced-ne0 c =
     let on = c in
-    let second = slice_of on.before.before.before in
+    let second = slice_of (goal.at.returns-then-misplaced-ne0 on).After-refusal-broken in
     let first = plan_of second in
     let a = (call first).args in
     let told = with-guarantee a.plan.now a.slice.now a.start.now a.criterion.now (λ i. omega (arith, (known first).type_inv.plan i))
-    (goes_on_lem _ _ _ _ _ (plan_at first) _ (slice_at second) (passes on.before.before)
-    (criterion-turned _ a.slice.now a.criterion.now _ (started_at on.before.before) _ (slice_at second) _ c.refusal-misplaced.ensures c.if-misplaced-ne0.true)) in
+    (goes_on_lem _ _ _ _ _ (plan_at first) _ (slice_at second) (passes (goal.at.returns-then-misplaced-ne0 on).Else-broken-ne0)
+    (criterion-turned _ a.slice.now a.criterion.now _ (started_at (goal.at.returns-then-misplaced-ne0 on).Else-broken-ne0) _ (slice_at second) _ c.refusal-misplaced.ensures c.if-misplaced-ne0.true)) in
     record { answer = told.0; guarantee = told.1 }
 
 pub judge-requires : goal.judge-requires
 judge-requires c =
     let on = c in
-    record { startable = ready on.before.before; opened = slice_at (slice_of on.before.before.before); criterion_value = sym c.refusal-misplaced.ensures ∙ c.if-misplaced-ne0.false }
+    record { startable = ready (goal.at.judge-requires on).Else-broken-ne0; opened = slice_at (slice_of (goal.at.judge-requires on).After-refusal-broken); criterion_value = sym c.refusal-misplaced.ensures ∙ c.if-misplaced-ne0.false }
 
 pub returns : goal.returns
 returns c =
     let passed = c in
     let on = passed in
-    let second = slice_of on.before.before.before.before in
+    let second = slice_of (goal.at.returns on).After-refusal-broken in
     let first = plan_of second in
     let a = (call first).args in
     let told = with-guarantee a.plan.now a.slice.now a.start.now a.criterion.now (λ i. omega (arith, (known first).type_inv.plan i))
-    (goes_on_lem _ _ _ _ _ (plan_at first) _ (slice_at second) (passes on.before.before.before)
-    (c.judge.ensures ∙ judged _ a.slice.now a.criterion.now _ (started_at on.before.before.before) _ (slice_at second) (sym passed.refusal-misplaced.ensures ∙ passed.if-misplaced-ne0.false))) in
+    (goes_on_lem _ _ _ _ _ (plan_at first) _ (slice_at second) (passes (goal.at.returns on).Else-broken-ne0)
+    (c.judge.ensures ∙ judged _ a.slice.now a.criterion.now _ (started_at (goal.at.returns on).Else-broken-ne0) _ (slice_at second) (sym passed.refusal-misplaced.ensures ∙ passed.if-misplaced-ne0.false))) in
     record { answer = told.0; guarantee = told.1 }

@@ -6,7 +6,7 @@ use Rattle.call_firing.proofs.ranges.range.Goals as goal
 use Rattle.call_firing.proofs.ranges.range.Goals.{In-Whole-2, Start}
 
 abbrev call : In-Whole-2 → Start
-call c = c.before.before.before.before.before.before.before
+call c = (goal.at.In-Whole-2 c).Start
 
 -- what is known of the plan from here on
 open_at : (c : In-Whole-2) → Opened Plan (call c).args.plan.now c.in-Whole.h
@@ -20,12 +20,12 @@ returns-in_default c =
     record { answer = told.0; need = told.1.0; range = told.1.1 }
 
 pub extent-requires : goal.extent-requires
-extent-requires c = (open_at c.before.before).good
+extent-requires c = (open_at (goal.at.extent-requires c).In-Whole-2).good
 
 pub returns : goal.returns
 returns c =
     let done = c in
     let w = done in
-    let s = (call w.before.before.before.before.before).args in
-    let told = answered s.plan.now s.list.now s.upper.now s.need.now _ (open_at w.before.before.before.before.before) _ _ done.extent.ensures.answer done.extent.ensures.need in
+    let s = (call (goal.at.returns w).In-Whole-2).args in
+    let told = answered s.plan.now s.list.now s.upper.now s.need.now _ (open_at (goal.at.returns w).In-Whole-2) _ _ done.extent.ensures.answer done.extent.ensures.need in
     record { answer = told.0; need = told.1.0; range = told.1.1 }

@@ -15,9 +15,9 @@ returns-in_default c =
     record { answer = file-answer _ _ _ a _; marking = file-marking _ _ _ a _ }
 
 pub replay-requires : goal.replay-requires
-replay-requires c = (open_at c.before.before).good
+replay-requires c = (open_at (goal.at.replay-requires c).In-Whole-2).good
 
 pub returns : goal.returns
 returns c =
-    let o = open_at c.before.before.before.before.before in
+    let o = open_at (goal.at.returns c).In-Whole-2 in
     record { answer = read_answer _ _ o _ _ _ c.replay.ensures.answer; marking = read-marking _ _ o _ _ _ c.replay.ensures.marking }

@@ -9,10 +9,10 @@ use Rattle.call_firing.proofs.runs.arcs.Goals.{In-Whole-2, In-Whole-second-2, St
 -- ---- the states: the plan whole, then the slice
 
 abbrev call : In-Whole-2 → Start
-call c = c.before.before.before.before.before
+call c = (goal.at.In-Whole-2 c).Start
 
 abbrev plan_of : In-Whole-second-2 → In-Whole-2
-plan_of c = c.before.before.before.before
+plan_of c = (goal.at.In-Whole-second-2 c).In-Whole-2
 
 -- what is known of the two files from here on
 plan_at : (c : In-Whole-2) → Opened due.Plan (call c).args.plan.now c.in-Whole.p
@@ -25,20 +25,20 @@ pub returns-in_default : goal.returns-in_default
 returns-in_default c = c.no_run.ensures ∙ sym (plan_refused _ _ _ _ (not-read due.Plan _ c.read-first.ensures c.in_default.is))
 
 pub returns-in_default-second : goal.returns-in_default-second
-returns-in_default-second c = c.no_run-in_default-second.ensures ∙ sym (slice-refused _ _ _ _ (plan_at c.before.before.before.before.before).read (not-read due.Slice _ c.read-second.ensures c.in_default-second.is))
+returns-in_default-second c = c.no_run-in_default-second.ensures ∙ sym (slice-refused _ _ _ _ (plan_at (goal.at.returns-in_default-second c).In-Whole-2).read (not-read due.Slice _ c.read-second.ensures c.in_default-second.is))
 
 pub run-requires : goal.run-requires
-run-requires c = (slice_at c.before.before).good
+run-requires c = (slice_at (goal.at.run-requires c).In-Whole-second-2).good
 
 pub returns-then-inslice : goal.returns-then-inslice
 returns-then-inslice c =
     let second = c in
-    rw c.if-inslice.true (c.run.ensures ∙ sym (of_slice _ _ _ _ (plan_at (plan_of second.before.before.before)) (slice_at second.before.before.before) _))
+    rw c.if-inslice.true (c.run.ensures ∙ sym (of_slice _ _ _ _ (plan_at (plan_of (goal.at.returns-then-inslice second).In-Whole-second-2)) (slice_at (goal.at.returns-then-inslice second).In-Whole-second-2) _))
 
 pub run-requires-2 : goal.run-requires-2
-run-requires-2 c = (plan_at (plan_of c.before.before)).good
+run-requires-2 c = (plan_at (plan_of (goal.at.run-requires-2 c).In-Whole-second-2)).good
 
 pub returns : goal.returns
 returns c =
     let second = c in
-    rw c.if-inslice.false (c.run-2.ensures ∙ sym (of_plan _ _ _ _ (plan_at (plan_of second.before.before.before)) (slice_at second.before.before.before) _))
+    rw c.if-inslice.false (c.run-2.ensures ∙ sym (of_plan _ _ _ _ (plan_at (plan_of (goal.at.returns second).In-Whole-second-2)) (slice_at (goal.at.returns second).In-Whole-second-2) _))

@@ -10,16 +10,16 @@ use Rattle.call_firing.proofs.shadows.shadow.Goals.{After-read-first, After-shar
 -- ---- the states: the plan read, found whole, then the slice
 
 abbrev plan_known : After-read-first → After-shared_slice_known-1
-plan_known c = c.before.before.before.before.before
+plan_known c = (goal.at.After-read-first c).After-shared_slice_known-1
 
 abbrev call : After-read-first → Start
 call c = (plan_known c).before
 
 abbrev read_of : In-Whole-2 → After-read-first
-read_of c = c.before.before
+read_of c = (goal.at.In-Whole-2 c).After-read-first
 
 abbrev plan_of : In-Whole-second-2 → In-Whole-2
-plan_of c = c.before.before.before.before
+plan_of c = (goal.at.In-Whole-second-2 c).In-Whole-2
 
 -- what is known of the two files from here on
 plan_bytes : (c : After-read-first) → Bytes (call c).args.plan.now
@@ -35,32 +35,32 @@ slice_at c = opened due.Slice _ c.read-second.ensures c.in-Whole-second.is
 pub returns-in_default : goal.returns-in_default
 returns-in_default c =
     let read = c in
-    let a = (call read.before.before.before).args in
+    let a = (call (goal.at.returns-in_default read).After-read-first).args in
     let e = turned_back_lem due.Plan _ read.read-first.ensures c.in_default.is c.number.ensures in
-    let told = ensured a.plan.now a.slice.now a.list.now a.marking.now a.out.now (plan_bytes read.before.before.before) (by_plan _ _ _ _ _ e) in
+    let told = ensured a.plan.now a.slice.now a.list.now a.marking.now a.out.now (plan_bytes (goal.at.returns-in_default read).After-read-first) (by_plan _ _ _ _ _ e) in
     record { answer = told.0; marking = told.1.0; output = told.1.1.0; followed = told.1.1.1 }
 
 pub returns-in_default-second : goal.returns-in_default-second
 returns-in_default-second c =
     let read = c in
     let first = read in
-    let a = (call (read_of first.before.before.before.before.before)).args in
+    let a = (call (read_of (goal.at.returns-in_default-second first).In-Whole-2)).args in
     let e = turned_back_lem due.Slice _ read.read-second.ensures c.in_default-second.is c.number-in_default-second.ensures in
-    let told = ensured a.plan.now a.slice.now a.list.now a.marking.now a.out.now (plan_bytes (read_of first.before.before.before.before.before)) (by_slice _ _ _ _ _ (plan_at first.before.before.before.before.before) e) in
+    let told = ensured a.plan.now a.slice.now a.list.now a.marking.now a.out.now (plan_bytes (read_of (goal.at.returns-in_default-second first).In-Whole-2)) (by_slice _ _ _ _ _ (plan_at (goal.at.returns-in_default-second first).In-Whole-2) e) in
     record { answer = told.0; marking = told.1.0; output = told.1.1.0; followed = told.1.1.1 }
 
 pub shadow_of-requires : goal.shadow_of-requires
 shadow_of-requires c =
     let second = c in
-    let s = slice_at second.before.before.before in
-    record { sound = (plan_at (plan_of second.before.before.before)).good; sound_2 = (s.good, slice-kind s) }
+    let s = slice_at (goal.at.shadow_of-requires second).In-Whole-second-2 in
+    record { sound = (plan_at (plan_of (goal.at.shadow_of-requires second).In-Whole-second-2)).good; sound_2 = (s.good, slice-kind s) }
 
 pub returns : goal.returns
 returns c =
     let cast = c in
     let second = cast in
-    let first = plan_of second.before.before.before.before.before.before.before.before in
+    let first = plan_of (goal.at.returns second).In-Whole-second-2 in
     let a = (call (read_of first)).args in
     let told = ensured a.plan.now a.slice.now a.list.now a.marking.now a.out.now (plan_bytes (read_of first))
-    (both_read _ _ _ _ (plan_at first) (slice_at second.before.before.before.before.before.before.before.before) cast.shadow_of.ensures) in
+    (both_read _ _ _ _ (plan_at first) (slice_at (goal.at.returns second).In-Whole-second-2) cast.shadow_of.ensures) in
     record { answer = told.0; marking = told.1.0; output = told.1.1.0; followed = told.1.1.1 }

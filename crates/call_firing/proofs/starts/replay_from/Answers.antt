@@ -13,17 +13,17 @@ use Rattle.call_firing.proofs.starts.replay_from.Goals.{After-refusal-broken, El
 -- ---- the states: the file whole, the start passed
 
 abbrev call : In-Whole-2 → Start
-call c = c.before.before.before.before.before.before.before
+call c = (goal.at.In-Whole-2 c).Start
 
 abbrev whole_of : After-refusal-broken → In-Whole-2
-whole_of c = c.before.before
+whole_of c = (goal.at.After-refusal-broken c).In-Whole-2
 
 -- what is known of the file from here on, and of the start
 open_at : (c : In-Whole-2) → Opened Either (call c).args.file.now c.in-Whole.h
 open_at c = opened Either _ c.read-whole.ensures c.in-Whole.is
 
-ready : (c : Else-broken-ne0) → let w = whole_of c.before in Startable Either (call w).args.file.now w.in-Whole.h (call w).args.start.now
-ready c = record { opened = open_at (whole_of c.before); passes = sym c.refusal-broken.ensures ∙ c.if-broken-ne0.false }
+ready : (c : Else-broken-ne0) → let w = whole_of (goal.at.Else-broken-ne0 c).After-refusal-broken in Startable Either (call w).args.file.now w.in-Whole.h (call w).args.start.now
+ready c = record { opened = open_at (whole_of (goal.at.Else-broken-ne0 c).After-refusal-broken); passes = sym c.refusal-broken.ensures ∙ c.if-broken-ne0.false }
 
 pub returns-in_default : goal.returns-in_default
 returns-in_default c =
@@ -33,20 +33,20 @@ returns-in_default c =
     record { answer = from-answer _ _ _ e t.1 _; marking = from-marking _ _ _ e t.1 _ }
 
 pub refusal-broken-requires : goal.refusal-broken-requires
-refusal-broken-requires c = (open_at c.before).good.placed
+refusal-broken-requires c = (open_at (goal.at.refusal-broken-requires c).In-Whole-2).good.placed
 
 pub returns-then-broken-ne0 : goal.returns-then-broken-ne0
 returns-then-broken-ne0 c =
-    let e = by_start Either _ _ _ (open_at (whole_of c.before)) c.refusal-broken.ensures in
+    let e = by_start Either _ _ _ (open_at (whole_of (goal.at.returns-then-broken-ne0 c).After-refusal-broken)) c.refusal-broken.ensures in
     record { answer = from-answer _ _ _ e c.if-broken-ne0.true _; marking = from-marking _ _ _ e c.if-broken-ne0.true _ }
 
 pub replay-requires : goal.replay-requires
-replay-requires c = ready c.before
+replay-requires c = ready (goal.at.replay-requires c).Else-broken-ne0
 
 pub returns : goal.returns
 returns c =
     let on = c in
-    let r = ready on.before.before.before.before in
-    let o = opened-from r (λ i. omega (arith, (whole_of on.before.before.before.before.before).type_inv.file i)) in
+    let r = ready (goal.at.returns on).Else-broken-ne0 in
+    let o = opened-from r (λ i. omega (arith, (whole_of (goal.at.returns on).After-refusal-broken).type_inv.file i)) in
     let x = (c.replay.ensures.answer, (c.replay.ensures.marking)) in
     record { answer = on_answer _ _ _ _ r _ (read_answer _ _ o _ _ _ x.answer); marking = on_marking _ _ _ _ r _ (read-marking _ _ o _ _ _ x.marking) }

@@ -6,7 +6,7 @@ use Rattle.call_firing.proofs.takings.together.Goals as goal
 use Rattle.call_firing.proofs.takings.together.Goals.{In-Whole-2, Start}
 
 abbrev call : In-Whole-2 → Start
-call c = c.before.before.before.before.before.before
+call c = (goal.at.In-Whole-2 c).Start
 
 -- what is known of the plan from here on
 open_at : (c : In-Whole-2) → Opened Plan (call c).args.plan.now c.in-Whole.h
@@ -20,12 +20,12 @@ returns-in_default c =
     record { answer = told.0; rest = told.1.0; largest = told.1.1 }
 
 pub takings-requires : goal.takings-requires
-takings-requires c = (open_at c.before.before).good
+takings-requires c = (open_at (goal.at.takings-requires c).In-Whole-2).good
 
 pub returns : goal.returns
 returns c =
     let taken = c in
     let w = taken in
-    let s = (call w.before.before.before.before.before).args in
-    let told = answered s.plan.now s.transition s.marking.now s.rest.now _ (open_at w.before.before.before.before.before) _ _ taken.takings.ensures.answer taken.takings.ensures.rest in
+    let s = (call (goal.at.returns w).In-Whole-2).args in
+    let told = answered s.plan.now s.transition s.marking.now s.rest.now _ (open_at (goal.at.returns w).In-Whole-2) _ _ taken.takings.ensures.answer taken.takings.ensures.rest in
     record { answer = told.0; rest = told.1.0; largest = told.1.1 }

@@ -8,10 +8,10 @@ use Rattle.call_plans.proofs.transfers.transfer.Goals.{In-Whole-2, In-Whole-seco
 -- ---- the states: the old plan whole, then the new one
 
 abbrev call : In-Whole-2 → Start
-call c = c.before.before.before.before.before.before.before.before
+call c = (goal.at.In-Whole-2 c).Start
 
 abbrev old_of : In-Whole-second-2 → In-Whole-2
-old_of c = c.before.before.before.before
+old_of c = (goal.at.In-Whole-second-2 c).In-Whole-2
 
 -- what is known of the two plans from here on
 old_at : (c : In-Whole-2) → Opened Plan (call c).args.old.now c.in-Whole.o
@@ -31,21 +31,21 @@ returns-in_default c =
 pub returns-in_default-second : goal.returns-in_default-second
 returns-in_default-second c =
     let first = c in
-    let a = (call first.before.before.before.before.before).args in
-    let told = new-turned a.old.now a.new.now a.running.now a.table.now a.marking.now _ (old_at first.before.before.before.before.before)
+    let a = (call (goal.at.returns-in_default-second first).In-Whole-2).args in
+    let told = new-turned a.old.now a.new.now a.running.now a.table.now a.marking.now _ (old_at (goal.at.returns-in_default-second first).In-Whole-2)
     (turned_back_lem Plan _ c.read-second.ensures c.in_default-second.is c.number-in_default-second.ensures) in
     record { answer = told.0; marking = told.1.0; carried = told.1.1 }
 
 pub carry-requires : goal.carry-requires
 carry-requires c =
     let second = c in
-    record { bound = (old_at (old_of second.before.before)).good.placed.places; sound = (new_at second.before.before).well_formed }
+    record { bound = (old_at (old_of (goal.at.carry-requires second).In-Whole-second-2)).good.placed.places; sound = (new_at (goal.at.carry-requires second).In-Whole-second-2).well_formed }
 
 pub returns : goal.returns
 returns c =
     let done = c in
     let second = done in
-    let first = old_of second.before.before.before.before.before in
+    let first = old_of (goal.at.returns second).In-Whole-second-2 in
     let a = (call first).args in
-    let told = both_read a.old.now a.new.now a.running.now a.table.now a.marking.now _ (old_at first) _ (new_at second.before.before.before.before.before) done.carry.ensures.answer done.carry.ensures.marking in
+    let told = both_read a.old.now a.new.now a.running.now a.table.now a.marking.now _ (old_at first) _ (new_at (goal.at.returns second).In-Whole-second-2) done.carry.ensures.answer done.carry.ensures.marking in
     record { answer = told.0; marking = told.1.0; carried = told.1.1 }

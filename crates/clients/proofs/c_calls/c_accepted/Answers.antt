@@ -8,7 +8,7 @@ use Rattle.clients.proofs.c_calls.c_accepted.Goals.{After-nesfoal_safety-refusal
 -- ---- the states: the cut answered, its refusal looked at
 
 abbrev cut_of : Else-refusal-ne0 → After-nesfoal_safety-refusal
-cut_of c = c.before.before.before
+cut_of c = (goal.at.Else-refusal-ne0 c).After-nesfoal_safety-refusal
 
 abbrev bytes_of : After-nesfoal_safety-refusal → After-shared_slice_known-1
 bytes_of c = let known = c in known
@@ -20,7 +20,7 @@ pub returns-then-places-cut_places : goal.returns-then-places-cut_places
 unfolding Bytes
 returns-then-places-cut_places c =
     let passed = c in
-    let cut = cut_of passed.before in
+    let cut = cut_of (goal.at.returns-then-places-cut_places passed).Else-refusal-ne0 in
     let s = (cut.nesfoal_safety-refusal.ensures.answer, (cut.nesfoal_safety-refusal.ensures.buffer, (cut.nesfoal_safety-refusal.ensures.long, (cut.nesfoal_safety-refusal.ensures.places, (cut.nesfoal_safety-refusal.ensures.transitions, (cut.nesfoal_safety-refusal.ensures.smallest)))))) in
     let a = (bytes_of cut).args in
     λ even same p t. says_no (fewer-places_bytes a.plan.now a.q.now a.buffer.now a.criterion.now (λ i. omega (arith, (bytes_of cut).type_inv.plan i)) even same (sym s.answer ∙ passed.if-refusal-ne0.false)
@@ -30,7 +30,7 @@ pub returns-then-transitions-cut_transitions : goal.returns-then-transitions-cut
 unfolding Bytes
 returns-then-transitions-cut_transitions c =
     let passed = c in
-    let cut = cut_of passed.before.before in
+    let cut = cut_of (goal.at.returns-then-transitions-cut_transitions passed).Else-refusal-ne0 in
     let s = (cut.nesfoal_safety-refusal.ensures.answer, (cut.nesfoal_safety-refusal.ensures.buffer, (cut.nesfoal_safety-refusal.ensures.long, (cut.nesfoal_safety-refusal.ensures.places, (cut.nesfoal_safety-refusal.ensures.transitions, (cut.nesfoal_safety-refusal.ensures.smallest)))))) in
     let a = (bytes_of cut).args in
     λ even same p t. says_no (fewer-transitions_bytes a.plan.now a.q.now a.buffer.now a.criterion.now (λ i. omega (arith, (bytes_of cut).type_inv.plan i)) even same (sym s.answer ∙ passed.if-refusal-ne0.false)

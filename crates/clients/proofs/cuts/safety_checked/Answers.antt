@@ -11,20 +11,20 @@ use Rattle.clients.proofs.cuts.safety_checked.Goals.{After-length_of-end, After-
 -- ---- the states: the cut answered, its refusal looked at, its length read
 
 abbrev cut_of : After-refusal_of-refusal → After-safety-c
-cut_of c = c.before.before.before
+cut_of c = (goal.at.After-refusal_of-refusal c).After-safety-c
 
 abbrev bytes_of : After-safety-c → After-shared_slice_known-1
-bytes_of c = c.before.before.before.before
+bytes_of c = (goal.at.After-safety-c c).After-shared_slice_known-1
 
 abbrev judged : After-length_of-end → After-refusal_of-refusal
-judged c = c.before.before
+judged c = (goal.at.After-length_of-end c).After-refusal_of-refusal
 
 -- what was written fits into the buffer
 fits : (c : After-length_of-end) → c.length_of-end.result ≤ length (bytes_of (cut_of (judged c))).args.buffer.now
 fits c = omega (arith, c.length_of-end.ensures, ap (λ (a : CutAnswer). a.length) (cut_of (judged c)).safety-c.ensures.answer, safety-fits (bytes_of (cut_of (judged c))).args.plan.now (bytes_of (cut_of (judged c))).args.criterion.now (length (bytes_of (cut_of (judged c))).args.buffer.now))
 
 pub returns-then-refusal-ne0 : goal.returns-then-refusal-ne0
-returns-then-refusal-ne0 c = c.refusal_of-refusal.ensures ∙ ap (λ (a : CutAnswer). a.refusal) (cut_of c.before).safety-c.ensures.answer
+returns-then-refusal-ne0 c = c.refusal_of-refusal.ensures ∙ ap (λ (a : CutAnswer). a.refusal) (cut_of (goal.at.returns-then-refusal-ne0 c).After-refusal_of-refusal).safety-c.ensures.answer
 
 pub slice_bounds-check-end : goal.slice_bounds-check-end
 slice_bounds-check-end c = omega (arith, fits c)
@@ -35,5 +35,5 @@ slice_bounds-check-end-2 c = simp length-take (omega (arith, fits c))
 pub returns : goal.returns
 returns c =
     let sized = c in
-    let s = ((cut_of (judged sized.before.before)).safety-c.ensures.answer, ((cut_of (judged sized.before.before)).safety-c.ensures.buffer, ((cut_of (judged sized.before.before)).safety-c.ensures.smallest))) in
-    safety-accepted _ _ _ _ s.answer s.smallest (judged sized.before.before).refusal_of-refusal.ensures sized.if-refusal-ne0.false sized.length_of-end.ensures c.check-v.ensures.answer c.code.ensures
+    let s = ((cut_of (judged (goal.at.returns sized).After-length_of-end)).safety-c.ensures.answer, ((cut_of (judged (goal.at.returns sized).After-length_of-end)).safety-c.ensures.buffer, ((cut_of (judged (goal.at.returns sized).After-length_of-end)).safety-c.ensures.smallest))) in
+    safety-accepted _ _ _ _ s.answer s.smallest (judged (goal.at.returns sized).After-length_of-end).refusal_of-refusal.ensures sized.if-refusal-ne0.false sized.length_of-end.ensures c.check-v.ensures.answer c.code.ensures

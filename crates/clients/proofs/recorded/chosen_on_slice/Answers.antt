@@ -11,7 +11,7 @@ use Rattle.clients.proofs.recorded.chosen_on_slice.Goals.{After-length_of-end, A
 -- ---- the states: the run cut answered, its length read
 
 abbrev cut_of : After-length_of-end → After-run_cut-c
-cut_of c = c.before.before.before.before.before
+cut_of c = (goal.at.After-length_of-end c).After-run_cut-c
 
 abbrev call : After-run_cut-c → Start
 call c = let known = c in known
@@ -37,5 +37,5 @@ pub returns : goal.returns
 returns c =
     let again = c in
     let sized = again in
-    let s = ((cut_of sized.before.before.before.before).run_cut-c.ensures.answer, ((cut_of sized.before.before.before.before).run_cut-c.ensures.buffer, ((cut_of sized.before.before.before.before).run_cut-c.ensures.positions, ((cut_of sized.before.before.before.before).run_cut-c.ensures.feeds)))) in
+    let s = ((cut_of (goal.at.returns sized).After-length_of-end).run_cut-c.ensures.answer, ((cut_of (goal.at.returns sized).After-length_of-end).run_cut-c.ensures.buffer, ((cut_of (goal.at.returns sized).After-length_of-end).run_cut-c.ensures.positions, ((cut_of (goal.at.returns sized).After-length_of-end).run_cut-c.ensures.feeds)))) in
     ended-above _ _ _ _ _ _ _ (told_back _ _ _ _ _ _ _ s.answer s.feeds) _ _ _ (sized.length_of-end.ensures ∙ ap (λ (r : RunAnswer). r.length) s.answer) again.replay.ensures.answer again.replay.ensures.marking

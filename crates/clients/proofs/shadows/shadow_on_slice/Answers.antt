@@ -11,7 +11,7 @@ use Rattle.clients.proofs.shadows.shadow_on_slice.Goals.{After-count_of-end, Aft
 -- ---- the states: the shadow written, its count read
 
 abbrev shadowed : After-count_of-end → After-shadow-s
-shadowed c = c.before.before.before.before.before
+shadowed c = (goal.at.After-count_of-end c).After-shadow-s
 
 abbrev call : After-shadow-s → Start
 call c = let known = c in known
@@ -32,5 +32,5 @@ pub returns : goal.returns
 returns c =
     let again = c in
     let counted = again in
-    let s = ((shadowed counted.before.before.before.before).shadow-s.ensures.answer, ((shadowed counted.before.before.before.before).shadow-s.ensures.marking, ((shadowed counted.before.before.before.before).shadow-s.ensures.output, ((shadowed counted.before.before.before.before).shadow-s.ensures.followed)))) in
+    let s = ((shadowed (goal.at.returns counted).After-count_of-end).shadow-s.ensures.answer, ((shadowed (goal.at.returns counted).After-count_of-end).shadow-s.ensures.marking, ((shadowed (goal.at.returns counted).After-count_of-end).shadow-s.ensures.output, ((shadowed (goal.at.returns counted).After-count_of-end).shadow-s.ensures.followed)))) in
     λ Q a z h. shadow-ended _ _ _ _ _ _ _ _ _ Q s.answer s.followed counted.count_of-end.ensures a z h again.replay.ensures.answer again.replay.ensures.marking

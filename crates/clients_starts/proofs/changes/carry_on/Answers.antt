@@ -7,13 +7,13 @@ use Rattle.clients_starts.proofs.changes.carry_on.Goals.{After-replay_from, Afte
 -- ---- the states: carried, replayed from there
 
 abbrev lent : After-transfer-refused → After-shared_slice_known-2-1
-lent c = c.before.before.before.before.before.before.before
+lent c = (goal.at.After-transfer-refused c).After-shared_slice_known-2-1
 
 abbrev not_refused : After-replay_from → Else-refused-ne0
-not_refused c = c.before.before
+not_refused c = (goal.at.After-replay_from c).Else-refused-ne0
 
 abbrev carried_in : Else-refused-ne0 → After-transfer-refused
-carried_in c = c.before.before.before
+carried_in c = (goal.at.Else-refused-ne0 c).After-transfer-refused
 
 pub returns-then-refused-ne0 : goal.returns-then-refused-ne0
 returns-then-refused-ne0 c =
@@ -23,7 +23,7 @@ returns-then-refused-ne0 c =
 pub returns : goal.returns
 returns c =
     let replayed = c in
-    let on = not_refused replayed.before.before in
+    let on = not_refused (goal.at.returns replayed).After-replay_from in
     let carried = carried_in on in
     let a = (carried.transfer-refused.ensures.answer, (carried.transfer-refused.ensures.marking, (carried.transfer-refused.ensures.carried))) in
     let known = lent carried in

@@ -9,19 +9,19 @@ use Rattle.clients_starts.proofs.cuts.branching.Goals.{After-branching_from-done
 -- ---- the states: cut, the answer told, checked
 
 abbrev cut_of : After-slice_known-2-1 → After-branching_from-done
-cut_of c = c.before.before
+cut_of c = (goal.at.After-slice_known-2-1 c).After-branching_from-done
 
 abbrev call : After-branching_from-done → Start
-call c = c.before.before.before.before.before.before
+call c = (goal.at.After-branching_from-done c).Start
 
 abbrev told : In-Written → In-Written-2
-told c = c.before
+told c = (goal.at.In-Written c).In-Written-2
 
 abbrev cut_at : In-Written-2 → After-branching_from-done
-cut_at c = cut_of c.before.before
+cut_at c = cut_of (goal.at.In-Written-2 c).After-slice_known-2-1
 
 -- what was written is a part of the buffer
-room : (c : In-Written-2) → c.in-Written.n ≤ length (cut_of c.before.before).branching_from-done.new.buffer
+room : (c : In-Written-2) → c.in-Written.n ≤ length (cut_of (goal.at.In-Written-2 c).After-slice_known-2-1).branching_from-done.new.buffer
 room c =
     let done = cut_at c in
     let s = (call done).args in
@@ -29,7 +29,7 @@ room c =
 
 pub returns-in_default : goal.returns-in_default
 returns-in_default c =
-    let done = cut_of c.before.before in
+    let done = cut_of (goal.at.returns-in_default c).After-slice_known-2-1 in
     let s = (call done).args in
     λ z. branching-refused s.plan.now s.start.now s.criterion.now (length s.buffer.now) done.branching_from-done.ensures.answer c.in_default.is z
 
@@ -42,7 +42,7 @@ slice_bounds-check_from-end-2 c = sym (length-take-le _ _ (room (told c)))
 pub returns : goal.returns
 returns c =
     let checked = c in
-    let written = told checked.before.before in
+    let written = told (goal.at.returns checked).In-Written in
     let done = cut_at written in
     let s = (call done).args in
     λ z. branching-accepted s.plan.now s.start.now s.criterion.now written.in-Written.is c.code.ensures done.branching_from-done.ensures.exact checked.check_from-verdict.ensures.answer

@@ -6,10 +6,10 @@ use Rattle.clients_starts.proofs.cuts.no_smaller.Goals.{After-safety_from-done, 
 -- ---- the states: cut, the answer told, the other checked
 
 abbrev cut_at : In-Written → After-safety_from-done
-cut_at c = c.before.before.before.before
+cut_at c = (goal.at.In-Written c).After-safety_from-done
 
 abbrev call : After-safety_from-done → Start
-call c = c.before.before.before.before.before.before.before
+call c = (goal.at.After-safety_from-done c).Start
 
 pub returns-in_default : goal.returns-in_default
 returns-in_default c = λ yes. differ yes
@@ -18,6 +18,6 @@ pub returns : goal.returns
 returns c =
     let checked = c in
     let written = checked in
-    let done = cut_at written.before.before in
+    let done = cut_at (goal.at.returns written).In-Written in
     let s = (call done).args in
     λ yes. compared s.plan.now s.start.now s.criterion.now written.in-Written.is c.code.ensures s.other.now s.buffer.now done.safety_from-done.ensures.answer done.safety_from-done.ensures.smallest checked.check_from-verdict.ensures.answer checked.check_from-verdict.ensures.guarantee yes

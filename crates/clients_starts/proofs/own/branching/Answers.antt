@@ -6,15 +6,15 @@ use Rattle.clients_starts.proofs.own.branching.Goals.{After-branching_from, Afte
 -- ---- the states: the own marking replayed, the call from there
 
 abbrev begun : After-branching_from → After-replay
-begun c = c.before.before.before.before
+begun c = (goal.at.After-branching_from c).After-replay
 
 abbrev lent : After-replay → After-shared_slice_known-1
-lent c = c.before.before.before.before.before
+lent c = (goal.at.After-replay c).After-shared_slice_known-1
 
 pub returns : goal.returns
 returns c =
     let done = c in
-    let first = begun done.before.before in
+    let first = begun (goal.at.returns done).After-branching_from in
     let known = lent first in
     let s = known.args in
     let x = (done.branching_from.ensures.answer, (done.branching_from.ensures.buffer, (done.branching_from.ensures.exact))) in

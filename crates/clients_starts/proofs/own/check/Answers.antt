@@ -6,10 +6,10 @@ use Rattle.clients_starts.proofs.own.check.Goals.{After-check_from, After-replay
 -- ---- the states: the own marking replayed, the check from there
 
 abbrev begun : After-check_from → After-replay
-begun c = c.before.before.before
+begun c = (goal.at.After-check_from c).After-replay
 
 abbrev lent : After-replay → After-shared_slice_known-1
-lent c = c.before.before.before.before.before
+lent c = (goal.at.After-replay c).After-shared_slice_known-1
 
 pub returns : goal.returns
 returns c =

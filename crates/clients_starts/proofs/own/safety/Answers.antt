@@ -6,15 +6,15 @@ use Rattle.clients_starts.proofs.own.safety.Goals.{After-replay, After-safety_fr
 -- ---- the states: the own marking replayed, the call from there
 
 abbrev begun : After-safety_from → After-replay
-begun c = c.before.before.before.before
+begun c = (goal.at.After-safety_from c).After-replay
 
 abbrev lent : After-replay → After-shared_slice_known-1
-lent c = c.before.before.before.before.before
+lent c = (goal.at.After-replay c).After-shared_slice_known-1
 
 pub returns : goal.returns
 returns c =
     let done = c in
-    let first = begun done.before.before in
+    let first = begun (goal.at.returns done).After-safety_from in
     let known = lent first in
     let s = known.args in
     let x = (done.safety_from.ensures.answer, (done.safety_from.ensures.buffer, (done.safety_from.ensures.smallest))) in

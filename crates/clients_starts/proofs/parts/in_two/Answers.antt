@@ -8,24 +8,24 @@ use Rattle.clients_starts.proofs.parts.in_two.Goals.{After-fired, After-replay-b
 -- ---- the states: the first part replayed, the second from there
 
 abbrev tested : After-fired → After-replay-begun
-tested c = c.before.before.before
+tested c = (goal.at.After-fired c).After-replay-begun
 
 abbrev call : After-replay-begun → After-shared_slice_known-1
-call c = c.before.before.before.before.before.before
+call c = (goal.at.After-replay-begun c).After-shared_slice_known-1
 
 abbrev before_second : After-replay_from → Else-not-fired
-before_second c = c.before.before
+before_second c = (goal.at.After-replay_from c).Else-not-fired
 
 pub returns-then-not-fired : goal.returns-then-not-fired
 returns-then-not-fired c =
-    let a = ((tested c.before).replay-begun.ensures.answer, ((tested c.before).replay-begun.ensures.marking)) in
+    let a = ((tested (goal.at.returns-then-not-fired c).After-fired).replay-begun.ensures.answer, ((tested (goal.at.returns-then-not-fired c).After-fired).replay-begun.ensures.marking)) in
     record { stopped = λ _. a.answer; whole = λ all fits few. stopped _ c.if-not-fired.true-raw c.fired.ensures a.answer all }
 
 pub returns : goal.returns
 returns c =
     let second = c in
-    let on = before_second second.before.before in
-    let first = tested on.before in
+    let on = before_second (goal.at.returns second).After-replay_from in
+    let first = tested (goal.at.Else-not-fired on).After-fired in
     let known = call first in
     let s = known.args in
     let a = (first.replay-begun.ensures.answer, (first.replay-begun.ensures.marking)) in

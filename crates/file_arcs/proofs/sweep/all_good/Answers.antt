@@ -14,20 +14,20 @@ never e = let z : ◌≡◌ {A = ℕ} 0 1 = cc in absurd (omega (arith, z))
 -- ---- the states: the call, the head of a turn, a pair that fits, the last arc that fits
 
 abbrev call : At-loop-at → Start
-call c = c.before.before.before
+call c = (goal.at.At-loop-at c).Start
 
 abbrev turn_of : Else-not-fit → In-loop-at
-turn_of c = c.before.before.before.before
+turn_of c = (goal.at.Else-not-fit c).In-loop-at
 
 abbrev end_of : Else-not-fit-2 → At-loop-at
-end_of c = c.before.before.before.before.before
+end_of c = (goal.at.Else-not-fit-2 c).At-loop-at
 
 -- both arcs of a pair
-fits_both : (c : Else-not-fit) → let s = call (turn_of c).before in let w = c in
+fits_both : (c : Else-not-fit) → let s = call (goal.at.In-loop-at (turn_of c)).At-loop-at in let w = c in
     FitIn s.args.places s.args.transitions w.word-w.result × FitIn s.args.places s.args.transitions w.word-v.result
 fits_both c =
     let t = (turn_of c).before in
-    let s = call t.before in
+    let s = call (goal.at.In-loop-at t).At-loop-at in
     let w = c in
     let first = w.word-w in
     let second = w.word-v in
@@ -44,14 +44,14 @@ fits_last c =
     (ap (λ (x : ℕ). both_fit x last.result last.result) (sym t.room-room.ensures) ∙ sym c.fit-2.ensures ∙ not-false _ c.if-not-fit-2.false-raw)).0
 
 -- a pair in hand, and the arc that is left over, lie in the file
-pair_inside : (c : In-loop-at) → (1 < c.loop-at.invariant.0) × (c.loop-at.at + 16 ≤ length (call c.before).args.file.now)
-pair_inside c = let inv = c.loop-at.invariant in (omega (arith, inv.1, inv.2, c.loop-at-test.true), omega (arith, inv.1, inv.2, c.loop-at-test.true, (call c.before).requires.count_in_bounds))
+pair_inside : (c : In-loop-at) → (1 < c.loop-at.invariant.0) × (c.loop-at.at + 16 ≤ length (call (goal.at.In-loop-at c).At-loop-at).args.file.now)
+pair_inside c = let inv = c.loop-at.invariant in (omega (arith, inv.1, inv.2, c.loop-at-test.true), omega (arith, inv.1, inv.2, c.loop-at-test.true, (call (goal.at.In-loop-at c).At-loop-at).requires.count_in_bounds))
 
-last_inside : (c : Else-count-eq0) → let t = c in (t.loop-at.invariant.0 ≡ 1) × (t.loop-at.at + 8 ≤ length (call t.before.before).args.file.now)
+last_inside : (c : Else-count-eq0) → let t = c in (t.loop-at.invariant.0 ≡ 1) × (t.loop-at.at + 8 ≤ length (call (goal.at.Else-count-eq0 t).At-loop-at).args.file.now)
 last_inside c =
     let t = c in
     let inv = t.loop-at.invariant in
-    (omega (arith, inv.1, inv.2, c.loop-at-test.false, c.if-count-eq0.false), omega (arith, inv.1, inv.2, c.loop-at-test.false, c.if-count-eq0.false, (call t.before.before).requires.count_in_bounds))
+    (omega (arith, inv.1, inv.2, c.loop-at-test.false, c.if-count-eq0.false), omega (arith, inv.1, inv.2, c.loop-at-test.false, c.if-count-eq0.false, (call (goal.at.Else-count-eq0 t).At-loop-at).requires.count_in_bounds))
 
 pub loop-at-init : goal.loop-at-init
 loop-at-init c = (c.args.count, refl, refl, at-start _ _ _ _ _)
@@ -60,21 +60,21 @@ pub word-w-requires : goal.word-w-requires
 word-w-requires c = omega (arith, (pair_inside c).1)
 
 pub word-v-requires : goal.word-v-requires
-word-v-requires c = omega (arith, (pair_inside c.before).1)
+word-v-requires c = omega (arith, (pair_inside (goal.at.word-v-requires c).In-loop-at).1)
 
 pub returns-then-not-fit : goal.returns-then-not-fit
 returns-then-not-fit c = λ e. never e
 
 pub sweep_key-first-requires : goal.sweep_key-first-requires
 sweep_key-first-requires c =
-    let s = call (turn_of c).before in
+    let s = call (goal.at.In-loop-at (turn_of c)).At-loop-at in
     narrow s.args.places s.args.transitions c.word-w.result s.requires.places_bound.0 s.requires.places_bound.1 (fits_both c).0
 
 pub sweep_key-second-requires : goal.sweep_key-second-requires
 sweep_key-second-requires c =
     let pair = c in
-    let s = call (turn_of pair.before).before in
-    narrow s.args.places s.args.transitions pair.word-v.result s.requires.places_bound.0 s.requires.places_bound.1 (fits_both pair.before).1
+    let s = call (goal.at.In-loop-at (turn_of (goal.at.sweep_key-second-requires pair).Else-not-fit)).At-loop-at in
+    narrow s.args.places s.args.transitions pair.word-v.result s.requires.places_bound.0 s.requires.places_bound.1 (fits_both (goal.at.sweep_key-second-requires pair).Else-not-fit).1
 
 pub returns-then-first-least : goal.returns-then-first-least
 returns-then-first-least c = λ e. never e
@@ -82,9 +82,9 @@ returns-then-first-least c = λ e. never e
 pub loop-at-preserved : goal.loop-at-preserved
 loop-at-preserved c =
     let pair = c in
-    let t = turn_of pair.before.before.before in
+    let t = turn_of (goal.at.loop-at-preserved pair).Else-not-fit in
     let loop = t.loop-at in
-    let s = call t.before in
+    let s = call (goal.at.In-loop-at t).At-loop-at in
     let first = pair.word-w in
     let second = pair.word-v in
     let order = or-false _ _ c.if-first-least.false in
@@ -95,7 +95,7 @@ loop-at-preserved c =
       two_on s.args.file.now s.args.places s.args.transitions s.args.start s.args.count loop.at loop.least loop.invariant.0
           first.result second.result c.sweep_key-first.result c.sweep_key-second.result
           s.requires.places_bound.0 s.requires.places_bound.1 loop.invariant.3 more
-          first.ensures second.ensures (fits_both pair.before.before.before)
+          first.ensures second.ensures (fits_both (goal.at.loop-at-preserved pair).Else-not-fit)
           c.sweep_key-first.ensures.0 c.sweep_key-second.ensures.0 (ltb-false _ _ order.0) (ltb-false _ _ order.1),
     )
 
@@ -116,12 +116,12 @@ sweep_key-requires c =
 pub returns : goal.returns
 returns c = λ e.
     let fits = c in
-    let t = end_of fits.before in
+    let t = end_of (goal.at.returns fits).Else-not-fit-2 in
     let loop = t.loop-at in
     let s = call t in
     let last = fits in
-    let one = (last_inside last.before.before.before.before).0 in
+    let one = (last_inside (goal.at.returns last).Else-count-eq0).0 in
     all_done s.args.file.now s.args.places s.args.transitions s.args.start s.args.count _ _ (loop.invariant.0 - 1)
     (one_on s.args.file.now s.args.places s.args.transitions s.args.start s.args.count loop.at loop.least loop.invariant.0
-    last.word-w-2.result s.requires.places_bound.0 s.requires.places_bound.1 loop.invariant.3 (omega (arith, one)) last.word-w-2.ensures (fits_last fits.before)
+    last.word-w-2.result s.requires.places_bound.0 s.requires.places_bound.1 loop.invariant.3 (omega (arith, one)) last.word-w-2.ensures (fits_last (goal.at.returns fits).Else-not-fit-2)
     (rw (← c.sweep_key.ensures.0) (leb-true _ _ e))) (omega (arith, one))

@@ -14,11 +14,11 @@ use Rattle.file_words.proofs.capacity.bounded.Goals.{At-loop-at, In-loop-at, Sta
 -- so many places are left
 
 abbrev call : At-loop-at → Start
-call c = c.before.before
+call c = (goal.at.At-loop-at c).Start
 
 -- the place in hand lies in the file
-inside : (c : In-loop-at) → (0 < c.loop-at.invariant.0) × (c.loop-at.at + 8 ≤ length (call c.before).args.file.now)
-inside c = let inv = c.loop-at.invariant in (omega (arith, inv.1, c.loop-at-test.true), omega (arith, inv.1, c.loop-at-test.true, (call c.before).requires))
+inside : (c : In-loop-at) → (0 < c.loop-at.invariant.0) × (c.loop-at.at + 8 ≤ length (call (goal.at.In-loop-at c).At-loop-at).args.file.now)
+inside c = let inv = c.loop-at.invariant in (omega (arith, inv.1, c.loop-at-test.true), omega (arith, inv.1, c.loop-at-test.true, (call (goal.at.In-loop-at c).At-loop-at).requires))
 
 pub loop-at-init : goal.loop-at-init
 loop-at-init c = (c.args.count, refl, refl)
@@ -27,7 +27,7 @@ pub get32-requires : goal.get32-requires
 get32-requires c = omega (arith, (inside c).1)
 
 pub get32-requires-in-loop-at : goal.get32-requires-in-loop-at
-get32-requires-in-loop-at c = omega (arith, (inside c.before).1)
+get32-requires-in-loop-at c = omega (arith, (inside (goal.at.get32-requires-in-loop-at c).In-loop-at).1)
 
 -- what the test says of the place's bytes
 tested : {m c m' c' : ℕ} {r : Bool} → m ≡ m' → c ≡ c' → r ≡ over_cap m c → over_cap m' c' ≡ r
@@ -39,8 +39,8 @@ loop-at-preserved c =
     let turn = read in
     let loop = turn.loop-at in
     let left = loop.invariant.0 in
-    let some = (inside turn.before.before.before).0 in
-    let file = (call turn.before.before.before.before).args.file.now in
+    let some = (inside (goal.at.loop-at-preserved turn).In-loop-at).0 in
+    let file = (call (goal.at.loop-at-preserved turn).At-loop-at).args.file.now in
     let rest = caps_refusal file (loop.at + 8) (left - 1) in
     let over = tested read.get32.ensures.0 read.get32-in-loop-at.ensures.0 c.over-above.ensures in (
       left - 1,
@@ -53,4 +53,4 @@ pub returns : goal.returns
 returns c =
     let loop = c.loop-at in
     let none : loop.invariant.0 ≤ 0 = omega (arith, loop.invariant.1, c.loop-at-test.false) in
-    sym (loop.invariant.2 ∙ rw (caps-end (call c.before).args.file.now loop.at loop.invariant.0 none) (and-true loop.above))
+    sym (loop.invariant.2 ∙ rw (caps-end (call (goal.at.returns c).At-loop-at).args.file.now loop.at loop.invariant.0 none) (and-true loop.above))

@@ -7,7 +7,7 @@ use Rattle.nesfoal.proofs.recorded.nesfoal_run_cut.Goals.{After-length_of, After
 -- ---- the states: the call answered, its length read
 
 abbrev answered : After-length_of → After-run_cut-c
-answered c = c.before.before.before.before.before
+answered c = (goal.at.After-length_of c).After-run_cut-c
 
 pub returns : goal.returns
 returns c =
@@ -18,7 +18,7 @@ returns c =
     let transitions = count in
     let places = transitions in
     let long = places in
-    let s = ((answered long.before.before.before.before.before.before.before).run_cut-c.ensures.answer, ((answered long.before.before.before.before.before.before.before).run_cut-c.ensures.buffer, ((answered long.before.before.before.before.before.before.before).run_cut-c.ensures.positions, ((answered long.before.before.before.before.before.before.before).run_cut-c.ensures.feeds)))) in
+    let s = ((answered (goal.at.returns long).After-length_of).run_cut-c.ensures.answer, ((answered (goal.at.returns long).After-length_of).run_cut-c.ensures.buffer, ((answered (goal.at.returns long).After-length_of).run_cut-c.ensures.positions, ((answered (goal.at.returns long).After-length_of).run_cut-c.ensures.feeds)))) in
     let e = s.answer in
     let er = c.refusal.ensures ∙ ap (λ (a : RunAnswer). a.refusal) e in
     let en = long.length_of.ensures ∙ ap (λ (a : RunAnswer). a.length) e in

@@ -10,13 +10,13 @@ use Rattle.nesfoal.proofs.shadows.nesfoal_shadow.Goals.{After-code, After-index_
 -- ---- the states: the call, the Rattle call made, its numbers told
 
 abbrev call : After-shadow-s → Start
-call c = c.before.before.before.before.before.before.before.before
+call c = (goal.at.After-shadow-s c).Start
 
 abbrev called : After-index_of → After-shadow-s
-called c = c.before.before.before.before.before
+called c = (goal.at.After-index_of c).After-shadow-s
 
 abbrev indexed : After-code → After-index_of
-indexed c = c.before.before.before.before
+indexed c = (goal.at.After-code c).After-index_of
 
 pub returns : goal.returns
 returns c =

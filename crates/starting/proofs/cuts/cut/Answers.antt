@@ -7,7 +7,7 @@ use Rattle.starting.proofs.cuts.cut.Goals.{After-kept-kept, After-shared_slice_k
 -- ---- the states: the call, whose bytes are known
 
 abbrev known : After-kept-kept → After-shared_slice_known-1
-known c = c.before.before.before.before
+known c = (goal.at.After-kept-kept c).After-shared_slice_known-1
 
 pub kept-kept-requires : goal.kept-kept-requires
 kept-kept-requires c =
@@ -17,13 +17,13 @@ kept-kept-requires c =
 pub write-requires : goal.write-requires
 write-requires c =
     let sets = c in
-    let s = (known sets.before.before.before).before in
+    let s = (known (goal.at.write-requires sets).After-kept-kept).before in
     record { sound = s.requires.startable.opened.good; start_len = entries s.requires.startable; within = within s.args.kind _ _ _ _ sets.kept-kept.ensures }
 
 pub returns : goal.returns
 returns c =
     let w = c in
     let sets = w in
-    let k = known sets.before.before.before.before.before.before in
+    let k = known (goal.at.returns sets).After-kept-kept in
     let s = k in
     cut_started s.args.kind sets.kept-kept.result s.requires.startable (λ i. omega (arith, k.type_inv.plan i)) sets.kept-kept.ensures w.write.ensures

@@ -12,13 +12,13 @@ use Rattle.starting.proofs.cuts.put_place.Goals.{After-cap-most, After-put32, St
 -- ---- the states: the call, the tokens put
 
 abbrev call : After-put32 → Start
-call c = c.before.before.before.before
+call c = (goal.at.After-put32 c).Start
 
 abbrev capped : After-cap-most → Then-h-eq-CAPS
-capped c = c.before
+capped c = (goal.at.After-cap-most c).Then-h-eq-CAPS
 
 abbrev put_of : Then-h-eq-CAPS → After-put32
-put_of c = c.before.before.before.before
+put_of c = (goal.at.Then-h-eq-CAPS c).After-put32
 
 pub put32-requires : goal.put32-requires
 put32-requires c =
@@ -33,7 +33,7 @@ room c =
 
 pub put32-requires-then-h-eq-CAPS : goal.put32-requires-then-h-eq-CAPS
 put32-requires-then-h-eq-CAPS c =
-    let then = capped c.before in
+    let then = capped (goal.at.put32-requires-then-h-eq-CAPS c).After-cap-most in
     let put = put_of then in
     let a = (call put).args in
     omega (arith, room then, ap length put.put32.ensures, length-sets a.buffer.now a.at (bytes32 a.tokens))
@@ -42,13 +42,13 @@ pub returns-then-h-eq-CAPS : goal.returns-then-h-eq-CAPS
 returns-then-h-eq-CAPS c =
     let both = c in
     let cap = both in
-    let put = put_of (capped cap.before.before.before.before) in
+    let put = put_of (capped (goal.at.returns-then-h-eq-CAPS cap).After-cap-most) in
     let s = call put in
-    let two = (capped cap.before.before.before.before).if-h-eq-CAPS.true in
+    let two = (capped (goal.at.returns-then-h-eq-CAPS cap).After-cap-most).if-h-eq-CAPS.true in
     record { buffer_after = two_stored s.args.buffer.now s.args.at (s.args.at + 4) refl put.put32.ensures both.put32-then-h-eq-CAPS.ensures refl cap.cap-most.ensures.0 ∙ ap (sets s.args.buffer.now s.args.at) (place-capped s.args.h.edition s.args.tokens _ two); value = next-capped s.args.h.edition s.args.at two }
 
 pub returns : goal.returns
 returns c =
     let put = c in
-    let s = call put.before.before.before.before in
+    let s = call (goal.at.returns put).After-put32 in
     record { buffer_after = put.put32.ensures ∙ ap (sets s.args.buffer.now s.args.at) (place-plain s.args.h.edition s.args.tokens _ c.if-h-eq-CAPS.false); value = next-plain s.args.h.edition s.args.at c.if-h-eq-CAPS.false }

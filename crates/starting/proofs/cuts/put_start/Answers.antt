@@ -17,13 +17,13 @@ use Rattle.starting.proofs.cuts.put_start.Goals.{After-pass-q, After-put_kept-ar
 -- ---- the states: the call, the head of a turn, the place that it writes; what stands for that place in the file
 
 abbrev call : At-loop-p → Start
-call c = c.before.before.before.before
+call c = (goal.at.At-loop-p c).Start
 
 abbrev place_of : After-put_kept-arg-1 → After-pass-q
-place_of c = c.before.before
+place_of c = (goal.at.After-put_kept-arg-1 c).After-pass-q
 
 abbrev at_of : After-pass-q → At-loop-p
-at_of c = c.before.before.before
+at_of c = (goal.at.After-pass-q c).At-loop-p
 
 abbrev part : After-pass-q → List ℕ
 part c =
@@ -69,13 +69,13 @@ put_kept-next-requires c =
 
 pub loop-p-smaller : goal.loop-p-smaller
 loop-p-smaller c =
-    let t = place_of c.before.before.before in
+    let t = place_of (goal.at.loop-p-smaller c).After-put_kept-arg-1 in
     omega (arith, t.loop-p-test.true, t.pass-q.ensures.0, t.pass-q.ensures.1)
 
 pub loop-p-preserved : goal.loop-p-preserved
 loop-p-preserved c =
     let put = c in
-    let t = place_of put.before.before.before in
+    let t = place_of (goal.at.loop-p-preserved put).After-put_kept-arg-1 in
     (omega (arith, t.pass-q.ensures.1), storing_part (part t) _ _ _ (to_store t) put.put_kept-next.ensures.buffer_after put.put_kept-next.ensures.value)
 
 pub shape_of-buffer : goal.shape_of-buffer

@@ -17,10 +17,10 @@ use Rattle.starting.proofs.cuts.write.Goals.{After-refused, After-write-done, St
 -- ---- the states: the call, the plan's own slice written
 
 abbrev call : After-write-done → Start
-call c = c.before.before.before.before.before
+call c = (goal.at.After-write-done c).Start
 
 abbrev written : After-refused → After-write-done
-written c = c.before.before.before
+written c = (goal.at.After-refused c).After-write-done
 
 abbrev plan : Start → Net
 plan s = net_from s.args.plan.now s.args.h
@@ -35,7 +35,7 @@ ts s = selected (member s.args.transitions.now) 0 s.args.h.transitions
 
 pub returns-then-refused : goal.returns-then-refused
 returns-then-refused c =
-    let w = written c.before in
+    let w = written (goal.at.returns-then-refused c).After-refused in
     let s = call w in
     let a = s.args in
     refused-too a.h.edition (standing a.start.now) (plan s) (ps s) (ts s)
@@ -47,7 +47,7 @@ returns-then-refused c =
 pub put_start-requires : goal.put_start-requires
 put_start-requires c =
     let whole = c in
-    let w = written whole.before.before in
+    let w = written (goal.at.put_start-requires whole).After-refused in
     let s = call w in
     let a = s.args in
     let room = room_for a.h.edition (standing a.start.now) (plan s) (ps s) (ts s) {entry = a.buffer.now} {r = w.write-done.result}
@@ -59,7 +59,7 @@ pub returns : goal.returns
 returns c =
     let put = c in
     let whole = put in
-    let w = written whole.before.before.before.before.before in
+    let w = written (goal.at.returns whole).After-refused in
     let s = call w in
     let a = s.args in
     written_over a.h.edition (standing a.start.now) (plan s) (ps s) (ts s)

@@ -17,35 +17,35 @@ use Rattle.starting.proofs.verdicts.other_start.Goals.{After-alike, After-get16-
 -- ---- the states: the call, the head of a turn, its origin read, the two places compared
 
 abbrev call : At-loop-i → Start
-call c = c.before.before.before.before
+call c = (goal.at.At-loop-i c).Start
 
 abbrev turn_of : After-get16-origin → In-loop-i
-turn_of c = c.before
+turn_of c = (goal.at.After-get16-origin c).In-loop-i
 
 abbrev read_of : After-alike → After-get16-origin
-read_of c = c.before.before
+read_of c = (goal.at.After-alike c).After-get16-origin
 
 -- the origin that was read, and that the plan knows it
-origin_is : (c : After-get16-origin) → let t = (turn_of c).before in let a = (call t.before).args in c.get16-origin.result ≡ get_or (slice_from a.slice.now a.hs).place_origins t.loop-i.i 0
+origin_is : (c : After-get16-origin) → let t = (turn_of c).before in let a = (call (goal.at.In-loop-i t).At-loop-i).args in c.get16-origin.result ≡ get_or (slice_from a.slice.now a.hs).place_origins t.loop-i.i 0
 origin_is c =
     let t = turn_of c in
-    let a = (call t.before).args in
+    let a = (call (goal.at.In-loop-i t).At-loop-i).args in
     c.get16-origin.ensures.0 ∙ sym (words-at a.slice.now a.hs.originstart a.hs.places t.loop-i.i t.loop-i-test.true)
 
-inside : (c : In-loop-i) → let a = (call c.before).args in c.loop-i.i < length (slice_from a.slice.now a.hs).place_origins
-inside c = let a = (call c.before).args in omega (arith, length-words a.slice.now a.hs.originstart a.hs.places, c.loop-i-test.true)
+inside : (c : In-loop-i) → let a = (call (goal.at.In-loop-i c).At-loop-i).args in c.loop-i.i < length (slice_from a.slice.now a.hs).place_origins
+inside c = let a = (call (goal.at.In-loop-i c).At-loop-i).args in omega (arith, length-words a.slice.now a.hs.originstart a.hs.places, c.loop-i-test.true)
 
-known : (c : After-get16-origin) → c.get16-origin.result < (call (turn_of c).before).args.hp.places
+known : (c : After-get16-origin) → c.get16-origin.result < (call (goal.at.In-loop-i (turn_of c)).At-loop-i).args.hp.places
 known c =
     let t = turn_of c in
-    omega (arith, origin_is c, (call t.before).requires.known.at t.loop-i.i (inside t))
+    omega (arith, origin_is c, (call (goal.at.In-loop-i t).At-loop-i).requires.known.at t.loop-i.i (inside t))
 
 -- what the comparison says of the slice's place and its origin
-compared : (c : After-alike) → let t = (turn_of (read_of c)).before in let a = (call t.before).args in
+compared : (c : After-alike) → let t = (turn_of (read_of c)).before in let a = (call (goal.at.In-loop-i t).At-loop-i).args in
     c.alike.result ≡ same_at (starting_at (standing a.start.now) (net_from a.plan.now a.hp)) (net_from a.slice.now a.hs) t.loop-i.i (get_or (slice_from a.slice.now a.hs).place_origins t.loop-i.i 0)
 compared c =
     let t = (turn_of (read_of c)).before in
-    let a = (call t.before).args in
+    let a = (call (goal.at.In-loop-i t).At-loop-i).args in
     c.alike.ensures ∙ ap (λ (p : ℕ). same_at (starting_at (standing a.start.now) (net_from a.plan.now a.hp)) (net_from a.slice.now a.hs) t.loop-i.i p) (origin_is (read_of c))
 
 pub loop-i-init : goal.loop-i-init
@@ -53,40 +53,40 @@ loop-i-init c = (omega arith, λ k l. absurd (omega arith))
 
 pub get16-origin-requires : goal.get16-origin-requires
 get16-origin-requires c =
-    let pre = ((call c.before).requires.placed, ((call c.before).requires.sound, ((call c.before).requires.kind_value, ((call c.before).requires.known, ((call c.before).requires.start_len))))) in
+    let pre = ((call (goal.at.get16-origin-requires c).At-loop-i).requires.placed, ((call (goal.at.get16-origin-requires c).At-loop-i).requires.sound, ((call (goal.at.get16-origin-requires c).At-loop-i).requires.kind_value, ((call (goal.at.get16-origin-requires c).At-loop-i).requires.known, ((call (goal.at.get16-origin-requires c).At-loop-i).requires.start_len))))) in
     let w = (place-origins _ _ pre.sound pre.kind_value).fit in
     omega (arith, c.loop-i-test.true)
 
 pub bounds-start-origin : goal.bounds-start-origin
 bounds-start-origin c =
     let read = c in
-    omega (arith, known read.before, (call (turn_of read.before).before).requires.start_len)
+    omega (arith, known (goal.at.bounds-start-origin read).After-get16-origin, (call (goal.at.In-loop-i (turn_of (goal.at.bounds-start-origin read).After-get16-origin)).At-loop-i).requires.start_len)
 
 pub alike-requires : goal.alike-requires
 alike-requires c =
     let read = c in
-    let t = turn_of read.before in
-    let pre = ((call t.before).requires.placed, ((call t.before).requires.sound, ((call t.before).requires.kind_value, ((call t.before).requires.known, ((call t.before).requires.start_len))))) in
-    record { placed = pre.placed; placed_2 = pre.sound.placed; p_lt_places = (known read.before, t.loop-i-test.true) }
+    let t = turn_of (goal.at.alike-requires read).After-get16-origin in
+    let pre = ((call (goal.at.In-loop-i t).At-loop-i).requires.placed, ((call (goal.at.In-loop-i t).At-loop-i).requires.sound, ((call (goal.at.In-loop-i t).At-loop-i).requires.kind_value, ((call (goal.at.In-loop-i t).At-loop-i).requires.known, ((call (goal.at.In-loop-i t).At-loop-i).requires.start_len))))) in
+    record { placed = pre.placed; placed_2 = pre.sound.placed; p_lt_places = (known (goal.at.alike-requires read).After-get16-origin, t.loop-i-test.true) }
 
 pub returns-then-not-alike : goal.returns-then-not-alike
 returns-then-not-alike c =
     let same = c in
-    let t = turn_of (read_of same.before) in
-    let pre = ((call t.before).requires.placed, ((call t.before).requires.sound, ((call t.before).requires.kind_value, ((call t.before).requires.known, ((call t.before).requires.start_len))))) in
-    origin_is (read_of same.before)
+    let t = turn_of (read_of (goal.at.returns-then-not-alike same).After-alike) in
+    let pre = ((call (goal.at.In-loop-i t).At-loop-i).requires.placed, ((call (goal.at.In-loop-i t).At-loop-i).requires.sound, ((call (goal.at.In-loop-i t).At-loop-i).requires.kind_value, ((call (goal.at.In-loop-i t).At-loop-i).requires.known, ((call (goal.at.In-loop-i t).At-loop-i).requires.start_len))))) in
+    origin_is (read_of (goal.at.returns-then-not-alike same).After-alike)
     ∙ other-found _ _ (pre.sound.place_origins pre.kind_value) pre.known t.loop-i.i (inside t) t.loop-i.invariant.1
-    (sym (compared same.before) ∙ not-true _ c.if-not-alike.true-raw)
+    (sym (compared (goal.at.returns-then-not-alike same).After-alike) ∙ not-true _ c.if-not-alike.true-raw)
 
 pub loop-i-preserved : goal.loop-i-preserved
 loop-i-preserved c =
     let same = c in
-    let t = turn_of (read_of same.before) in
-    (omega (arith, t.loop-i-test.true), below_more _ _ t.loop-i.invariant.1 (record { same = sym (compared same.before) ∙ not-false _ c.if-not-alike.false-raw }))
+    let t = turn_of (read_of (goal.at.loop-i-preserved same).After-alike) in
+    (omega (arith, t.loop-i-test.true), below_more _ _ t.loop-i.invariant.1 (record { same = sym (compared (goal.at.loop-i-preserved same).After-alike) ∙ not-false _ c.if-not-alike.false-raw }))
 
 pub returns : goal.returns
 returns c =
-    let s = call c.before in
+    let s = call (goal.at.returns c).At-loop-i in
     let a = s.args in
     let pre = (s.requires.placed, (s.requires.sound, (s.requires.kind_value, (s.requires.known, (s.requires.start_len))))) in
     let long = length-words a.slice.now a.hs.originstart a.hs.places in

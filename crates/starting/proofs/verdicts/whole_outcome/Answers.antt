@@ -27,17 +27,17 @@ OthersDecide s =
 -- ---- the states: the call, rules 1, 2 and 3 looked at
 
 abbrev call : After-unknown_place-i → Start
-call c = c.before.before.before.before.before
+call c = (goal.at.After-unknown_place-i c).Start
 
 abbrev places_of : After-unknown_transition-j → After-unknown_place-i
-places_of c = c.before.before.before
+places_of c = (goal.at.After-unknown_transition-j c).After-unknown_place-i
 
 abbrev transitions_of : After-other_start-p → After-unknown_transition-j
-transitions_of c = c.before.before.before
+transitions_of c = (goal.at.After-other_start-p c).After-unknown_transition-j
 
 -- from where rules 1 to 3 hold, back to where each was looked at
 abbrev transitions_at : Else-p-hp → After-unknown_transition-j
-transitions_at c = transitions_of c.before.before
+transitions_at c = transitions_of (goal.at.Else-p-hp c).After-other_start-p
 
 abbrev places_at : Else-p-hp → After-unknown_place-i
 places_at c = places_of (transitions_at c)
@@ -72,13 +72,13 @@ pub returns-then-j-hs : goal.returns-then-j-hs
 returns-then-j-hs c =
     let at = c in
     broken-here 2 _ _ _ _ (range2 _ _) (at.unknown_transition-j.ensures _ refl) c.if-j-hs.true
-    ∙ holds_here 1 _ _ _ _ (range1 _ _) ((places_of at.before.before).unknown_place-i.ensures _ refl) at.if-i-hs.false
+    ∙ holds_here 1 _ _ _ _ (range1 _ _) ((places_of (goal.at.returns-then-j-hs at).After-unknown_transition-j).unknown_place-i.ensures _ refl) at.if-i-hs.false
     ∙ all-rules _ _ _
 
 pub other_start-p-requires : goal.other_start-p-requires
 other_start-p-requires c =
     let at = c in
-    let places = places_of at.before.before in
+    let places = places_of (goal.at.other_start-p-requires at).After-unknown_transition-j in
     let start = call places in
     let N = net_from start.args.plan.now start.args.hp in
     let all = places-known N _ (length-words _ _ _) (least _ _ _ (places.unknown_place-i.ensures N refl) at.if-i-hs.false) in
@@ -87,12 +87,12 @@ other_start-p-requires c =
 
 pub overflow_cast-result-then-p-hp : goal.overflow_cast-result-then-p-hp
 overflow_cast-result-then-p-hp c =
-    let s = call (places_of (transitions_of c.before.before)) in
+    let s = call (places_of (transitions_of (goal.at.overflow_cast-result-then-p-hp c).After-other_start-p)) in
     omega (arith, c.if-p-hp.true, s.requires.judged.planned.placed.places)
 
 pub returns-then-p-hp : goal.returns-then-p-hp
 returns-then-p-hp c =
-    let at = transitions_of c.before.before in
+    let at = transitions_of (goal.at.returns-then-p-hp c).After-other_start-p in
     broken-here 3 _ _ _ _ (range3 _ _) c.other_start-p.ensures c.if-p-hp.true
     ∙ holds_here 2 _ _ _ _ (range2 _ _) (at.unknown_transition-j.ensures _ refl) c.if-j-hs.false
     ∙ holds_here 1 _ _ _ _ (range1 _ _) ((places_of at).unknown_place-i.ensures _ refl) at.if-i-hs.false
@@ -103,7 +103,7 @@ others_outcome-requires c = record { judged = (start c).requires.judged; known_i
 
 pub returns : goal.returns
 returns c =
-    let a = (start c.before).args in
+    let a = (start (goal.at.returns c).Else-p-hp).args in
     c.others_outcome.ensures
     ∙ ap (λ l. told (verdict_from 4 l)) (rules-same (standing a.start.now) (net_from a.plan.now a.hp) (slice_from a.slice.now a.hs) a.criterion.now)
-    ∙ first_three c.before
+    ∙ first_three (goal.at.returns c).Else-p-hp
