@@ -11,7 +11,7 @@ pub loop-e-init : goal.loop-e-init
 loop-e-init c =
     let x = c.requires in
     let w = c.word-w in
-    (omega arith, omega (arith, x.some), only_one _ _ _, ap (λ (a : Arc). a.weight) w.ensures.arc ∙ sym (run-one _ _ _), omega (arith, w.type-inv))
+    (omega arith, omega (arith, x.some), only_one _ _ _, ap (λ (a : Arc). a.weight) w.ensures.arc ∙ sym (run-one _ _ _), omega (arith, w.type_inv))
 
 pub returns-then-not-parallel : goal.returns-then-not-parallel
 returns-then-not-parallel c =
@@ -27,7 +27,7 @@ returns-then-not-parallel c =
     )
 
 pub overflow_add-sum : goal.overflow_add-sum
-overflow_add-sum c = let x = c.loop-e.invariant in let s = c.requires in omega (arith, x.0, x.1, x.4, s.few, c.word-v.type-inv)
+overflow_add-sum c = let x = c.loop-e.invariant in let s = c.requires in omega (arith, x.0, x.1, x.4, s.few, c.word-v.type_inv)
 
 pub loop-e-preserved : goal.loop-e-preserved
 loop-e-preserved c =
@@ -37,7 +37,7 @@ loop-e-preserved c =
       search rules,
       one_more _ _ _ _ x.2 (test_true _ _ _ _ _ _ v.ensures c.word-w.ensures (sym c.parallel.ensures ∙ not-false _ c.if-not-parallel.false-raw)),
       ap₂ ◌+◌ x.3 (ap (λ (a : Arc). a.weight) v.ensures.arc) ∙ sym (run_more _ _ _ _ (omega (arith, x.0))),
-      omega (arith, x.0, x.4, v.type-inv),
+      omega (arith, x.0, x.4, v.type_inv),
     )
 
 pub returns : goal.returns

@@ -6,21 +6,21 @@ use Rattle.sets.specs.declared.Found.TheVariants.{At}
 use Rattle.sets_pending.specs.Growing.{waits}
 use Rattle.cut_search.proofs.Closing.{stepped_none, found_below, stepped}
 use Rattle.cut_search.proofs.step.Goals as goal
-use Rattle.cut_search.proofs.step.Goals.{After-insert, After-lowest-lowest, In-At-2, Start}
+use Rattle.cut_search.proofs.step.Goals.{After-insert, After-lowest-lowest, In-At, Start}
 
 -- ---- the states: the call, the search done, a place found
 
 abbrev call : After-lowest-lowest → Start
 call c = (goal.at.After-lowest-lowest c).Start
 
-abbrev search_of : In-At-2 → After-lowest-lowest
-search_of c = (goal.at.In-At-2 c).After-lowest-lowest
+abbrev search_of : In-At → After-lowest-lowest
+search_of c = (goal.at.In-At c).After-lowest-lowest
 
-abbrev place_of : After-insert → In-At-2
-place_of c = (goal.at.After-insert c).In-At-2
+abbrev place_of : After-insert → In-At
+place_of c = (goal.at.After-insert c).In-At
 
 -- the place found is the lowest pending one
-found : (c : In-At-2) → let s = call (search_of c) in IsLowest 1024 (waits s.args.places.now (member s.args.gone.now)) (At c.in-At.p)
+found : (c : In-At) → let s = call (search_of c) in IsLowest 1024 (waits s.args.places.now (member s.args.gone.now)) (At c.in-At.p)
 found c =
     let s = call (search_of c) in
     subst (IsLowest 1024 (waits s.args.places.now (member s.args.gone.now))) c.in-At.is (search_of c).lowest-lowest.ensures.lowest
@@ -38,7 +38,7 @@ returns-in_default c =
 pub insert-requires : goal.insert-requires
 insert-requires c =
     let place = c in
-    (omega (arith, (found (goal.at.insert-requires place).In-At-2).0), (call (search_of (goal.at.insert-requires place).In-At-2)).requires.1.long)
+    (omega (arith, (found (goal.at.insert-requires place).In-At).0), (call (search_of (goal.at.insert-requires place).In-At)).requires.1.long)
 
 pub turn-requires : goal.turn-requires
 turn-requires c =

@@ -27,11 +27,11 @@ judged c = (goal.at.After-order-key c).After-unfit
 arc_is : (c : After-arc_of-a) → let t = c in c.arc_of-a.result ≡ arc_at (call (goal.at.After-arc_of-a t).At-loop-left).args.file.now t.loop-left.at
 arc_is c = c.arc_of-a.ensures.0 ∙ c.word-w.ensures.arc
 
-wrong_is : (c : After-unfit) → let t = (turn_of c).before in let a = (call (goal.at.In-loop-left t).At-loop-left).args in
+wrong_is : (c : After-unfit) → let t = (turn_of c) in let a = (call (goal.at.In-loop-left t).At-loop-left).args in
     c.unfit.result ≡ arc_wrong a.places a.transitions (arc_at a.file.now t.loop-left.at) (byte_at a.file.now (t.loop-left.at + 3))
 wrong_is c = c.unfit.ensures ∙ unfit_is _ _ _ (arc_is (goal.at.After-unfit c).After-arc_of-a) c.word-w.ensures.middle
 
-key_is : (c : After-order-key) → let t = (turn_of (judged c)).before in c.order-key.result ≡ key (arc_at (call (goal.at.In-loop-left t).At-loop-left).args.file.now t.loop-left.at)
+key_is : (c : After-order-key) → let t = (turn_of (judged c)) in c.order-key.result ≡ key (arc_at (call (goal.at.In-loop-left t).At-loop-left).args.file.now t.loop-left.at)
 key_is c = c.order-key.ensures.0 ∙ ap key (arc_is (goal.at.After-unfit (judged c)).After-arc_of-a)
 
 pub loop-left-init : goal.loop-left-init

@@ -1,14 +1,14 @@
 use Rattle.normal.proofs.Turns.{arcs-told, heavy-answers, light-answers}
 use Rattle.normal.proofs.write.Goals as goal
-use Rattle.normal.proofs.write.Goals.{After-count-left, In-Arcs, In-Arcs-2, Start}
+use Rattle.normal.proofs.write.Goals.{After-count-left, In-Arcs, Start}
 
 -- ---- the states: the call, the arcs counted, the count found
 
 abbrev call : After-count-left → Start
 call c = (goal.at.After-count-left c).Start
 
-abbrev left_of : In-Arcs → In-Arcs-2
-left_of c = (goal.at.In-Arcs c).In-Arcs-2
+abbrev left_of : In-Arcs → In-Arcs
+left_of c = c
 
 abbrev counted_of : In-Arcs → After-count-left
 counted_of c = (goal.at.In-Arcs c).After-count-left

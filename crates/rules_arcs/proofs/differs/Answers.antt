@@ -17,7 +17,7 @@ low : (c : Else-own-eq0) → c.entry-own.result ≤ (call (goal.at.Else-own-eq0 
 low c = let s = call (goal.at.Else-own-eq0 c).After-entry-own in own-low _ _ _ _ _ _ _ _ s.requires.cases s.requires.starts _ s.requires.t_lt_transitions _ c.entry-own.ensures.0 c.if-own-eq0.false
 
 -- where the two runs stand
-ready_at : (c : After-entry-upto) → let own = (kept_of c).before in let s = call (goal.at.Else-own-eq0 own).After-entry-own in
+ready_at : (c : After-entry-upto) → let own = (kept_of c) in let s = call (goal.at.Else-own-eq0 own).After-entry-own in
     Ready s.args.plan.now s.args.hp s.args.slice.now s.args.hs s.args.ownp.now s.args.t own.entry-own.result c.entry-from.result c.entry-to.result c.entry-first.result c.entry-upto.result
 ready_at c =
     let kept = kept_of c in

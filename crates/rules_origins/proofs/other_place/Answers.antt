@@ -21,7 +21,7 @@ abbrev turn_of : After-get16-origin → In-loop-i
 turn_of c = (goal.at.After-get16-origin c).In-loop-i
 
 -- the origin that was read
-origin_is : (c : After-get16-origin) → let t = (turn_of c).before in let a = (call (goal.at.In-loop-i t).At-loop-i).args in c.get16-origin.result ≡ get_or (slice_from a.slice.now a.hs).place_origins t.loop-i.i 0
+origin_is : (c : After-get16-origin) → let t = (turn_of c) in let a = (call (goal.at.In-loop-i t).At-loop-i).args in c.get16-origin.result ≡ get_or (slice_from a.slice.now a.hs).place_origins t.loop-i.i 0
 origin_is c =
     let t = turn_of c in
     let a = (call (goal.at.In-loop-i t).At-loop-i).args in
@@ -31,10 +31,10 @@ inside : (c : In-loop-i) → let a = (call (goal.at.In-loop-i c).At-loop-i).args
 inside c = let a = (call (goal.at.In-loop-i c).At-loop-i).args in omega (arith, length-words a.slice.now a.hs.originstart a.hs.places, c.loop-i-test.true)
 
 -- what the comparison says of the slice's place and its origin
-compared : (c : After-alike) → let t = (turn_of (goal.at.After-alike c).After-get16-origin).before in let a = (call (goal.at.In-loop-i t).At-loop-i).args in
+compared : (c : After-alike) → let t = (turn_of (goal.at.After-alike c).After-get16-origin) in let a = (call (goal.at.In-loop-i t).At-loop-i).args in
     c.alike.result ≡ same_at (net_from a.plan.now a.hp) (net_from a.slice.now a.hs) t.loop-i.i (get_or (slice_from a.slice.now a.hs).place_origins t.loop-i.i 0)
 compared c =
-    let t = (turn_of (goal.at.After-alike c).After-get16-origin).before in
+    let t = (turn_of (goal.at.After-alike c).After-get16-origin) in
     let a = (call (goal.at.In-loop-i t).At-loop-i).args in
     c.alike.ensures ∙ ap (λ (p : ℕ). same_at (net_from a.plan.now a.hp) (net_from a.slice.now a.hs) t.loop-i.i p) (origin_is (goal.at.After-alike c).After-get16-origin)
 

@@ -26,7 +26,7 @@ abbrev origin_of : After-marking → After-get16-p
 origin_of c = (goal.at.After-marking c).After-get16-p
 
 -- the origin that was read
-origin_is : (c : After-get16-p) → let t = (turn_of c).before in let a = (call (goal.at.In-loop-i t).At-loop-i).args in c.get16-p.result ≡ get_or (slice_from a.slice.now a.hs).place_origins t.loop-i.i 0
+origin_is : (c : After-get16-p) → let t = (turn_of c) in let a = (call (goal.at.In-loop-i t).At-loop-i).args in c.get16-p.result ≡ get_or (slice_from a.slice.now a.hs).place_origins t.loop-i.i 0
 origin_is c =
     let t = turn_of c in
     let a = (call (goal.at.In-loop-i t).At-loop-i).args in
@@ -36,7 +36,7 @@ inside : (c : In-loop-i) → let a = (call (goal.at.In-loop-i c).At-loop-i).args
 inside c = let a = (call (goal.at.In-loop-i c).At-loop-i).args in omega (arith, length-words a.slice.now a.hs.originstart a.hs.places, c.loop-i-test.true)
 
 -- the plan's tokens of that place
-tokens_are : (c : After-marking) → let o = origin_of c in let t = (turn_of o).before in let a = (call (goal.at.In-loop-i t).At-loop-i).args in
+tokens_are : (c : After-marking) → let o = origin_of c in let t = (turn_of o) in let a = (call (goal.at.In-loop-i t).At-loop-i).args in
     c.marking-tokens.result ≡ (net_from a.plan.now a.hp).marking (get_or (slice_from a.slice.now a.hs).place_origins t.loop-i.i 0)
 tokens_are c =
     let o = origin_of c in

@@ -8,7 +8,7 @@ use Rattle.slice.specs.Kept.{cut_numbers, kept_pair}
 use Rattle.run_cut.specs.Parts.{chosen_by}
 use Rattle.run_cut.proofs.Outcomes.{count-few, no_entries, no_room, whole}
 use Rattle.run_cut.proofs.write.Goals as goal
-use Rattle.run_cut.proofs.write.Goals.{After-lacks, After-write-slice, In-Written-2, Start}
+use Rattle.run_cut.proofs.write.Goals.{After-lacks, After-write-slice, In-Written, Start}
 
 -- ---- the states: the call, whether positions lack room, the slice written
 
@@ -18,8 +18,8 @@ call c = (goal.at.After-lacks c).Start
 abbrev asked_of : After-write-slice → After-lacks
 asked_of c = (goal.at.After-write-slice c).After-lacks
 
-abbrev written_of : In-Written-2 → After-write-slice
-written_of c = (goal.at.In-Written-2 c).After-write-slice
+abbrev written_of : In-Written → After-write-slice
+written_of c = (goal.at.In-Written c).After-write-slice
 
 -- the sets that are lent
 abbrev kept_of : Start → KeptSets
@@ -48,7 +48,7 @@ returns-in_default c =
 
 pub write_positions-count-requires : goal.write_positions-count-requires
 write_positions-count-requires c =
-    let after = written_of (goal.at.write_positions-count-requires c).In-Written-2 in
+    let after = written_of (goal.at.write_positions-count-requires c).In-Written in
     let s = call (asked_of after) in
     let f = s.requires.fed_by in
     (f.reached, f.ended, enough after)
@@ -56,14 +56,14 @@ write_positions-count-requires c =
 pub overflow_cast-chosen : goal.overflow_cast-chosen
 overflow_cast-chosen c =
     let put = c in
-    let s = call (asked_of (written_of (goal.at.overflow_cast-chosen put).In-Written-2)) in
+    let s = call (asked_of (written_of (goal.at.overflow_cast-chosen put).In-Written)) in
     omega (arith, put.write_positions-count.ensures.0, count-few _ s.args.h _ _ _ (kept_of s) _ s.requires.given s.requires.fed_by s.args.buffer.now s.args.positions.now)
 
 pub returns : goal.returns
 returns c =
     let put = c in
     let told = put in
-    let after = written_of (goal.at.returns told).In-Written-2 in
+    let after = written_of (goal.at.returns told).In-Written in
     let s = call (asked_of after) in
     whole _ s.args.h _ _ _ (kept_of s) _ s.requires.given s.requires.fed_by _ _ _ after.write-slice.ensures.buffer _ _ _ (sym (ap cut_numbers told.in-Written.is) ∙ after.write-slice.ensures.answer)
     (enough after) _ put.write_positions-count.ensures.0 _ put.write_positions-count.ensures.1

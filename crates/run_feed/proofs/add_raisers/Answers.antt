@@ -49,7 +49,7 @@ has_entry c =
     omega (arith, transition_is c, (good-at s.args.file.now s.args.h s.requires.0 ((in_of c).loop-e.e % 65536 - 1) (below (in_of c))).transition, s.requires.4, (in_of c).loop-e.invariant.long)
 
 -- what is due is the entry, or 0
-due_is : (c : Due) → let i = (in_of (read_of c)).before in c.due-from.result ≡ due_of (call (goal.at.In-loop-e i).At-loop-e).args.last.now (read_of c).arc-a.result.transition (i.loop-e.e / 65536)
+due_is : (c : Due) → let i = (in_of (read_of c)) in c.due-from.result ≡ due_of (call (goal.at.In-loop-e i).At-loop-e).args.last.now (read_of c).arc-a.result.transition (i.loop-e.e / 65536)
 due_is c = c.due-from.ensures ∙ ap (λ (n : ℕ). choose (eqb n 0) ((in_of (read_of c)).loop-e.e / 65536) 0) c.entry.ensures.0
 
 due_few : (b : Bool) (n : ℕ) → choose b n 0 ≤ n

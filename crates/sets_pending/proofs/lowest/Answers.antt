@@ -10,7 +10,7 @@ use Rattle.sets.specs.declared.Found.{Found}
 use Rattle.sets.specs.declared.Found.TheVariants.{At, Nothing}
 use Rattle.sets_pending.proofs.Laws.{lowest-none, first_word, lowest-at, marks_less, marks_fewer}
 use Rattle.sets_pending.proofs.lowest.Goals as goal
-use Rattle.sets_pending.proofs.lowest.Goals.{At-loop-i, In-At-2, In-At-here-2, In_default-here, Start}
+use Rattle.sets_pending.proofs.lowest.Goals.{At-loop-i, In-At, In-At-here, In_default-here, Start}
 
 -- ---- the states: the call, a turn, the first marked word found
 
@@ -18,19 +18,19 @@ abbrev Turn : Type 0
 Turn = At-loop-i
 
 abbrev Marked_word : Type 0
-Marked_word = In-At-2
+Marked_word = In-At
 
 abbrev call : Turn → Start
 call c = (goal.at.At-loop-i c).Start
 
 abbrev turn_of : Marked_word → Turn
-turn_of c = (goal.at.In-At-2 c).At-loop-i
+turn_of c = (goal.at.In-At c).At-loop-i
 
-abbrev word_of : In-At-here-2 → Marked_word
-word_of c = (goal.at.In-At-here-2 c).In-At-2
+abbrev word_of : In-At-here → Marked_word
+word_of c = (goal.at.In-At-here c).In-At
 
 abbrev passed_word : In_default-here → Marked_word
-passed_word c = (goal.at.In_default-here c).In-At-2
+passed_word c = (goal.at.In_default-here c).In-At
 
 -- the word found is the first that is marked
 first : (c : Marked_word) → IsLowest 64 (bit (turn_of c).loop-i.marks) (At c.in-At.i)
@@ -44,7 +44,7 @@ word c = let t = turn_of c in first_word _ _ (call t).requires.0 _ t.loop-i.inva
 abbrev InWord : Marked_word → Found → Type 0
 InWord c = let s = call (turn_of c) in IsLowest 64 (bit (bit_xor (get_or s.args.places.now c.in-At.i 0) (get_or s.args.gone.now c.in-At.i 0)))
 
-here : (c : In-At-here-2) → InWord (word_of c) (At c.in-At-here.z)
+here : (c : In-At-here) → InWord (word_of c) (At c.in-At-here.z)
 here c = subst (InWord (word_of c)) c.in-At-here.is c.lowest_bit-here.ensures
 
 nothing : (c : In_default-here) → InWord (passed_word c) Nothing
@@ -59,28 +59,28 @@ returns-in_default c =
     lowest-none _ _ (call (goal.at.returns-in_default t).At-loop-i).requires.0 _ t.loop-i.invariant (subst (IsLowest 64 (bit t.loop-i.marks)) c.in_default.is c.lowest_bit-first.ensures)
 
 pub offset_bounds-places-i : goal.offset_bounds-places-i
-offset_bounds-places-i c = let l = word (goal.at.offset_bounds-places-i c).In-At-2 in search rules
+offset_bounds-places-i c = let l = word c in search rules
 
 pub bounds-places-i : goal.bounds-places-i
-bounds-places-i c = let l = word (goal.at.bounds-places-i c).In-At-2 in search rules
+bounds-places-i c = let l = word (goal.at.bounds-places-i c).In-At in search rules
 
 pub offset_bounds-gone-i : goal.offset_bounds-gone-i
-offset_bounds-gone-i c = let l = word (goal.at.offset_bounds-gone-i c).In-At-2 in search rules
+offset_bounds-gone-i c = let l = word (goal.at.offset_bounds-gone-i c).In-At in search rules
 
 pub bounds-gone-i : goal.bounds-gone-i
-bounds-gone-i c = let l = word (goal.at.bounds-gone-i c).In-At-2 in search rules
+bounds-gone-i c = let l = word (goal.at.bounds-gone-i c).In-At in search rules
 
 pub overflow_mul-result : goal.overflow_mul-result
-overflow_mul-result c = let l = word (word_of (goal.at.overflow_mul-result c).In-At-here-2) in search rules
+overflow_mul-result c = let l = word (word_of c) in search rules
 
 pub overflow_add-result : goal.overflow_add-result
-overflow_add-result c = omega (arith, word (word_of (goal.at.overflow_add-result c).In-At-here-2), (here (goal.at.overflow_add-result c).In-At-here-2).0)
+overflow_add-result c = omega (arith, word (word_of c), (here c).0)
 
 pub returns-in-At-here : goal.returns-in-At-here
 returns-in-At-here c =
-    let w = word_of (goal.at.returns-in-At-here c).In-At-here-2 in
+    let w = word_of c in
     let t = turn_of w in
-    lowest-at _ _ (call t).requires.0 _ t.loop-i.invariant _ (first w) _ (here (goal.at.returns-in-At-here c).In-At-here-2)
+    lowest-at _ _ (call t).requires.0 _ t.loop-i.invariant _ (first w) _ (here c)
 
 pub without-requires : goal.without-requires
 without-requires c = let l = word (passed_word (goal.at.without-requires c).In_default-here) in omega arith

@@ -10,27 +10,27 @@ use Rattle.inputs_starts.proofs.Calls.{opened-from}
 use Rattle.call_check.proofs.Checks.{criterion-turned, judged}
 use Rattle.call_check.proofs.Starting.{plan_stops, slice-stops, start-stops, goes_on_lem, with-guarantee}
 use Rattle.call_check.proofs.starts.check_from.Goals as goal
-use Rattle.call_check.proofs.starts.check_from.Goals.{After-refusal-broken, After-shared_slice_known-1, Else-broken-ne0, In-Whole-2, In-Whole-second-2, Start}
+use Rattle.call_check.proofs.starts.check_from.Goals.{After-refusal-broken, After-shared_slice_known-1, Else-broken-ne0, In-Whole, In-Whole-second, Start}
 
 -- ---- the states: the plan whole, then the slice, then the start passed
 
-abbrev known : In-Whole-2 → After-shared_slice_known-1
-known c = (goal.at.In-Whole-2 c).After-shared_slice_known-1
+abbrev known : In-Whole → After-shared_slice_known-1
+known c = (goal.at.In-Whole c).After-shared_slice_known-1
 
-abbrev call : In-Whole-2 → Start
-call c = (known c).before
+abbrev call : In-Whole → Start
+call c = (known c)
 
-abbrev plan_of : In-Whole-second-2 → In-Whole-2
-plan_of c = (goal.at.In-Whole-second-2 c).In-Whole-2
+abbrev plan_of : In-Whole-second → In-Whole
+plan_of c = (goal.at.In-Whole-second c).In-Whole
 
-abbrev slice_of : After-refusal-broken → In-Whole-second-2
-slice_of c = (goal.at.After-refusal-broken c).In-Whole-second-2
+abbrev slice_of : After-refusal-broken → In-Whole-second
+slice_of c = (goal.at.After-refusal-broken c).In-Whole-second
 
 -- what is known of the two files from here on, and of the start
-plan_at : (c : In-Whole-2) → Opened due.Plan (call c).args.plan.now c.in-Whole.p
+plan_at : (c : In-Whole) → Opened due.Plan (call c).args.plan.now c.in-Whole.p
 plan_at c = opened due.Plan _ c.read-first.ensures c.in-Whole.is
 
-slice_at : (c : In-Whole-second-2) → Opened due.Slice (call (plan_of c)).args.slice.now c.in-Whole-second.s
+slice_at : (c : In-Whole-second) → Opened due.Slice (call (plan_of c)).args.slice.now c.in-Whole-second.s
 slice_at c = opened due.Slice _ c.read-second.ensures c.in-Whole-second.is
 
 passes : (c : Else-broken-ne0) → let f = plan_of (slice_of (goal.at.Else-broken-ne0 c).After-refusal-broken) in start_refusal (net_from (call f).args.plan.now f.in-Whole.p) (call f).args.start.now ≡ 0
@@ -51,13 +51,13 @@ returns-in_default c =
 pub returns-in_default-second : goal.returns-in_default-second
 returns-in_default-second c =
     let first = c in
-    let a = (call (goal.at.returns-in_default-second first).In-Whole-2).args in
-    let told = with-guarantee a.plan.now a.slice.now a.start.now a.criterion.now (λ i. omega (arith, (known (goal.at.returns-in_default-second first).In-Whole-2).type_inv.plan i))
-    (slice-stops _ _ _ _ _ (plan_at (goal.at.returns-in_default-second first).In-Whole-2) _ (turned_back_lem due.Slice _ c.read-second.ensures c.in_default-second.is c.number-in_default-second.ensures)) in
+    let a = (call (goal.at.returns-in_default-second first).In-Whole).args in
+    let told = with-guarantee a.plan.now a.slice.now a.start.now a.criterion.now (λ i. omega (arith, (known (goal.at.returns-in_default-second first).In-Whole).type_inv.plan i))
+    (slice-stops _ _ _ _ _ (plan_at (goal.at.returns-in_default-second first).In-Whole) _ (turned_back_lem due.Slice _ c.read-second.ensures c.in_default-second.is c.number-in_default-second.ensures)) in
     record { answer = told.0; guarantee = told.1 }
 
 pub refusal-broken-requires : goal.refusal-broken-requires
-refusal-broken-requires c = (plan_at (plan_of (goal.at.refusal-broken-requires c).In-Whole-second-2)).good.placed
+refusal-broken-requires c = (plan_at (plan_of c)).good.placed
 
 pub returns-then-broken-ne0 : goal.returns-then-broken-ne0
 returns-then-broken-ne0 c =

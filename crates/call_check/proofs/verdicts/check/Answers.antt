@@ -5,21 +5,21 @@ use Rattle.file.proofs.Opening.{opened, turned_back_lem}
 use Rattle.promise.proofs.Demands.{when_accepted}
 use Rattle.call_check.proofs.Checks.{plan_turned, slice-turned, criterion-turned, slice-kind, judged}
 use Rattle.call_check.proofs.verdicts.check.Goals as goal
-use Rattle.call_check.proofs.verdicts.check.Goals.{In-Whole-2, In-Whole-second-2, Start}
+use Rattle.call_check.proofs.verdicts.check.Goals.{In-Whole, In-Whole-second, Start}
 
 -- ---- the states: the plan whole, then the slice
 
-abbrev call : In-Whole-2 → Start
-call c = (goal.at.In-Whole-2 c).Start
+abbrev call : In-Whole → Start
+call c = (goal.at.In-Whole c).Start
 
-abbrev plan_of : In-Whole-second-2 → In-Whole-2
-plan_of c = (goal.at.In-Whole-second-2 c).In-Whole-2
+abbrev plan_of : In-Whole-second → In-Whole
+plan_of c = (goal.at.In-Whole-second c).In-Whole
 
 -- what is known of the two files from here on
-plan_at : (c : In-Whole-2) → Opened due.Plan (call c).args.plan.now c.in-Whole.p
+plan_at : (c : In-Whole) → Opened due.Plan (call c).args.plan.now c.in-Whole.p
 plan_at c = opened due.Plan _ c.read-first.ensures c.in-Whole.is
 
-slice_at : (c : In-Whole-second-2) → Opened due.Slice (call (plan_of c)).args.slice.now c.in-Whole-second.s
+slice_at : (c : In-Whole-second) → Opened due.Slice (call (plan_of c)).args.slice.now c.in-Whole-second.s
 slice_at c = opened due.Slice _ c.read-second.ensures c.in-Whole-second.is
 
 pub returns-in_default : goal.returns-in_default
@@ -29,25 +29,25 @@ returns-in_default c =
 
 pub returns-in_default-second : goal.returns-in_default-second
 returns-in_default-second c =
-    let e = slice-turned _ _ _ _ (plan_at (goal.at.returns-in_default-second c).In-Whole-2) _ (turned_back_lem due.Slice _ c.read-second.ensures c.in_default-second.is c.number-in_default-second.ensures) in
+    let e = slice-turned _ _ _ _ (plan_at (goal.at.returns-in_default-second c).In-Whole) _ (turned_back_lem due.Slice _ c.read-second.ensures c.in_default-second.is c.number-in_default-second.ensures) in
     record { answer = e; guarantee = when_accepted _ _ _ e }
 
 pub returns-then-broken-ne0 : goal.returns-then-broken-ne0
 returns-then-broken-ne0 c =
     let second = c in
-    let e = criterion-turned _ _ _ _ (plan_at (plan_of (goal.at.returns-then-broken-ne0 second).In-Whole-second-2)) _ (slice_at (goal.at.returns-then-broken-ne0 second).In-Whole-second-2) _ c.refusal-broken.ensures c.if-broken-ne0.true in
+    let e = criterion-turned _ _ _ _ (plan_at (plan_of (goal.at.returns-then-broken-ne0 second).In-Whole-second)) _ (slice_at (goal.at.returns-then-broken-ne0 second).In-Whole-second) _ c.refusal-broken.ensures c.if-broken-ne0.true in
     record { answer = e; guarantee = when_accepted _ _ _ e }
 
 pub judge-requires : goal.judge-requires
 judge-requires c =
     let second = c in
-    let p = plan_at (plan_of (goal.at.judge-requires second).In-Whole-second-2) in
-    let s = slice_at (goal.at.judge-requires second).In-Whole-second-2 in
+    let p = plan_at (plan_of (goal.at.judge-requires second).In-Whole-second) in
+    let s = slice_at (goal.at.judge-requires second).In-Whole-second in
     record { planned = p.good; sliced = s.good; kind = slice-kind _ _ [] _ p _ s; criterion = sym c.refusal-broken.ensures ∙ c.if-broken-ne0.false }
 
 pub returns : goal.returns
 returns c =
     let passed = c in
     let second = passed in
-    let e = c.judge.ensures ∙ judged _ _ _ _ (plan_at (plan_of (goal.at.returns second).In-Whole-second-2)) _ (slice_at (goal.at.returns second).In-Whole-second-2) (sym passed.refusal-broken.ensures ∙ passed.if-broken-ne0.false) in
+    let e = c.judge.ensures ∙ judged _ _ _ _ (plan_at (plan_of (goal.at.returns second).In-Whole-second)) _ (slice_at (goal.at.returns second).In-Whole-second) (sym passed.refusal-broken.ensures ∙ passed.if-broken-ne0.false) in
     record { answer = e; guarantee = when_accepted _ _ _ e }

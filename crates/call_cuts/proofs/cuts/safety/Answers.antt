@@ -6,7 +6,7 @@ use Rattle.file_header.specs.declared.Due.TheVariants as due
 use Rattle.file.proofs.Opening.{opened, turned_back_lem}
 use Rattle.call_cuts.proofs.Cutting.{by_file, by_criterion, safety-refused, safety-untouched, safety-within, safety-written, safety-all}
 use Rattle.call_cuts.proofs.cuts.safety.Goals as goal
-use Rattle.call_cuts.proofs.cuts.safety.Goals.{After-kept-kept, After-read-whole, After-refusal-broken, After-shared_slice_known-1, After-write-arg-3-1, Else-broken-ne0, In-Whole-2, Start}
+use Rattle.call_cuts.proofs.cuts.safety.Goals.{After-kept-kept, After-read-whole, After-refusal-broken, After-shared_slice_known-1, After-write-arg-3-1, Else-broken-ne0, In-Whole, Start}
 
 -- ---- the states: the plan read, found whole, its criterion judged, the sets kept
 
@@ -14,19 +14,19 @@ abbrev bytes_of : After-read-whole → After-shared_slice_known-1
 bytes_of c = (goal.at.After-read-whole c).After-shared_slice_known-1
 
 abbrev call : After-read-whole → Start
-call c = (bytes_of c).before
+call c = (bytes_of c)
 
-abbrev read_of : In-Whole-2 → After-read-whole
-read_of c = (goal.at.In-Whole-2 c).After-read-whole
+abbrev read_of : In-Whole → After-read-whole
+read_of c = (goal.at.In-Whole c).After-read-whole
 
-abbrev whole_of : After-refusal-broken → In-Whole-2
-whole_of c = (goal.at.After-refusal-broken c).In-Whole-2
+abbrev whole_of : After-refusal-broken → In-Whole
+whole_of c = (goal.at.After-refusal-broken c).In-Whole
 
 abbrev kept_of : After-write-arg-3-1 → After-kept-kept
 kept_of c = (goal.at.After-write-arg-3-1 c).After-kept-kept
 
 -- what is known of the plan from here on, and of the criterion
-open_at : (c : In-Whole-2) → Opened due.Plan (call (read_of c)).args.plan.now c.in-Whole.h
+open_at : (c : In-Whole) → Opened due.Plan (call (read_of c)).args.plan.now c.in-Whole.h
 open_at c = opened due.Plan _ (read_of c).read-whole.ensures c.in-Whole.is
 
 passes : (c : Else-broken-ne0) → let w = whole_of (goal.at.Else-broken-ne0 c).After-refusal-broken in criterion_refusal w.in-Whole.h.places (call (read_of w)).args.criterion.now ≡ 0

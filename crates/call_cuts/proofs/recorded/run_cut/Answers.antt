@@ -9,7 +9,7 @@ use Rattle.file_header.specs.declared.Due.TheVariants as due
 use Rattle.file.proofs.Opening.{opened, turned_back_lem}
 use Rattle.call_cuts.proofs.Running.{by_file, by_caps, by_criterion, run-refused, run-passed, run-all}
 use Rattle.call_cuts.proofs.recorded.run_cut.Goals as goal
-use Rattle.call_cuts.proofs.recorded.run_cut.Goals.{After-has_caps, After-read-whole, After-refusal-broken, After-shared_slice_known-1, Else-broken-ne0, Else-has_caps, In-Whole-2, Start}
+use Rattle.call_cuts.proofs.recorded.run_cut.Goals.{After-has_caps, After-read-whole, After-refusal-broken, After-shared_slice_known-1, Else-broken-ne0, Else-has_caps, In-Whole, Start}
 
 -- ---- the states: the plan read, found whole, found without caps, its criterion judged
 
@@ -17,19 +17,19 @@ abbrev bytes_of : After-read-whole → After-shared_slice_known-1
 bytes_of c = (goal.at.After-read-whole c).After-shared_slice_known-1
 
 abbrev call : After-read-whole → Start
-call c = (bytes_of c).before
+call c = (bytes_of c)
 
-abbrev read_of : In-Whole-2 → After-read-whole
-read_of c = (goal.at.In-Whole-2 c).After-read-whole
+abbrev read_of : In-Whole → After-read-whole
+read_of c = (goal.at.In-Whole c).After-read-whole
 
-abbrev whole_of : After-has_caps → In-Whole-2
-whole_of c = (goal.at.After-has_caps c).In-Whole-2
+abbrev whole_of : After-has_caps → In-Whole
+whole_of c = (goal.at.After-has_caps c).In-Whole
 
 abbrev caps_of : After-refusal-broken → After-has_caps
 caps_of c = (goal.at.After-refusal-broken c).After-has_caps
 
 -- what is known of the plan from here on, of its caps, and of the criterion
-open_at : (c : In-Whole-2) → Opened due.Plan (call (read_of c)).args.plan.now c.in-Whole.h
+open_at : (c : In-Whole) → Opened due.Plan (call (read_of c)).args.plan.now c.in-Whole.h
 open_at c = opened due.Plan _ (read_of c).read-whole.ensures c.in-Whole.is
 
 none_capped : (c : Else-has_caps) → let w = whole_of (goal.at.Else-has_caps c).After-has_caps in has_caps (net_from (call (read_of w)).args.plan.now w.in-Whole.h) ≡ false
@@ -48,7 +48,7 @@ returns-in_default c =
     record { answer = told.0; buffer = told.1.0; positions = told.1.1.0; feeds = told.1.1.1 }
 
 pub has_caps-requires : goal.has_caps-requires
-has_caps-requires c = (open_at (goal.at.has_caps-requires c).In-Whole-2).good.placed
+has_caps-requires c = (open_at c).good.placed
 
 pub returns-then-has_caps : goal.returns-then-has_caps
 returns-then-has_caps c =

@@ -10,21 +10,21 @@ use Rattle.inputs_starts.proofs.Calls.{opened-from, by_file, by_start}
 use Rattle.call_cuts.proofs.Cutting.{by_criterion}
 use Rattle.call_cuts.proofs.Starting.{kind-refused, kind-written, from-refused, from_on}
 use Rattle.call_cuts.proofs.starts.cut_from.Goals as goal
-use Rattle.call_cuts.proofs.starts.cut_from.Goals.{After-read-whole, After-refusal-broken, Else-broken-ne0, Else-misplaced-ne0, In-Whole-2, Start}
+use Rattle.call_cuts.proofs.starts.cut_from.Goals.{After-read-whole, After-refusal-broken, Else-broken-ne0, Else-misplaced-ne0, In-Whole, Start}
 
 -- ---- the states: the plan whole, the start passed
 
 abbrev call : After-read-whole → Start
 call c = (goal.at.After-read-whole c).Start
 
-abbrev whole_of : After-refusal-broken → In-Whole-2
-whole_of c = (goal.at.After-refusal-broken c).In-Whole-2
+abbrev whole_of : After-refusal-broken → In-Whole
+whole_of c = (goal.at.After-refusal-broken c).In-Whole
 
-abbrev read_of : In-Whole-2 → After-read-whole
-read_of c = (goal.at.In-Whole-2 c).After-read-whole
+abbrev read_of : In-Whole → After-read-whole
+read_of c = (goal.at.In-Whole c).After-read-whole
 
 -- what is known of the plan from here on, and of the start
-open_at : (c : In-Whole-2) → Opened due.Plan (call (read_of c)).args.plan.now c.in-Whole.h
+open_at : (c : In-Whole) → Opened due.Plan (call (read_of c)).args.plan.now c.in-Whole.h
 open_at c = opened due.Plan _ (read_of c).read-whole.ensures c.in-Whole.is
 
 ready : (c : Else-broken-ne0) → let w = whole_of (goal.at.Else-broken-ne0 c).After-refusal-broken in Startable due.Plan (call (read_of w)).args.plan.now w.in-Whole.h (call (read_of w)).args.start.now
@@ -39,7 +39,7 @@ returns-in_default c =
     record { result_value = told.0; buffer_after = told.1 }
 
 pub refusal-broken-requires : goal.refusal-broken-requires
-refusal-broken-requires c = (open_at (goal.at.refusal-broken-requires c).In-Whole-2).good.placed
+refusal-broken-requires c = (open_at c).good.placed
 
 pub returns-then-broken-ne0 : goal.returns-then-broken-ne0
 returns-then-broken-ne0 c =

@@ -3,13 +3,13 @@ use Rattle.file_header.specs.declared.Due.TheVariants.{Plan}
 use Rattle.file.proofs.Opening.{opened, turned_back_lem}
 use Rattle.call_firing.proofs.Ranged.{file-refused, answered}
 use Rattle.call_firing.proofs.ranges.range.Goals as goal
-use Rattle.call_firing.proofs.ranges.range.Goals.{In-Whole-2, Start}
+use Rattle.call_firing.proofs.ranges.range.Goals.{In-Whole, Start}
 
-abbrev call : In-Whole-2 → Start
-call c = (goal.at.In-Whole-2 c).Start
+abbrev call : In-Whole → Start
+call c = (goal.at.In-Whole c).Start
 
 -- what is known of the plan from here on
-open_at : (c : In-Whole-2) → Opened Plan (call c).args.plan.now c.in-Whole.h
+open_at : (c : In-Whole) → Opened Plan (call c).args.plan.now c.in-Whole.h
 open_at c = opened Plan _ c.read-whole.ensures c.in-Whole.is
 
 pub returns-in_default : goal.returns-in_default
@@ -20,12 +20,12 @@ returns-in_default c =
     record { answer = told.0; need = told.1.0; range = told.1.1 }
 
 pub extent-requires : goal.extent-requires
-extent-requires c = (open_at (goal.at.extent-requires c).In-Whole-2).good
+extent-requires c = (open_at (goal.at.extent-requires c).In-Whole).good
 
 pub returns : goal.returns
 returns c =
     let done = c in
     let w = done in
-    let s = (call (goal.at.returns w).In-Whole-2).args in
-    let told = answered s.plan.now s.list.now s.upper.now s.need.now _ (open_at (goal.at.returns w).In-Whole-2) _ _ done.extent.ensures.answer done.extent.ensures.need in
+    let s = (call (goal.at.returns w).In-Whole).args in
+    let told = answered s.plan.now s.list.now s.upper.now s.need.now _ (open_at (goal.at.returns w).In-Whole) _ _ done.extent.ensures.answer done.extent.ensures.need in
     record { answer = told.0; need = told.1.0; range = told.1.1 }

@@ -3,10 +3,10 @@ use Rattle.file_header.specs.declared.Due.TheVariants.{Either}
 use Rattle.file.proofs.Opening.{opened, turned_back_lem}
 use Rattle.call_firing.proofs.Replayed.{file-answer, file-marking, read_answer, read-marking}
 use Rattle.call_firing.proofs.replays.replay.Goals as goal
-use Rattle.call_firing.proofs.replays.replay.Goals.{In-Whole-2}
+use Rattle.call_firing.proofs.replays.replay.Goals.{In-Whole}
 
 -- what is known of the file from here on
-open_at : (c : In-Whole-2) → Opened Either c.args.file.now c.in-Whole.h
+open_at : (c : In-Whole) → Opened Either c.args.file.now c.in-Whole.h
 open_at c = opened Either _ c.read-whole.ensures c.in-Whole.is
 
 pub returns-in_default : goal.returns-in_default
@@ -15,9 +15,9 @@ returns-in_default c =
     record { answer = file-answer _ _ _ a _; marking = file-marking _ _ _ a _ }
 
 pub replay-requires : goal.replay-requires
-replay-requires c = (open_at (goal.at.replay-requires c).In-Whole-2).good
+replay-requires c = (open_at (goal.at.replay-requires c).In-Whole).good
 
 pub returns : goal.returns
 returns c =
-    let o = open_at (goal.at.returns c).In-Whole-2 in
+    let o = open_at (goal.at.returns c).In-Whole in
     record { answer = read_answer _ _ o _ _ _ c.replay.ensures.answer; marking = read-marking _ _ o _ _ _ c.replay.ensures.marking }

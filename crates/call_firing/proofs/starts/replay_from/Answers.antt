@@ -8,18 +8,18 @@ use Rattle.inputs_starts.proofs.Calls.{opened-from, by_file, by_start}
 use Rattle.call_firing.proofs.Replayed.{read_answer, read-marking}
 use Rattle.call_firing.proofs.Begun.{from-answer, from-marking, on_answer, on_marking}
 use Rattle.call_firing.proofs.starts.replay_from.Goals as goal
-use Rattle.call_firing.proofs.starts.replay_from.Goals.{After-refusal-broken, Else-broken-ne0, In-Whole-2, Start}
+use Rattle.call_firing.proofs.starts.replay_from.Goals.{After-refusal-broken, Else-broken-ne0, In-Whole, Start}
 
 -- ---- the states: the file whole, the start passed
 
-abbrev call : In-Whole-2 → Start
-call c = (goal.at.In-Whole-2 c).Start
+abbrev call : In-Whole → Start
+call c = (goal.at.In-Whole c).Start
 
-abbrev whole_of : After-refusal-broken → In-Whole-2
-whole_of c = (goal.at.After-refusal-broken c).In-Whole-2
+abbrev whole_of : After-refusal-broken → In-Whole
+whole_of c = (goal.at.After-refusal-broken c).In-Whole
 
 -- what is known of the file from here on, and of the start
-open_at : (c : In-Whole-2) → Opened Either (call c).args.file.now c.in-Whole.h
+open_at : (c : In-Whole) → Opened Either (call c).args.file.now c.in-Whole.h
 open_at c = opened Either _ c.read-whole.ensures c.in-Whole.is
 
 ready : (c : Else-broken-ne0) → let w = whole_of (goal.at.Else-broken-ne0 c).After-refusal-broken in Startable Either (call w).args.file.now w.in-Whole.h (call w).args.start.now
@@ -33,7 +33,7 @@ returns-in_default c =
     record { answer = from-answer _ _ _ e t.1 _; marking = from-marking _ _ _ e t.1 _ }
 
 pub refusal-broken-requires : goal.refusal-broken-requires
-refusal-broken-requires c = (open_at (goal.at.refusal-broken-requires c).In-Whole-2).good.placed
+refusal-broken-requires c = (open_at c).good.placed
 
 pub returns-then-broken-ne0 : goal.returns-then-broken-ne0
 returns-then-broken-ne0 c =

@@ -3,13 +3,13 @@ use Rattle.file_header.specs.declared.Due.TheVariants.{Plan}
 use Rattle.file.proofs.Opening.{opened, turned_back_lem}
 use Rattle.call_firing.proofs.Taken.{file-refused, answered}
 use Rattle.call_firing.proofs.takings.together.Goals as goal
-use Rattle.call_firing.proofs.takings.together.Goals.{In-Whole-2, Start}
+use Rattle.call_firing.proofs.takings.together.Goals.{In-Whole, Start}
 
-abbrev call : In-Whole-2 → Start
-call c = (goal.at.In-Whole-2 c).Start
+abbrev call : In-Whole → Start
+call c = (goal.at.In-Whole c).Start
 
 -- what is known of the plan from here on
-open_at : (c : In-Whole-2) → Opened Plan (call c).args.plan.now c.in-Whole.h
+open_at : (c : In-Whole) → Opened Plan (call c).args.plan.now c.in-Whole.h
 open_at c = opened Plan _ c.read-whole.ensures c.in-Whole.is
 
 pub returns-in_default : goal.returns-in_default
@@ -20,12 +20,12 @@ returns-in_default c =
     record { answer = told.0; rest = told.1.0; largest = told.1.1 }
 
 pub takings-requires : goal.takings-requires
-takings-requires c = (open_at (goal.at.takings-requires c).In-Whole-2).good
+takings-requires c = (open_at (goal.at.takings-requires c).In-Whole).good
 
 pub returns : goal.returns
 returns c =
     let taken = c in
     let w = taken in
-    let s = (call (goal.at.returns w).In-Whole-2).args in
-    let told = answered s.plan.now s.transition s.marking.now s.rest.now _ (open_at (goal.at.returns w).In-Whole-2) _ _ taken.takings.ensures.answer taken.takings.ensures.rest in
+    let s = (call (goal.at.returns w).In-Whole).args in
+    let told = answered s.plan.now s.transition s.marking.now s.rest.now _ (open_at (goal.at.returns w).In-Whole) _ _ taken.takings.ensures.answer taken.takings.ensures.rest in
     record { answer = told.0; rest = told.1.0; largest = told.1.1 }

@@ -4,7 +4,7 @@ use Rattle.file_header.specs.declared.Due.TheVariants as due
 use Rattle.file.proofs.Opening.{opened, turned_back_lem}
 use Rattle.call_plans.proofs.Answering.{by_file, by_writing, all_three}
 use Rattle.call_plans.proofs.forms.normal.Goals as goal
-use Rattle.call_plans.proofs.forms.normal.Goals.{After-read-whole, After-shared_slice_known-1, In-Whole-2, Start}
+use Rattle.call_plans.proofs.forms.normal.Goals.{After-read-whole, After-shared_slice_known-1, In-Whole, Start}
 
 -- ---- the states: the plan read, found whole
 
@@ -12,13 +12,13 @@ abbrev bytes_of : After-read-whole → After-shared_slice_known-1
 bytes_of c = (goal.at.After-read-whole c).After-shared_slice_known-1
 
 abbrev call : After-read-whole → Start
-call c = (bytes_of c).before
+call c = (bytes_of c)
 
-abbrev read_of : In-Whole-2 → After-read-whole
-read_of c = (goal.at.In-Whole-2 c).After-read-whole
+abbrev read_of : In-Whole → After-read-whole
+read_of c = (goal.at.In-Whole c).After-read-whole
 
 -- what is known of the plan from here on
-open_at : (c : In-Whole-2) → Opened due.Plan (call (read_of c)).args.plan.now c.in-Whole.h
+open_at : (c : In-Whole) → Opened due.Plan (call (read_of c)).args.plan.now c.in-Whole.h
 open_at c = opened due.Plan _ (read_of c).read-whole.ensures c.in-Whole.is
 
 pub returns-in_default : goal.returns-in_default
@@ -30,14 +30,14 @@ returns-in_default c =
     record { answer = told.0; buffer = told.1.0; form = told.1.1 }
 
 pub write-requires : goal.write-requires
-write-requires c = (open_at (goal.at.write-requires c).In-Whole-2).good
+write-requires c = (open_at (goal.at.write-requires c).In-Whole).good
 
 pub returns : goal.returns
 returns c =
     let written = c in
     let whole = written in
-    let read = read_of (goal.at.returns whole).In-Whole-2 in
+    let read = read_of (goal.at.returns whole).In-Whole in
     let s = call read in
     let told = all_three s.args.plan.now s.args.buffer.now (λ i. omega (arith, (bytes_of read).type_inv.plan i))
-    (by_writing _ _ _ written.write.result (open_at (goal.at.returns whole).In-Whole-2) written.write.ensures.answer written.write.ensures.buffer) in
+    (by_writing _ _ _ written.write.result (open_at (goal.at.returns whole).In-Whole) written.write.ensures.answer written.write.ensures.buffer) in
     record { answer = told.0; buffer = told.1.0; form = told.1.1 }

@@ -21,5 +21,5 @@ pub returns : goal.returns
 returns c =
     let again = c in
     let plan = replayed (goal.at.returns again).After-all_fired in
-    let check = (coded plan).before in
+    let check = (coded plan) in
     on_slice _ _ _ _ _ _ _ _ _ check.check-v.ensures.answer check.check-v.ensures.guarantee plan.replay-o.ensures.marking again.replay.ensures.answer again.replay.ensures.marking

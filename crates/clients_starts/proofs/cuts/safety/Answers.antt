@@ -4,7 +4,7 @@ use lib.ListN.{length}
 use lib.Seq.{length-take-le}
 use Rattle.clients_starts.proofs.Accepting.{safety-refused, safety-room, safety-accepted}
 use Rattle.clients_starts.proofs.cuts.safety.Goals as goal
-use Rattle.clients_starts.proofs.cuts.safety.Goals.{After-safety_from-done, After-slice_known-2-1, In-Written, In-Written-2, Start}
+use Rattle.clients_starts.proofs.cuts.safety.Goals.{After-safety_from-done, After-slice_known-2-1, In-Written, Start}
 
 -- ---- the states: cut, the answer told, checked
 
@@ -14,14 +14,14 @@ cut_of c = (goal.at.After-slice_known-2-1 c).After-safety_from-done
 abbrev call : After-safety_from-done → Start
 call c = (goal.at.After-safety_from-done c).Start
 
-abbrev told : In-Written → In-Written-2
-told c = (goal.at.In-Written c).In-Written-2
+abbrev told : In-Written → In-Written
+told c = c
 
-abbrev cut_at : In-Written-2 → After-safety_from-done
-cut_at c = cut_of (goal.at.In-Written-2 c).After-slice_known-2-1
+abbrev cut_at : In-Written → After-safety_from-done
+cut_at c = cut_of (goal.at.In-Written c).After-slice_known-2-1
 
 -- what was written is a part of the buffer
-room : (c : In-Written-2) → c.in-Written.n ≤ length (cut_of (goal.at.In-Written-2 c).After-slice_known-2-1).safety_from-done.new.buffer
+room : (c : In-Written) → c.in-Written.n ≤ length (cut_of (goal.at.In-Written c).After-slice_known-2-1).safety_from-done.new.buffer
 room c =
     let done = cut_at c in
     let s = (call done).args in

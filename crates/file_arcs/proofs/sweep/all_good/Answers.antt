@@ -26,12 +26,12 @@ end_of c = (goal.at.Else-not-fit-2 c).At-loop-at
 fits_both : (c : Else-not-fit) → let s = call (goal.at.In-loop-at (turn_of c)).At-loop-at in let w = c in
     FitIn s.args.places s.args.transitions w.word-w.result × FitIn s.args.places s.args.transitions w.word-v.result
 fits_both c =
-    let t = (turn_of c).before in
+    let t = (turn_of c) in
     let s = call (goal.at.In-loop-at t).At-loop-at in
     let w = c in
     let first = w.word-w in
     let second = w.word-v in
-    both_fit_lem s.args.places s.args.transitions first.result second.result s.requires.places_bound.0 s.requires.places_bound.1 first.type-inv second.type-inv
+    both_fit_lem s.args.places s.args.transitions first.result second.result s.requires.places_bound.0 s.requires.places_bound.1 first.type_inv second.type_inv
     (ap (λ (x : ℕ). both_fit x first.result second.result) (sym t.room-room.ensures) ∙ sym c.fit.ensures ∙ not-false _ c.if-not-fit.false-raw)
 
 -- the arc that is left over
@@ -40,7 +40,7 @@ fits_last c =
     let t = end_of c in
     let s = call t in
     let last = c.word-w-2 in
-    (both_fit_lem s.args.places s.args.transitions last.result last.result s.requires.places_bound.0 s.requires.places_bound.1 last.type-inv last.type-inv
+    (both_fit_lem s.args.places s.args.transitions last.result last.result s.requires.places_bound.0 s.requires.places_bound.1 last.type_inv last.type_inv
     (ap (λ (x : ℕ). both_fit x last.result last.result) (sym t.room-room.ensures) ∙ sym c.fit-2.ensures ∙ not-false _ c.if-not-fit-2.false-raw)).0
 
 -- a pair in hand, and the arc that is left over, lie in the file

@@ -5,4 +5,4 @@ use Rattle.nesfoal.proofs.effects.nesfoal_effect.Goals as goal
 
 pub returns : goal.returns
 returns c =
-    record { answer = c.refusal.ensures ∙ ap (λ (x : EffectAnswer). x.refusal) c.effect-c.ensures; effect = to_z-of_z (record { sfits = c.value.type-inv }) ∙ c.value.ensures ∙ ap (λ (x : EffectAnswer). x.effect) c.effect-c.ensures }
+    record { answer = c.refusal.ensures ∙ ap (λ (x : EffectAnswer). x.refusal) c.effect-c.ensures; effect = to_z-of_z (record { sfits = c.value.type_inv }) ∙ c.value.ensures ∙ ap (λ (x : EffectAnswer). x.effect) c.effect-c.ensures }

@@ -17,7 +17,7 @@ kept-kept-requires c =
 pub write-requires : goal.write-requires
 write-requires c =
     let sets = c in
-    let s = (known (goal.at.write-requires sets).After-kept-kept).before in
+    let s = (known (goal.at.write-requires sets).After-kept-kept) in
     record { sound = s.requires.startable.opened.good; start_len = entries s.requires.startable; within = within s.args.kind _ _ _ _ sets.kept-kept.ensures }
 
 pub returns : goal.returns

@@ -27,7 +27,7 @@ returns-then-list-done c =
 pub replay_rest-requires : goal.replay_rest-requires
 replay_rest-requires c =
     let begin = c in
-    let s = (known (goal.at.replay_rest-requires begin).After-begin-done).before in
+    let s = (known (goal.at.replay_rest-requires begin).After-begin-done) in
     let u = begin.begin-done.ensures in
     record { sound = s.requires.startable.opened.good; marking_len = u.long ∙ entries s.requires.startable; going = going_from u }
 

@@ -26,7 +26,7 @@ abbrev read_of : After-alike → After-get16-origin
 read_of c = (goal.at.After-alike c).After-get16-origin
 
 -- the origin that was read, and that the plan knows it
-origin_is : (c : After-get16-origin) → let t = (turn_of c).before in let a = (call (goal.at.In-loop-i t).At-loop-i).args in c.get16-origin.result ≡ get_or (slice_from a.slice.now a.hs).place_origins t.loop-i.i 0
+origin_is : (c : After-get16-origin) → let t = (turn_of c) in let a = (call (goal.at.In-loop-i t).At-loop-i).args in c.get16-origin.result ≡ get_or (slice_from a.slice.now a.hs).place_origins t.loop-i.i 0
 origin_is c =
     let t = turn_of c in
     let a = (call (goal.at.In-loop-i t).At-loop-i).args in
@@ -41,10 +41,10 @@ known c =
     omega (arith, origin_is c, (call (goal.at.In-loop-i t).At-loop-i).requires.known.at t.loop-i.i (inside t))
 
 -- what the comparison says of the slice's place and its origin
-compared : (c : After-alike) → let t = (turn_of (read_of c)).before in let a = (call (goal.at.In-loop-i t).At-loop-i).args in
+compared : (c : After-alike) → let t = (turn_of (read_of c)) in let a = (call (goal.at.In-loop-i t).At-loop-i).args in
     c.alike.result ≡ same_at (starting_at (standing a.start.now) (net_from a.plan.now a.hp)) (net_from a.slice.now a.hs) t.loop-i.i (get_or (slice_from a.slice.now a.hs).place_origins t.loop-i.i 0)
 compared c =
-    let t = (turn_of (read_of c)).before in
+    let t = (turn_of (read_of c)) in
     let a = (call (goal.at.In-loop-i t).At-loop-i).args in
     c.alike.ensures ∙ ap (λ (p : ℕ). same_at (starting_at (standing a.start.now) (net_from a.plan.now a.hp)) (net_from a.slice.now a.hs) t.loop-i.i p) (origin_is (read_of c))
 
