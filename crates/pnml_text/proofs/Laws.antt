@@ -57,6 +57,7 @@ but : (t u v : Bool) → T (t || u || v) → u ≡ false → v ≡ false → T t
 but true u v t e f = tt
 but false true v t e f = let z : ◌≡◌ {A = ℕ} 0 1 = cc in absurd (omega arith)
 but false false true t e f = let z : ◌≡◌ {A = ℕ} 0 1 = cc in absurd (omega arith)
+but false false false t e f = elim t [ ]
 
 pub kind-from : (k : Kind) (lo n x y : ℕ) → T (each (kinds k x y) lo n) → (b : ℕ) → lo ≤ b → b < lo + n → (b ≡ x → ⊥) → (b ≡ y → ⊥)
     → k ≡ Characters.kind_of b

@@ -48,7 +48,7 @@ pub loop-i-preserved : goal.loop-i-preserved
 loop-i-preserved c =
     let t = c in
     let less = c.wrapping_sub_u16 in
-    written_next t.loop-i.invariant t.loop-i-test.true less.type_inv less.ensures c.share-n.ensures
+    written_next t.loop-i.invariant t.loop-i-test.true less.type_inv less.ensures.value c.share-n.ensures
 
 pub shape_of-out : goal.shape_of-out
 shape_of-out c = c.loop-i.invariant.long

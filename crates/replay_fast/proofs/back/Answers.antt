@@ -64,7 +64,7 @@ loop-j-preserved c =
       omega (arith, l),
       λ h can mv.
           let in_table : j < h.arcs = omega (arith, l, can.within) in
-          back_more can j l (change-is mv in_table y) (at.invariant.1 h can mv) (placed.entry-p.ensures.0 ∙ mv.place j in_table) c.wrapping_sub_u64.result (omega arith) c.wrapping_sub_u64.ensures,
+          back_more can j l (change-is mv in_table y) (at.invariant.1 h can mv) (placed.entry-p.ensures.0 ∙ mv.place j in_table) c.wrapping_sub_u64.result (omega arith) c.wrapping_sub_u64.ensures.value,
     )
 
 pub shape_of-marking : goal.shape_of-marking

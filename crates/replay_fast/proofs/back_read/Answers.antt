@@ -68,7 +68,7 @@ loop-j-preserved c =
     let arc = read.arc-a.ensures.0 in
     let y = read-change can at.j l arc c.added-c.ensures in
     let place = ap (λ (a : Arc). a.place) arc in
-    (omega (arith, l), back_more can at.j l y at.invariant.1 place c.wrapping_sub_u64-value.result (omega arith) c.wrapping_sub_u64-value.ensures)
+    (omega (arith, l), back_more can at.j l y at.invariant.1 place c.wrapping_sub_u64-value.result (omega arith) c.wrapping_sub_u64-value.ensures.value)
 
 pub shape_of-marking : goal.shape_of-marking
 shape_of-marking c = c.loop-j.invariant.1.moved.long

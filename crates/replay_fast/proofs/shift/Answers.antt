@@ -72,7 +72,7 @@ moved_on c h can mv =
     let at = (turn c).loop-j in
     let l = placed.loop-j-test.true in
     let in_table : at.j < h.arcs = omega (arith, l, can.within) in
-    shifting_more can at.j l (at.invariant.1 h can mv) (change-is mv in_table (signed_of c).signed-c.ensures) (placed.entry-p.ensures.0 ∙ mv.place at.j in_table) c.wrapping_add_u64-value.result (omega arith) c.wrapping_add_u64-value.ensures
+    shifting_more can at.j l (at.invariant.1 h can mv) (change-is mv in_table (signed_of c).signed-c.ensures) (placed.entry-p.ensures.0 ∙ mv.place at.j in_table) c.wrapping_add_u64-value.result (omega arith) c.wrapping_add_u64-value.ensures.value
 
 -- ---- an arc that leaves a place short
 

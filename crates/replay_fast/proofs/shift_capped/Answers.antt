@@ -95,7 +95,7 @@ loop-j-preserved c =
     let l = t.loop-j-test.true in
     let in_table : at.j < s.args.h.arcs = omega (arith, l, can.within) in
     let v = sum.wrapping_add_u64-value.result in
-    let shifted = shifting_more can at.j l at.invariant.1 (change-is s.requires.moves_of in_table (signed_of (goal.at.loop-j-preserved sum).After-wrapping_add_u64-value).signed-c.ensures) (is_place placed) v (omega arith) sum.wrapping_add_u64-value.ensures in (
+    let shifted = shifting_more can at.j l at.invariant.1 (change-is s.requires.moves_of in_table (signed_of (goal.at.loop-j-preserved sum).After-wrapping_add_u64-value).signed-c.ensures) (is_place placed) v (omega arith) sum.wrapping_add_u64-value.ensures.value in (
       omega (arith, l),
       shifting_over shifted c.excess-over.result,
       λ n.

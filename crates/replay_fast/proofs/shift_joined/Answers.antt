@@ -122,7 +122,7 @@ loop-j-preserved c =
       omega (arith, l),
       λ h can mv.
           let in_table : j < h.arcs = omega (arith, l, can.within) in
-          holding_more can l (hand.1 h can mv) (change-is mv in_table c.signed-c.ensures) (hand.0 ∙ e.entry-q.ensures.0 ∙ mv.place j in_table) c.wrapping_add_u64-value.result (omega arith) c.wrapping_add_u64-value.ensures,
+          holding_more can l (hand.1 h can mv) (change-is mv in_table c.signed-c.ensures) (hand.0 ∙ e.entry-q.ensures.0 ∙ mv.place j in_table) c.wrapping_add_u64-value.result (omega arith) c.wrapping_add_u64-value.ensures.value,
     )
 
 -- ---- the last place

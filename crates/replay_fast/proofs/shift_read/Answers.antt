@@ -89,7 +89,7 @@ loop-j-preserved c =
     let t = read in
     let at = t.loop-j in
     let l = t.loop-j-test.true in
-    (omega (arith, l), shifting_takes (call (goal.at.loop-j-preserved t).At-loop-j).requires at.j l at.invariant.1 read.arc-a.ensures.0 input.if-a-ne0.false c.wrapping_sub_u64-value.result (omega arith) c.wrapping_sub_u64-value.ensures)
+    (omega (arith, l), shifting_takes (call (goal.at.loop-j-preserved t).At-loop-j).requires at.j l at.invariant.1 read.arc-a.ensures.0 input.if-a-ne0.false c.wrapping_sub_u64-value.result (omega arith) c.wrapping_sub_u64-value.ensures.value)
 
 -- ---- the outputs
 
@@ -126,7 +126,7 @@ loop-j-2-preserved c =
     let inv = at.invariant in (
       omega (arith, inv.0),
       omega (arith, l),
-      λ h was q can out x. shifting_gives_at q can at.j l (inv.2 h was q can out x) read.arc-a-in-loop-j-2.ensures.0 (out at.j inv.0 l) c.wrapping_add_u64-value.result (omega arith) c.wrapping_add_u64-value.ensures,
+      λ h was q can out x. shifting_gives_at q can at.j l (inv.2 h was q can out x) read.arc-a-in-loop-j-2.ensures.0 (out at.j inv.0 l) c.wrapping_add_u64-value.result (omega arith) c.wrapping_add_u64-value.ensures.value,
     )
 
 pub shape_of-marking : goal.shape_of-marking

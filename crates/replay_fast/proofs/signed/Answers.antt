@@ -10,4 +10,4 @@ overflow_cast-change c =
     omega (arith, f)
 
 pub returns : goal.returns
-returns c = signed_is c.args.change c.wrapping_sub_u64.result (omega arith) (omega arith) c.wrapping_sub_u64.ensures
+returns c = signed_is c.args.change c.wrapping_sub_u64.result (omega arith) (omega arith) c.wrapping_sub_u64.ensures.value
