@@ -53,7 +53,7 @@ pub returns-then-unsorted-ne0 : goal.returns-then-unsorted-ne0
 returns-then-unsorted-ne0 c = sym (slice_is (goal.at.returns-then-unsorted-ne0 c).Else-h-eq0 ∙ rw (← c.refusal-unsorted.ensures, or_else_stop _ _ c.if-unsorted-ne0.true))
 
 pub refusal-requires : goal.refusal-requires
-refusal-requires c = let told = omega (arith, origins_fit (slice_of c)) in record { count_in_bounds = told.0; places_bound = told.1 }
+refusal-requires c = omega (arith, origins_fit (slice_of c))
 
 pub returns : goal.returns
 returns c =

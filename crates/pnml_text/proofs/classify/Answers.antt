@@ -26,7 +26,7 @@ unfolding kind_of
 returns-in_default-2 c =
     let at-match = c in
     let call = at-match in
-    kind-from Other 11 34 13 32 tt call.args.b (omega arith) (omega arith) (λ e. at-match.in_default-1.rest.1 (inl e)) (λ e. at-match.in_default-1.rest.1 (inr e))
+    kind-from Other 11 34 13 32 tt call.args.b (omega arith) (omega arith) (λ e. at-match.in_default.in_default-own.rest.1 (inl e)) (λ e. at-match.in_default.in_default-own.rest.1 (inr e))
 
 pub returns-in_default-3 : goal.returns-in_default-3
 unfolding kind_of
@@ -41,7 +41,7 @@ unfolding kind_of
 returns-in_default-5 c =
     let at-match = c in
     let call = at-match in
-    kind-from Other 91 6 95 95 tt call.args.b (omega arith) (omega arith) at-match.in_default-1.rest.0.1 at-match.in_default-1.rest.0.1
+    kind-from Other 91 6 95 95 tt call.args.b (omega arith) (omega arith) at-match.in_default.in_default-own.rest.0.1 at-match.in_default.in_default-own.rest.0.1
 
 pub returns-in_default-6 : goal.returns-in_default-6
 unfolding kind_of
