@@ -47,7 +47,7 @@ loop-j-preserved c =
     let arc = put in
     let t = arc in
     let inv = t.loop-j.invariant in
-    let pre = ((call (goal.at.loop-j-preserved t).At-loop-j).requires.tabled, ((call (goal.at.loop-j-preserved t).At-loop-j).requires.by_index)) in
+    let pre = (call (goal.at.loop-j-preserved t).At-loop-j).requires in
     let l = t.loop-j-test.true in
     let up = put.put_up-next.ensures in
     (omega (arith, l), up.to _ inv.1 (owner_known (goal.at.loop-j-preserved arc).After-arc-a).0, up.long ∙ inv.2, firsts_more pre.tabled pre.by_index inv.3 l (is_owner (goal.at.loop-j-preserved arc).After-arc-a) up)
@@ -70,6 +70,6 @@ returns c =
     let put = c in
     let left = put in
     let inv = left.loop-j.invariant in
-    let pre = ((call (goal.at.returns left).At-loop-j).requires.tabled, ((call (goal.at.returns left).At-loop-j).requires.by_index)) in
+    let pre = (call (goal.at.returns left).At-loop-j).requires in
     let up = put.put_up.ensures in
     (up.long ∙ inv.2, firsts-end pre.tabled pre.by_index inv.3 (omega (arith, left.loop-j-test.false)) up)

@@ -39,7 +39,7 @@ ready_at c =
     let kept = kept_of marked in
     let n = numbered (goal.at.Else-not-all_kept kept).After-all_kept in
     let p = places_of n in
-    let pre = ((call p).requires.sound, ((call p).requires.sound_2, ((call p).requires.kind_value, ((call p).requires.criterion_value, ((call p).requires.blank))))) in
+    let pre = (call p).requires in
     ready _ _ _ _ _ pre.sound pre.sound_2 pre.kind_value pre.criterion_value _ _ pre.blank _ p.number.ensures
     (kept.all_kept.ensures (not-false _ kept.if-not-all_kept.false-raw)) _ marked.mark.ensures _ c.mark_capped.ensures _ n.number-2.ensures
 
@@ -50,24 +50,24 @@ criterion_at c =
     let kept = kept_of (marked_of c) in
     let p = places_of (numbered (goal.at.Else-not-all_kept kept).After-all_kept) in
     let s = call p in
-    let pre = (s.requires.sound, (s.requires.sound_2, (s.requires.kind_value, (s.requires.criterion_value, (s.requires.blank))))) in
+    let pre = s.requires in
     all_there s.args.plan.now _ _ _ _ pre.sound pre.sound_2 pre.kind_value pre.criterion_value _ _ pre.blank _ p.number.ensures (kept.all_kept.ensures (not-false _ kept.if-not-all_kept.false-raw))
 
 pub number-requires : goal.number-requires
 number-requires c =
-    let pre = (c.requires.sound, (c.requires.sound_2, (c.requires.kind_value, (c.requires.criterion_value, (c.requires.blank))))) in
+    let pre = c.requires in
     record { origins = place-origins _ _ pre.sound_2 pre.kind_value; reached = pre.blank.origins; unit_bound = omega arith }
 
 pub number-requires-2 : goal.number-requires-2
 number-requires-2 c =
     let places = c in
-    let pre = ((call (goal.at.number-requires-2 places).After-number).requires.sound, ((call (goal.at.number-requires-2 places).After-number).requires.sound_2, ((call (goal.at.number-requires-2 places).After-number).requires.kind_value, ((call (goal.at.number-requires-2 places).After-number).requires.criterion_value, ((call (goal.at.number-requires-2 places).After-number).requires.blank))))) in
+    let pre = (call (goal.at.number-requires-2 places).After-number).requires in
     record { origins = transition-origins _ _ pre.sound_2 pre.kind_value; reached = pre.blank.transition-origins; unit_bound = omega arith }
 
 pub all_kept-requires : goal.all_kept-requires
 all_kept-requires c =
     let p = places_of (numbered c) in
-    let pre = ((call p).requires.sound, ((call p).requires.sound_2, ((call p).requires.kind_value, ((call p).requires.criterion_value, ((call p).requires.blank))))) in
+    let pre = (call p).requires in
     criterion-reached _ _ _ _ _ pre.sound pre.sound_2 pre.kind_value pre.criterion_value _ _ pre.blank _ p.number.ensures
 
 pub returns-then-not-all_kept : goal.returns-then-not-all_kept
@@ -76,14 +76,14 @@ returns-then-not-all_kept c = record { agreed = nothing_known _ _ _ _ (omega ari
 pub mark-requires : goal.mark-requires
 mark-requires c =
     let p = places_of (numbered (goal.at.mark-requires c).After-all_kept) in
-    let pre = ((call p).requires.sound, ((call p).requires.sound_2, ((call p).requires.kind_value, ((call p).requires.criterion_value, ((call p).requires.blank))))) in
+    let pre = (call p).requires in
     criterion-reached _ _ _ _ _ pre.sound pre.sound_2 pre.kind_value pre.criterion_value _ _ pre.blank _ p.number.ensures
 
 pub mark_capped-requires : goal.mark_capped-requires
 mark_capped-requires c =
     let marked = c in
     let p = places_of (numbered (goal.at.Else-not-all_kept (kept_of (goal.at.mark_capped-requires marked).After-mark)).After-all_kept) in
-    let pre = ((call p).requires.sound, ((call p).requires.sound_2, ((call p).requires.kind_value, ((call p).requires.criterion_value, ((call p).requires.blank))))) in
+    let pre = (call p).requires in
     record { placed = pre.sound.placed; places_in_bounds = omega (arith, marked.mark.ensures.long, p.number.ensures.long, pre.blank.places_reached) }
 
 pub pass-requires : goal.pass-requires

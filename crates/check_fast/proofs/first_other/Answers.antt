@@ -36,7 +36,7 @@ returns-then-hs-next c =
     let met = other in
     let read = met in
     let at = loop_at (goal.at.returns-then-hs-next read).After-word-w in
-    let o = (c.origin.ensures.value, (c.origin.ensures.value_2)) in
+    let o = c.origin.ensures in
     let u = c.earlier.ensures in
     parted _ _ _ _ _ _ _ (start_of at).requires _ read.loop-j-test.true _ read.word-w.ensures (omega arith) _ met.joined.ensures _ at.loop-j.invariant _ met.meet-next.ensures other.if-hs-next.true _ o.value o.value_2 _ u.0 u.1
 
@@ -54,5 +54,5 @@ pub returns : goal.returns
 returns c =
     let ended = c in
     let at = ended in
-    let o = (c.origin-2.ensures.value, (c.origin-2.ensures.value_2)) in
+    let o = c.origin-2.ensures in
     parted_end _ _ _ _ _ _ _ (start_of (goal.at.returns at).At-loop-j).requires _ _ at.loop-j.invariant ended.loop-j-test.false _ o.value o.value_2

@@ -9,13 +9,13 @@ abbrev start : Else-doubt-gt4 → Start
 start c = (goal.at.Else-doubt-gt4 c).Start
 
 pub returns-then-doubt-gt4 : goal.returns-then-doubt-gt4
-returns-then-doubt-gt4 c = let pre = (c.requires.cases, (c.requires.transitions_in_bounds, (c.requires.unbroken))) in sym (range4 _ _) ∙ past _ (pre.unbroken c.if-doubt-gt4.true)
+returns-then-doubt-gt4 c = let pre = c.requires in sym (range4 _ _) ∙ past _ (pre.unbroken c.if-doubt-gt4.true)
 
 pub starts-requires : goal.starts-requires
-starts-requires c = let pre = ((start (goal.at.starts-requires c).Else-doubt-gt4).requires.cases, ((start (goal.at.starts-requires c).Else-doubt-gt4).requires.transitions_in_bounds, ((start (goal.at.starts-requires c).Else-doubt-gt4).requires.unbroken))) in tabled _ _ _ pre.cases.sliced pre.transitions_in_bounds
+starts-requires c = let pre = (start (goal.at.starts-requires c).Else-doubt-gt4).requires in tabled _ _ _ pre.cases.sliced pre.transitions_in_bounds
 
 pub other_arcs-requires : goal.other_arcs-requires
 other_arcs-requires c =
     let made = c in
-    let pre = ((start (goal.at.other_arcs-requires made).Else-doubt-gt4).requires.cases, ((start (goal.at.other_arcs-requires made).Else-doubt-gt4).requires.transitions_in_bounds, ((start (goal.at.other_arcs-requires made).Else-doubt-gt4).requires.unbroken))) in
+    let pre = (start (goal.at.other_arcs-requires made).Else-doubt-gt4).requires in
     record { cases = pre.cases; starts = record { long = omega (arith, made.starts.ensures.0, pre.transitions_in_bounds); split = made.starts.ensures.1 } }

@@ -7,7 +7,7 @@ abbrev start : After-slice_known-2-1 → Start
 start c = (goal.at.After-slice_known-2-1 c).Start
 
 pub returns-then-doubt-gt6 : goal.returns-then-doubt-gt6
-returns-then-doubt-gt6 c = let pre = ((start (goal.at.returns-then-doubt-gt6 c).After-slice_known-2-1).requires.cases, ((start (goal.at.returns-then-doubt-gt6 c).After-slice_known-2-1).requires.criterion_value, ((start (goal.at.returns-then-doubt-gt6 c).After-slice_known-2-1).requires.resting, ((start (goal.at.returns-then-doubt-gt6 c).After-slice_known-2-1).requires.limit_len, ((start (goal.at.returns-then-doubt-gt6 c).After-slice_known-2-1).requires.unbroken))))) in record { value = sym (range6 _ _ _) ∙ past _ (pre.unbroken c.if-doubt-gt6.true); resting_2 = pre.resting }
+returns-then-doubt-gt6 c = let pre = (start (goal.at.returns-then-doubt-gt6 c).After-slice_known-2-1).requires in record { value = sym (range6 _ _ _) ∙ past _ (pre.unbroken c.if-doubt-gt6.true); resting_2 = pre.resting }
 
 pub changer_missing-requires : goal.changer_missing-requires
-changer_missing-requires c = let pre = ((start (goal.at.changer_missing-requires c).After-slice_known-2-1).requires.cases, ((start (goal.at.changer_missing-requires c).After-slice_known-2-1).requires.criterion_value, ((start (goal.at.changer_missing-requires c).After-slice_known-2-1).requires.resting, ((start (goal.at.changer_missing-requires c).After-slice_known-2-1).requires.limit_len, ((start (goal.at.changer_missing-requires c).After-slice_known-2-1).requires.unbroken))))) in record { cases = pre.cases; criterion_value = pre.criterion_value; resting = pre.resting; limit_len = pre.limit_len }
+changer_missing-requires c = let pre = (start (goal.at.changer_missing-requires c).After-slice_known-2-1).requires in record { cases = pre.cases; criterion_value = pre.criterion_value; resting = pre.resting; limit_len = pre.limit_len }

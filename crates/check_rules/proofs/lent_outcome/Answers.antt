@@ -15,17 +15,17 @@ abbrev starts_at : After-fill_own → After-starts
 starts_at c = (goal.at.After-fill_own c).After-starts
 
 pub starts-requires : goal.starts-requires
-starts-requires c = let pre = ((start c).requires.judged, ((start c).requires.agreed, ((start c).requires.room, ((start c).requires.resting, ((start c).requires.limit_len))))) in tabled _ _ _ pre.judged.planned pre.room.starts
+starts-requires c = let pre = (start c).requires in tabled _ _ _ pre.judged.planned pre.room.starts
 
 pub fill_own-requires : goal.fill_own-requires
-fill_own-requires c = let pre = ((start (goal.at.fill_own-requires c).After-starts-arg-1).requires.judged, ((start (goal.at.fill_own-requires c).After-starts-arg-1).requires.agreed, ((start (goal.at.fill_own-requires c).After-starts-arg-1).requires.room, ((start (goal.at.fill_own-requires c).After-starts-arg-1).requires.resting, ((start (goal.at.fill_own-requires c).After-starts-arg-1).requires.limit_len))))) in record { sound = pre.judged.sliced; kind_value = pre.judged.kind }
+fill_own-requires c = let pre = (start (goal.at.fill_own-requires c).After-starts-arg-1).requires in record { sound = pre.judged.sliced; kind_value = pre.judged.kind }
 
 pub links_outcome-requires : goal.links_outcome-requires
 links_outcome-requires c =
     let numbered = filled (goal.at.links_outcome-requires c).After-links_outcome-arg-1 in
     let own = numbered.fill_own.ensures in
     let made = (starts_at numbered).starts.ensures in
-    let pre = ((start (goal.at.After-starts (starts_at numbered)).After-starts-arg-1).requires.judged, ((start (goal.at.After-starts (starts_at numbered)).After-starts-arg-1).requires.agreed, ((start (goal.at.After-starts (starts_at numbered)).After-starts-arg-1).requires.room, ((start (goal.at.After-starts (starts_at numbered)).After-starts-arg-1).requires.resting, ((start (goal.at.After-starts (starts_at numbered)).After-starts-arg-1).requires.limit_len))))) in
+    let pre = (start (goal.at.After-starts (starts_at numbered)).After-starts-arg-1).requires in
     record { cases = record {
         planned = pre.judged.planned;
         sliced = pre.judged.sliced;

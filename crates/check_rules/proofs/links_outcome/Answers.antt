@@ -16,13 +16,13 @@ abbrev arcs_at : Else-other-transitions → After-arcs_breaker-other
 arcs_at c = (goal.at.Else-other-transitions c).After-arcs_breaker-other
 
 pub arcs_breaker-other-requires : goal.arcs_breaker-other-requires
-arcs_breaker-other-requires c = let pre = ((start (goal.at.arcs_breaker-other-requires c).After-slice_known-3-1).requires.cases, ((start (goal.at.arcs_breaker-other-requires c).After-slice_known-3-1).requires.transitions_in_bounds, ((start (goal.at.arcs_breaker-other-requires c).After-slice_known-3-1).requires.criterion_value, ((start (goal.at.arcs_breaker-other-requires c).After-slice_known-3-1).requires.resting, ((start (goal.at.arcs_breaker-other-requires c).After-slice_known-3-1).requires.limit_len, ((start (goal.at.arcs_breaker-other-requires c).After-slice_known-3-1).requires.agreed)))))) in record { cases = pre.cases; transitions_in_bounds = pre.transitions_in_bounds; unbroken = pre.agreed.fourth }
+arcs_breaker-other-requires c = let pre = (start (goal.at.arcs_breaker-other-requires c).After-slice_known-3-1).requires in record { cases = pre.cases; transitions_in_bounds = pre.transitions_in_bounds; unbroken = pre.agreed.fourth }
 
 pub returns-then-other-transitions : goal.returns-then-other-transitions
 returns-then-other-transitions c = broken-here 4 _ _ _ _ (range4 _ _) c.arcs_breaker-other.ensures c.if-other-transitions.true
 
 pub criterion_missing-missing-requires : goal.criterion_missing-missing-requires
-criterion_missing-missing-requires c = let pre = ((start_of (arcs_at c)).requires.cases, ((start_of (arcs_at c)).requires.transitions_in_bounds, ((start_of (arcs_at c)).requires.criterion_value, ((start_of (arcs_at c)).requires.resting, ((start_of (arcs_at c)).requires.limit_len, ((start_of (arcs_at c)).requires.agreed)))))) in record { criterion_value = pre.criterion_value; places_in_bounds = pre.cases.places_reached }
+criterion_missing-missing-requires c = let pre = (start_of (arcs_at c)).requires in record { criterion_value = pre.criterion_value; places_in_bounds = pre.cases.places_reached }
 
 pub returns-then-missing-places : goal.returns-then-missing-places
 returns-then-missing-places c =
@@ -31,7 +31,7 @@ returns-then-missing-places c =
     ∙ holds_here 4 _ _ _ _ (range4 _ _) arcs.arcs_breaker-other.ensures c.if-other-transitions.false
 
 pub movers_outcome-requires : goal.movers_outcome-requires
-movers_outcome-requires c = let pre = ((start_of (arcs_at (goal.at.movers_outcome-requires c).Else-other-transitions)).requires.cases, ((start_of (arcs_at (goal.at.movers_outcome-requires c).Else-other-transitions)).requires.transitions_in_bounds, ((start_of (arcs_at (goal.at.movers_outcome-requires c).Else-other-transitions)).requires.criterion_value, ((start_of (arcs_at (goal.at.movers_outcome-requires c).Else-other-transitions)).requires.resting, ((start_of (arcs_at (goal.at.movers_outcome-requires c).Else-other-transitions)).requires.limit_len, ((start_of (arcs_at (goal.at.movers_outcome-requires c).Else-other-transitions)).requires.agreed)))))) in record { cases = pre.cases; criterion_value = pre.criterion_value; resting = pre.resting; limit_len = pre.limit_len; agreed = pre.agreed }
+movers_outcome-requires c = let pre = (start_of (arcs_at (goal.at.movers_outcome-requires c).Else-other-transitions)).requires in record { cases = pre.cases; criterion_value = pre.criterion_value; resting = pre.resting; limit_len = pre.limit_len; agreed = pre.agreed }
 
 pub returns : goal.returns
 returns c =

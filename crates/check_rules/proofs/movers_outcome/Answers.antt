@@ -24,13 +24,13 @@ abbrev held_at : After-caps_outcome → Else-raiser-transitions
 held_at c = (goal.at.After-caps_outcome c).Else-raiser-transitions
 
 pub change_breaker-changer-requires : goal.change_breaker-changer-requires
-change_breaker-changer-requires c = let pre = ((start (goal.at.change_breaker-changer-requires c).After-slice_known-2-1).requires.cases, ((start (goal.at.change_breaker-changer-requires c).After-slice_known-2-1).requires.criterion_value, ((start (goal.at.change_breaker-changer-requires c).After-slice_known-2-1).requires.resting, ((start (goal.at.change_breaker-changer-requires c).After-slice_known-2-1).requires.limit_len, ((start (goal.at.change_breaker-changer-requires c).After-slice_known-2-1).requires.agreed))))) in record { cases = pre.cases; criterion_value = pre.criterion_value; resting = pre.resting; limit_len = pre.limit_len; unbroken = pre.agreed.sixth }
+change_breaker-changer-requires c = let pre = (start (goal.at.change_breaker-changer-requires c).After-slice_known-2-1).requires in record { cases = pre.cases; criterion_value = pre.criterion_value; resting = pre.resting; limit_len = pre.limit_len; unbroken = pre.agreed.sixth }
 
 pub returns-then-changer-transitions : goal.returns-then-changer-transitions
 returns-then-changer-transitions c = broken-here 6 _ _ _ _ (range6 _ _ _) c.change_breaker-changer.ensures.value c.if-changer-transitions.true
 
 pub input_breaker-taker-requires : goal.input_breaker-taker-requires
-input_breaker-taker-requires c = let pre = ((start_of (changes_at c)).requires.cases, ((start_of (changes_at c)).requires.criterion_value, ((start_of (changes_at c)).requires.resting, ((start_of (changes_at c)).requires.limit_len, ((start_of (changes_at c)).requires.agreed))))) in record { cases = pre.cases; unbroken = pre.agreed.seventh }
+input_breaker-taker-requires c = let pre = (start_of (changes_at c)).requires in record { cases = pre.cases; unbroken = pre.agreed.seventh }
 
 pub overflow_cast-result-then-taker-transitions : goal.overflow_cast-result-then-taker-transitions
 overflow_cast-result-then-taker-transitions c = omega (arith, c.if-taker-transitions.true, (start_of (changes_at (goal.at.overflow_cast-result-then-taker-transitions c).Else-changer-transitions)).requires.cases.planned.placed.transitions)
@@ -44,7 +44,7 @@ pub raiser_missing-raiser-requires : goal.raiser_missing-raiser-requires
 raiser_missing-raiser-requires c =
     let changed = changes_at (goal.at.raiser_missing-raiser-requires c).Else-changer-transitions in
     let kept = changed.change_breaker-changer.kept in
-    let pre = ((start_of changed).requires.cases, ((start_of changed).requires.criterion_value, ((start_of changed).requires.resting, ((start_of changed).requires.limit_len, ((start_of changed).requires.agreed))))) in
+    let pre = (start_of changed).requires in
     record { cases = pre.cases; resting = changed.change_breaker-changer.ensures.resting_2; limit_len = omega (arith, kept.1.1.1.1.1.1.1.1.1.0, kept.1.1.1.1.1.1.1.1.1.1.0, pre.limit_len) }
 
 pub overflow_cast-result-then-raiser-transitions : goal.overflow_cast-result-then-raiser-transitions
@@ -64,7 +64,7 @@ caps_outcome-requires c =
     let changed = changes_at (goal.at.Else-taker-transitions (inputs_at raised)).Else-changer-transitions in
     let kept6 = changed.change_breaker-changer.kept in
     let kept8 = raised.raiser_missing-raiser.kept in
-    let pre = ((start_of changed).requires.cases, ((start_of changed).requires.criterion_value, ((start_of changed).requires.resting, ((start_of changed).requires.limit_len, ((start_of changed).requires.agreed))))) in
+    let pre = (start_of changed).requires in
     record { cases = pre.cases; resting = raised.raiser_missing-raiser.ensures.resting_2; limit_len = omega (arith, kept8.1.1.1.1.1.1.1.0, kept8.1.1.1.1.1.1.1.1.0, kept6.1.1.1.1.1.1.1.1.1.0, kept6.1.1.1.1.1.1.1.1.1.1.0, pre.limit_len) }
 
 pub returns : goal.returns

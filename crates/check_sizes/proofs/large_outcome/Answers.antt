@@ -6,7 +6,7 @@ use Rattle.check_sizes.proofs.large_outcome.Goals as goal
 pub lent_outcome-requires : goal.lent_outcome-requires
 lent_outcome-requires c =
     let lent = c in
-    let pre = (lent.requires.judged, (lent.requires.agreed)) in
+    let pre = lent.requires in
     let judged = pre.judged in
     record { judged = judged; agreed = pre.agreed; room = record {
             starts = omega (arith, judged.planned.placed.transitions);

@@ -16,17 +16,17 @@ call c = (goal.at.After-decode c).Start
 pub slice_bounds-judge-end : goal.slice_bounds-judge-end
 slice_bounds-judge-end c =
     let decoded = c in
-    omega (arith, decoded.decode.auto.1.1.0, (call (goal.at.slice_bounds-judge-end decoded).After-decode).requires.q_in_bounds)
+    omega (arith, decoded.decode.auto.list, (call (goal.at.slice_bounds-judge-end decoded).After-decode).requires.q_in_bounds)
 
 pub slice_bounds-judge-end-2 : goal.slice_bounds-judge-end-2
 slice_bounds-judge-end-2 c =
     let decoded = c in
-    sym (length-take-le _ _ (omega (arith, decoded.decode.auto.1.1.0, (call (goal.at.slice_bounds-judge-end-2 decoded).After-decode).requires.q_in_bounds)))
+    sym (length-take-le _ _ (omega (arith, decoded.decode.auto.list, (call (goal.at.slice_bounds-judge-end-2 decoded).After-decode).requires.q_in_bounds)))
 
 pub judge-requires : goal.judge-requires
 judge-requires c =
     let decoded = c in
-    let pre = ((call (goal.at.judge-requires decoded).After-decode).requires.sound, ((call (goal.at.judge-requires decoded).After-decode).requires.sound_2, ((call (goal.at.judge-requires decoded).After-decode).requires.kind_value, ((call (goal.at.judge-requires decoded).After-decode).requires.q_value, ((call (goal.at.judge-requires decoded).After-decode).requires.q_in_bounds))))) in
+    let pre = (call (goal.at.judge-requires decoded).After-decode).requires in
     record { planned = pre.sound; sliced = pre.sound_2; kind = pre.kind_value; criterion = list-passed _ _ pre.q_value _ decoded.decode.ensures }
 
 pub returns : goal.returns

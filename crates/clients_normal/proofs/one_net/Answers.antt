@@ -46,8 +46,8 @@ returns-then-other-ne0 c =
     let again = second_of (goal.at.returns-then-other-ne0 c).After-number-other in
     let n = first_of (judged again) in
     let s = start_of n in
-    let f = (n.normal-first.ensures.answer, (n.normal-first.ensures.buffer, (n.normal-first.ensures.form))) in
-    let g = (again.normal-second.ensures.answer, (again.normal-second.ensures.buffer, (again.normal-second.ensures.form))) in
+    let f = n.normal-first.ensures in
+    let g = again.normal-second.ensures in
     second-refused s.args.a.now s.args.b.now _ _ s.args.two.now (length s.args.one.now) f.answer f.form g.answer g.buffer g.form (bytes_of n) (none again) c.number-other.ensures
 
 pub returns-then-n-m : goal.returns-then-n-m
@@ -55,8 +55,8 @@ returns-then-n-m c =
     let l = c in
     let again = second_of (both_judged (goal.at.returns-then-n-m l).After-length_of-m) in
     let n = first_of (judged again) in
-    let f = (n.normal-first.ensures.answer, (n.normal-first.ensures.buffer, (n.normal-first.ensures.form))) in
-    let g = (again.normal-second.ensures.answer, (again.normal-second.ensures.buffer, (again.normal-second.ensures.form))) in
+    let f = n.normal-first.ensures in
+    let g = again.normal-second.ensures in
     let s = start_of n in
     other-lengths s.args.a.now s.args.b.now _ _ s.args.two.now (length s.args.one.now) f.answer f.form g.answer g.buffer g.form (bytes_of n) (none again) (none_2 (goal.at.returns-then-n-m l).After-length_of-m) l.length_of-n.ensures l.length_of-m.ensures c.if-n-m.true
 
@@ -66,8 +66,8 @@ equal-requires c =
     let l = t in
     let again = second_of (both_judged (goal.at.equal-requires l).After-length_of-m) in
     let n = first_of (judged again) in
-    let f = (n.normal-first.ensures.answer, (n.normal-first.ensures.buffer, (n.normal-first.ensures.form))) in
-    let g = (again.normal-second.ensures.answer, (again.normal-second.ensures.buffer, (again.normal-second.ensures.form))) in
+    let f = n.normal-first.ensures in
+    let g = again.normal-second.ensures in
     record { n_in_bounds = omega (arith, l.length_of-n.ensures, fits _ _ _ f.answer f.form (none again)); n_in_bounds_2 = omega (arith, t.if-n-m.false, l.length_of-m.ensures, fits _ _ _ g.answer g.form (none_2 (goal.at.equal-requires l).After-length_of-m)) }
 
 pub returns-then-equal : goal.returns-then-equal
@@ -76,8 +76,8 @@ returns-then-equal c =
     let l = t in
     let again = second_of (both_judged (goal.at.returns-then-equal l).After-length_of-m) in
     let n = first_of (judged again) in
-    let f = (n.normal-first.ensures.answer, (n.normal-first.ensures.buffer, (n.normal-first.ensures.form))) in
-    let g = (again.normal-second.ensures.answer, (again.normal-second.ensures.buffer, (again.normal-second.ensures.form))) in
+    let f = n.normal-first.ensures in
+    let g = again.normal-second.ensures in
     let s = start_of n in
     same_bytes s.args.a.now s.args.b.now _ _ s.args.two.now (length s.args.one.now) f.answer f.form g.answer g.buffer g.form (bytes_of n) (none again) (none_2 (goal.at.returns-then-equal l).After-length_of-m) l.length_of-n.ensures l.length_of-m.ensures t.if-n-m.false (c.equal.ensures.0 c.if-equal.true)
 
@@ -87,7 +87,7 @@ returns c =
     let l = t in
     let again = second_of (both_judged (goal.at.returns l).After-length_of-m) in
     let n = first_of (judged again) in
-    let f = (n.normal-first.ensures.answer, (n.normal-first.ensures.buffer, (n.normal-first.ensures.form))) in
-    let g = (again.normal-second.ensures.answer, (again.normal-second.ensures.buffer, (again.normal-second.ensures.form))) in
+    let f = n.normal-first.ensures in
+    let g = again.normal-second.ensures in
     let s = start_of n in
     other-bytes s.args.a.now s.args.b.now _ _ s.args.two.now (length s.args.one.now) f.answer f.form g.answer g.buffer g.form (bytes_of n) (none again) (none_2 (goal.at.returns l).After-length_of-m) l.length_of-n.ensures l.length_of-m.ensures t.if-n-m.false (λ e. differ (sym c.if-equal.false ∙ c.equal.ensures.1 e))

@@ -20,18 +20,18 @@ none c = sym (judged c).number-refusal.ensures ∙ c.if-refusal-ne0.false
 
 pub slice_bounds-replay-end : goal.slice_bounds-replay-end
 slice_bounds-replay-end c =
-    let n = ((normal_of (judged c)).normal-first.ensures.answer, ((normal_of (judged c)).normal-first.ensures.buffer, ((normal_of (judged c)).normal-first.ensures.form))) in
+    let n = (normal_of (judged c)).normal-first.ensures in
     omega (arith, c.length_of-end.ensures, fits _ _ _ n.answer n.form (none c))
 
 pub slice_bounds-replay-end-2 : goal.slice_bounds-replay-end-2
 slice_bounds-replay-end-2 c =
     let l = c in
-    let n = ((normal_of (judged l)).normal-first.ensures.answer, ((normal_of (judged l)).normal-first.ensures.buffer, ((normal_of (judged l)).normal-first.ensures.form))) in
+    let n = (normal_of (judged l)).normal-first.ensures in
     simp length-take (omega (arith, l.length_of-end.ensures, fits _ _ _ n.answer n.form (none l)))
 
 pub returns : goal.returns
 returns c =
-    let r = (c.replay-2.ensures.answer, (c.replay-2.ensures.marking)) in
+    let r = c.replay-2.ensures in
     let l = c in
-    let n = ((normal_of (judged (goal.at.returns l).After-length_of-end)).normal-first.ensures.answer, ((normal_of (judged (goal.at.returns l).After-length_of-end)).normal-first.ensures.buffer, ((normal_of (judged (goal.at.returns l).After-length_of-end)).normal-first.ensures.form))) in
+    let n = (normal_of (judged (goal.at.returns l).After-length_of-end)).normal-first.ensures in
     record { answer = r.answer ∙ same_answer _ _ _ n.answer n.form (none (goal.at.returns l).After-length_of-end) l.length_of-end.ensures _ _; marking = r.marking ∙ same-marking _ _ _ n.answer n.form (none (goal.at.returns l).After-length_of-end) l.length_of-end.ensures _ _ }

@@ -30,13 +30,13 @@ none c = sym (judged c).number-refusal.ensures ∙ c.if-refusal-ne0.false
 pub slice_bounds-normal-end : goal.slice_bounds-normal-end
 slice_bounds-normal-end c =
     let l = c in
-    let n = ((first_of (judged (goal.at.slice_bounds-normal-end l).After-length_of-n)).normal-first.ensures.answer, ((first_of (judged (goal.at.slice_bounds-normal-end l).After-length_of-n)).normal-first.ensures.buffer, ((first_of (judged (goal.at.slice_bounds-normal-end l).After-length_of-n)).normal-first.ensures.form))) in
+    let n = (first_of (judged (goal.at.slice_bounds-normal-end l).After-length_of-n)).normal-first.ensures in
     omega (arith, l.length_of-n.ensures, fits _ _ _ n.answer n.form (none (goal.at.slice_bounds-normal-end l).After-length_of-n))
 
 pub slice_bounds-normal-end-2 : goal.slice_bounds-normal-end-2
 slice_bounds-normal-end-2 c =
     let l = c in
-    let n = ((first_of (judged (goal.at.slice_bounds-normal-end-2 l).After-length_of-n)).normal-first.ensures.answer, ((first_of (judged (goal.at.slice_bounds-normal-end-2 l).After-length_of-n)).normal-first.ensures.buffer, ((first_of (judged (goal.at.slice_bounds-normal-end-2 l).After-length_of-n)).normal-first.ensures.form))) in
+    let n = (first_of (judged (goal.at.slice_bounds-normal-end-2 l).After-length_of-n)).normal-first.ensures in
     simp length-take (omega (arith, l.length_of-n.ensures, fits _ _ _ n.answer n.form (none (goal.at.slice_bounds-normal-end-2 l).After-length_of-n)))
 
 pub returns-then-m-n : goal.returns-then-m-n
@@ -44,8 +44,8 @@ returns-then-m-n c =
     let again = second_of (goal.at.returns-then-m-n c).After-length_of-m in
     let l = sized again in
     let n = first_of (judged l) in
-    let f = (n.normal-first.ensures.answer, (n.normal-first.ensures.buffer, (n.normal-first.ensures.form))) in
-    let s = (again.normal-second.ensures.answer, (again.normal-second.ensures.buffer, (again.normal-second.ensures.form))) in
+    let f = n.normal-first.ensures in
+    let s = again.normal-second.ensures in
     absurd (c.if-m-n.true (c.length_of-m.ensures ∙ again-long _ _ _ f.answer f.form (none l) (start_of n).args.two.now l.length_of-n.ensures again.if-two-end.false s.answer))
 
 pub equal-requires : goal.equal-requires
@@ -53,8 +53,8 @@ equal-requires c =
     let again = second_of (goal.at.equal-requires c).After-length_of-m in
     let l = sized again in
     let n = first_of (judged l) in
-    let f = (n.normal-first.ensures.answer, (n.normal-first.ensures.buffer, (n.normal-first.ensures.form))) in
-    let s = (again.normal-second.ensures.answer, (again.normal-second.ensures.buffer, (again.normal-second.ensures.form))) in
+    let f = n.normal-first.ensures in
+    let s = again.normal-second.ensures in
     let long = again.if-two-end.false in
     let two = (start_of n).args.two.now in
     record { n_in_bounds = omega (arith, l.length_of-n.ensures, fits _ _ _ f.answer f.form (none l)); n_in_bounds_2 = omega (arith, again-long _ _ _ f.answer f.form (none l) two l.length_of-n.ensures long s.answer, fits _ _ _ s.answer s.form (again-none _ _ _ f.answer f.form (none l) two l.length_of-n.ensures long s.answer)) }
@@ -64,6 +64,6 @@ returns c =
     let again = second_of (goal.at.returns c).After-length_of-m in
     let l = sized again in
     let n = first_of (judged l) in
-    let f = (n.normal-first.ensures.answer, (n.normal-first.ensures.buffer, (n.normal-first.ensures.form))) in
-    let s = (again.normal-second.ensures.answer, (again.normal-second.ensures.buffer, (again.normal-second.ensures.form))) in
+    let f = n.normal-first.ensures in
+    let s = again.normal-second.ensures in
     c.equal.ensures.1 (again-bytes _ _ _ f.answer f.form (none l) (start_of n).args.two.now l.length_of-n.ensures again.if-two-end.false s.answer s.buffer)

@@ -33,7 +33,7 @@ pub has_all-requires : goal.has_all-requires
 has_all-requires c =
     let alike = c in
     let on = alike in
-    let a = ((answered (goal.at.has_all-requires on).After-turned_back).range-a.ensures.answer, ((answered (goal.at.has_all-requires on).After-turned_back).range-a.ensures.need, ((answered (goal.at.has_all-requires on).After-turned_back).range-a.ensures.range))) in
+    let a = (answered (goal.at.has_all-requires on).After-turned_back).range-a.ensures in
     let many = as_many _ _ _ _ a.answer (goes_on_lem (goal.at.has_all-requires on).Else-turned_back) in
     (many, omega (arith, many, as_long _ _ _ _ a.answer (goes_on_lem (goal.at.has_all-requires on).Else-turned_back) a.need), omega (arith, alike.if-tokens-upper.false))
 
@@ -41,5 +41,5 @@ pub returns : goal.returns
 returns c = λ z l.
     let on = c in
     let done = answered (goal.at.returns on).After-turned_back in
-    let a = (done.range-a.ensures.answer, (done.range-a.ensures.need, (done.range-a.ensures.range))) in
+    let a = done.range-a.ensures in
     by_the_need _ _ _ _ a.answer (goes_on_lem (goal.at.returns on).Else-turned_back) a.range (call done).args.tokens.now c.has_all.ensures

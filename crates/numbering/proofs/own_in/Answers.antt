@@ -30,7 +30,7 @@ loop-i-preserved c =
     let s = call (goal.at.In-loop-i t).At-loop-i in
     let long = length-words s.args.file.now s.args.start s.args.count in
     let origin = put.get16-origin.ensures.0 ∙ sym (words-at _ _ _ _ t.loop-i-test.true) in
-    (search rules, put.put.auto.0 ∙ at.invariant.1, own-next _ s.requires.origins.rise at.i (omega (arith, long)) at.invariant.2 origin put.put.ensures)
+    (search rules, put.put.auto.table ∙ at.invariant.1, own-next _ s.requires.origins.rise at.i (omega (arith, long)) at.invariant.2 origin put.put.ensures)
 
 pub returns : goal.returns
 returns c =

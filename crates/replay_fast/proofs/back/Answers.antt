@@ -29,7 +29,7 @@ loop-j-init c = (c.requires.movable.rising, λ h can mv. moving_none can.fits)
 
 pub entry-p-requires : goal.entry-p-requires
 entry-p-requires c =
-    let pre = ((call (goal.at.entry-p-requires c).At-loop-j).requires.movable, ((call (goal.at.entry-p-requires c).At-loop-j).requires.moves_of)) in
+    let pre = (call (goal.at.entry-p-requires c).At-loop-j).requires in
     omega (arith, pre.moves_of.room, pre.movable.within, c.loop-j-test.true)
 
 pub offset_bounds-changes-j : goal.offset_bounds-changes-j
@@ -38,7 +38,7 @@ offset_bounds-changes-j c = let t = c in let can = (call (goal.at.offset_bounds-
 pub bounds-changes-j : goal.bounds-changes-j
 bounds-changes-j c =
     let t = c in
-    let pre = ((call (goal.at.bounds-changes-j t).At-loop-j).requires.movable, ((call (goal.at.bounds-changes-j t).At-loop-j).requires.moves_of)) in
+    let pre = (call (goal.at.bounds-changes-j t).At-loop-j).requires in
     omega (arith, pre.moves_of.long, pre.movable.within, t.loop-j-test.true)
 
 pub offset_bounds-marking-p : goal.offset_bounds-marking-p

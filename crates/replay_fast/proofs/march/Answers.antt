@@ -24,7 +24,7 @@ step_at : (c : After-entry-to) → let x = c in let s = call (goal.at.After-entr
     Step s.args.file.now s.args.h s.args.list.now s.args.marking.now x.loop-k.marking x.loop-k.k c.entry-from.result c.entry-to.result
 step_at c =
     let x = c in
-    let pre = ((call (goal.at.After-entry-to x).At-loop-k).requires.plain, ((call (goal.at.After-entry-to x).At-loop-k).requires.listed, ((call (goal.at.After-entry-to x).At-loop-k).requires.moves_of))) in
+    let pre = (call (goal.at.After-entry-to x).At-loop-k).requires in
     let ready = pre.plain.ready in
     step ready.places x.loop-k.invariant c.loop-k-test.true (by_slots (listed (goal.at.After-entry-to c).After-shared_slice_known-in-loop-k-1).known ready c.entry-from.ensures.0 c.entry-to.ensures.0)
 

@@ -23,7 +23,7 @@ step_at : (c : After-entry-to) → let x = c in let s = call (goal.at.After-entr
     Step s.args.file.now s.args.h s.args.list.now s.args.marking.now x.loop-k.marking x.loop-k.k c.entry-from.result c.entry-to.result
 step_at c =
     let x = c in
-    let pre = ((call (goal.at.After-entry-to x).At-loop-k).requires.ready, ((call (goal.at.After-entry-to x).At-loop-k).requires.listed, ((call (goal.at.After-entry-to x).At-loop-k).requires.moves_of))) in
+    let pre = (call (goal.at.After-entry-to x).At-loop-k).requires in
     let ready = pre.ready in
     step ready.places x.loop-k.invariant c.loop-k-test.true (by_slots (listed (goal.at.After-entry-to c).After-shared_slice_known-in-loop-k-1).known ready c.entry-from.ensures.0 c.entry-to.ensures.0)
 
@@ -89,7 +89,7 @@ pub loop-k-preserved : goal.loop-k-preserved
 loop-k-preserved c =
     let shift = c in
     let now = step_at (goal.at.loop-k-preserved shift).After-entry-to in
-    let told = (shift.shift_capped.ensures.shifted, (shift.shift_capped.ensures.roomy)) in
+    let told = shift.shift_capped.ensures in
     let low : shift.shift_capped.result < 9223372036854775808 = omega (arith, c.if-shift_capped-ge9223372036854775808.false) in
     now.fired _ _ told.shifted low (now.fits _ _ told.shifted low (told.roomy low))
 

@@ -22,7 +22,7 @@ signed_of c = (goal.at.After-wrapping_add_u64-value c).After-signed-c
 is_place : (c : After-entry-p) → let x = c in let s = call (goal.at.After-entry-p x).At-loop-j in c.entry-p.result ≡ place_at s.args.file.now s.args.h.arcstart x.loop-j.j
 is_place c =
     let t = c in
-    let pre = ((call (goal.at.After-entry-p t).At-loop-j).requires.movable, ((call (goal.at.After-entry-p t).At-loop-j).requires.moves_of)) in
+    let pre = (call (goal.at.After-entry-p t).At-loop-j).requires in
     c.entry-p.ensures.0 ∙ pre.moves_of.place t.loop-j.j (omega (arith, pre.movable.within, t.loop-j-test.true))
 
 -- it is one of the marking's
@@ -39,7 +39,7 @@ loop-j-init c =
 
 pub entry-p-requires : goal.entry-p-requires
 entry-p-requires c =
-    let pre = ((call (goal.at.entry-p-requires c).At-loop-j).requires.movable, ((call (goal.at.entry-p-requires c).At-loop-j).requires.moves_of)) in
+    let pre = (call (goal.at.entry-p-requires c).At-loop-j).requires in
     omega (arith, pre.moves_of.room, pre.movable.within, c.loop-j-test.true)
 
 pub offset_bounds-changes-j : goal.offset_bounds-changes-j
@@ -48,7 +48,7 @@ offset_bounds-changes-j c = let t = c in let can = (call (goal.at.offset_bounds-
 pub bounds-changes-j : goal.bounds-changes-j
 bounds-changes-j c =
     let t = c in
-    let pre = ((call (goal.at.bounds-changes-j t).At-loop-j).requires.movable, ((call (goal.at.bounds-changes-j t).At-loop-j).requires.moves_of)) in
+    let pre = (call (goal.at.bounds-changes-j t).At-loop-j).requires in
     omega (arith, pre.moves_of.long, pre.movable.within, t.loop-j-test.true)
 
 pub offset_bounds-marking-p : goal.offset_bounds-marking-p

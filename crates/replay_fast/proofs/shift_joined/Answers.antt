@@ -64,7 +64,7 @@ returns-then-to-from c = let can = c.requires.movable in shifting_end can.rising
 -- ---- the first arc's place
 
 pub entry-p-requires : goal.entry-p-requires
-entry-p-requires c = let pre = ((some_of c).requires.movable, ((some_of c).requires.moves_of)) in omega (arith, pre.moves_of.room, pre.movable.within, c.if-to-from.false)
+entry-p-requires c = let pre = (some_of c).requires in omega (arith, pre.moves_of.room, pre.movable.within, c.if-to-from.false)
 
 pub offset_bounds-marking-p : goal.offset_bounds-marking-p
 offset_bounds-marking-p c = omega (arith, (first c).1)
@@ -79,7 +79,7 @@ loop-j-init c = let e = c in ((some_of (goal.at.loop-j-init e).Else-to-from).req
 
 pub entry-q-requires : goal.entry-q-requires
 entry-q-requires c =
-    let pre = ((call (goal.at.entry-q-requires c).At-loop-j).requires.movable, ((call (goal.at.entry-q-requires c).At-loop-j).requires.moves_of)) in
+    let pre = (call (goal.at.entry-q-requires c).At-loop-j).requires in
     omega (arith, pre.moves_of.room, pre.movable.within, c.loop-j-test.true)
 
 pub offset_bounds-marking-p-then-q-p : goal.offset_bounds-marking-p-then-q-p
@@ -108,7 +108,7 @@ offset_bounds-changes-j c =
 pub bounds-changes-j : goal.bounds-changes-j
 bounds-changes-j c =
     let t = c in
-    let pre = ((call (goal.at.bounds-changes-j t).At-loop-j).requires.movable, ((call (goal.at.bounds-changes-j t).At-loop-j).requires.moves_of)) in
+    let pre = (call (goal.at.bounds-changes-j t).At-loop-j).requires in
     omega (arith, pre.moves_of.long, pre.movable.within, t.loop-j-test.true)
 
 pub loop-j-preserved : goal.loop-j-preserved

@@ -37,7 +37,7 @@ loop-j-init c = hit_start _ _ _ _ _ c.requires.run.rising
 
 pub capped_left-requires : goal.capped_left-requires
 capped_left-requires c =
-    let pre = ((call (goal.at.In-loop-j (turn_of c)).At-loop-j).requires.placed, ((call (goal.at.In-loop-j (turn_of c)).At-loop-j).requires.run, ((call (goal.at.In-loop-j (turn_of c)).At-loop-j).requires.places_in_bounds))) in
+    let pre = (call (goal.at.In-loop-j (turn_of c)).At-loop-j).requires in
     record { placed = pre.placed; place_lt_places = place_in c; place_in_bounds = omega (arith, place_in c, pre.places_in_bounds) }
 
 pub returns-then-capped_left : goal.returns-then-capped_left

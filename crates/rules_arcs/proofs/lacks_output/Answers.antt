@@ -12,7 +12,7 @@ returns-then-entry-eq0 c = let s = call (goal.at.returns-then-entry-eq0 c).After
 
 pub capped_unkept-requires : goal.capped_unkept-requires
 capped_unkept-requires c =
-    let pre = ((call (goal.at.capped_unkept-requires c).After-entry).requires.cases, ((call (goal.at.capped_unkept-requires c).After-entry).requires.t_lt_transitions)) in
+    let pre = (call (goal.at.capped_unkept-requires c).After-entry).requires in
     record { placed = pre.cases.planned.placed; run = outputs-run _ _ _ _ _ _ _ pre.cases _ pre.t_lt_transitions _ _ c.entry-from.ensures.0 c.entry-upto.ensures.0; places_in_bounds = pre.cases.places_reached }
 
 pub returns : goal.returns

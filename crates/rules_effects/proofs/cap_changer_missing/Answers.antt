@@ -21,10 +21,10 @@ pub first_mover-requires : goal.first_mover-requires
 first_mover-requires c =
     let limited = c in
     let s = call (goal.at.first_mover-requires limited).After-limit_capped in
-    record { cases = s.requires.cases; resting = s.requires.resting; limit_len = limited.limit_capped.auto.1.1.1.0 ∙ s.requires.limit_len }
+    record { cases = s.requires.cases; resting = s.requires.resting; limit_len = limited.limit_capped.auto.limit ∙ s.requires.limit_len }
 
 pub returns : goal.returns
 returns c =
-    let found = (c.first_mover.ensures.value, (c.first_mover.ensures.resting_2)) in
+    let found = c.first_mover.ensures in
     let limited = c in
     record { value = first-cap_changer _ _ _ _ _ _ _ (call (goal.at.returns limited).After-limit_capped).requires.cases (λ i. omega (arith, (bytes_of (goal.at.returns limited).After-limit_capped).type_inv.plan i)) _ limited.limit_capped.ensures _ found.value; resting_2 = found.resting_2 }

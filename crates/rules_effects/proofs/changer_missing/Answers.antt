@@ -25,18 +25,18 @@ pub limit_criterion-requires : goal.limit_criterion-requires
 limit_criterion-requires c =
     let clear = c in
     let s = call (goal.at.limit_criterion-requires clear).After-unlimited in
-    criterion-fits _ _ s.requires.criterion_value _ (omega (arith, s.requires.resting.reached, s.requires.limit_len, clear.unlimited.auto.0))
+    criterion-fits _ _ s.requires.criterion_value _ (omega (arith, s.requires.resting.reached, s.requires.limit_len, clear.unlimited.auto.limit))
 
 pub first_mover-requires : goal.first_mover-requires
 first_mover-requires c =
     let limited = c in
     let clear = cleared (goal.at.first_mover-requires limited).After-limit_criterion in
     let s = call clear in
-    record { cases = s.requires.cases; resting = s.requires.resting; limit_len = limited.limit_criterion.auto.1.0 ∙ clear.unlimited.kept.0 ∙ s.requires.limit_len }
+    record { cases = s.requires.cases; resting = s.requires.resting; limit_len = limited.limit_criterion.auto.limit ∙ clear.unlimited.kept.0 ∙ s.requires.limit_len }
 
 pub returns : goal.returns
 returns c =
-    let found = (c.first_mover.ensures.value, (c.first_mover.ensures.resting_2)) in
+    let found = c.first_mover.ensures in
     let limited = c in
     let clear = cleared (goal.at.returns limited).After-limit_criterion in
     let s = call clear in

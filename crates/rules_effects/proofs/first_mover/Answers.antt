@@ -29,20 +29,20 @@ left_out_moves-requires c =
 pub shape_of-column-then-left_out_moves : goal.shape_of-column-then-left_out_moves
 shape_of-column-then-left_out_moves c =
     let tried = c in
-    tried.left_out_moves.auto.1.1.1.1.1.1.1.1.1.0 ∙ (turn_of (tested (goal.at.shape_of-column-then-left_out_moves tried).After-left_out_moves)).loop-t.invariant.2
+    tried.left_out_moves.auto.column ∙ (turn_of (tested (goal.at.shape_of-column-then-left_out_moves tried).After-left_out_moves)).loop-t.invariant.2
 
 pub returns-then-left_out_moves : goal.returns-then-left_out_moves
 returns-then-left_out_moves c =
     let tried = c in
-    let moves = (tried.left_out_moves.ensures.value, (tried.left_out_moves.ensures.resting_2)) in
+    let moves = tried.left_out_moves.ensures in
     record { value = lowest-found _ _ _ (turn_of (tested (goal.at.returns-then-left_out_moves tried).After-left_out_moves)).loop-t.invariant.0 (tested (goal.at.returns-then-left_out_moves tried).After-left_out_moves).loop-t-test.true (sym moves.value ∙ c.if-left_out_moves.true); resting_2 = moves.resting_2 }
 
 pub loop-t-preserved : goal.loop-t-preserved
 loop-t-preserved c =
     let tried = c in
-    let moves = (tried.left_out_moves.ensures.value, (tried.left_out_moves.ensures.resting_2)) in
+    let moves = tried.left_out_moves.ensures in
     let inv = (turn_of (tested (goal.at.loop-t-preserved tried).After-left_out_moves)).loop-t.invariant in
-    (none-next _ _ _ inv.0 (tested (goal.at.loop-t-preserved tried).After-left_out_moves).loop-t-test.true (sym moves.value ∙ c.if-left_out_moves.false), moves.resting_2, tried.left_out_moves.auto.1.1.1.1.1.1.1.1.1.0 ∙ inv.2)
+    (none-next _ _ _ inv.0 (tested (goal.at.loop-t-preserved tried).After-left_out_moves).loop-t-test.true (sym moves.value ∙ c.if-left_out_moves.false), moves.resting_2, tried.left_out_moves.auto.column ∙ inv.2)
 
 pub shape_of-column : goal.shape_of-column
 shape_of-column c = c.loop-t.invariant.2

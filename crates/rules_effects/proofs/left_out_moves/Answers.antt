@@ -20,7 +20,7 @@ moves-requires c =
 
 pub returns : goal.returns
 returns c =
-    let moved_by = (c.moves.ensures.value, (c.moves.ensures.resting_2)) in
+    let moved_by = c.moves.ensures in
     let left_out = c in
     let s = call (goal.at.returns left_out).After-entry in
     record { value = when_left_out _ _ s.requires.cases.transitions _ (omega (arith, s.requires.cases.transitions_reached, s.requires.t_lt_transitions)) _ left_out.entry.ensures.0 left_out.if-entry-ne0.false _ _ moved_by.value; resting_2 = moved_by.resting_2 }

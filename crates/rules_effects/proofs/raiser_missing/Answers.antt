@@ -21,10 +21,10 @@ pub first_mover-requires : goal.first_mover-requires
 first_mover-requires c =
     let limited = c in
     let s = call (goal.at.first_mover-requires limited).After-limit_kept in
-    record { cases = s.requires.cases; resting = s.requires.resting; limit_len = limited.limit_kept.auto.1.1.0 ∙ s.requires.limit_len }
+    record { cases = s.requires.cases; resting = s.requires.resting; limit_len = limited.limit_kept.auto.limit ∙ s.requires.limit_len }
 
 pub returns : goal.returns
 returns c =
-    let found = (c.first_mover.ensures.value, (c.first_mover.ensures.resting_2)) in
+    let found = c.first_mover.ensures in
     let limited = c in
     record { value = first-raiser _ _ _ _ _ _ _ (call (goal.at.returns limited).After-limit_kept).requires.cases (λ i. omega (arith, (bytes_of (goal.at.returns limited).After-limit_kept).type_inv.plan i)) _ limited.limit_kept.ensures _ found.value; resting_2 = found.resting_2 }

@@ -22,7 +22,7 @@ turn_of c = (goal.at.After-wide-q c).In-loop-k
 inside : (c : After-wide-q) → c.wide-q.result < length (call (goal.at.In-loop-k (turn_of c)).At-loop-k).args.ownp.now
 inside c =
     let t = turn_of c in
-    let pre = ((call (goal.at.In-loop-k t).At-loop-k).requires.criterion_value, ((call (goal.at.In-loop-k t).At-loop-k).requires.places_in_bounds)) in
+    let pre = (call (goal.at.In-loop-k t).At-loop-k).requires in
     omega (arith, c.wide-q.ensures.0, pre.places_in_bounds, (passed _ _ pre.criterion_value).known_at t.loop-k.k t.loop-k-test.true)
 
 pub loop-k-init : goal.loop-k-init
@@ -39,7 +39,7 @@ returns-then-ownp-q-eq0 c = λ N S e o.
     let place = c in
     let t = turn_of (goal.at.returns-then-ownp-q-eq0 place).After-wide-q in
     let at = t.loop-k in
-    let pre = ((call (goal.at.In-loop-k t).At-loop-k).requires.criterion_value, ((call (goal.at.In-loop-k t).At-loop-k).requires.places_in_bounds)) in
+    let pre = (call (goal.at.In-loop-k t).At-loop-k).requires in
     let w = passed _ _ pre.criterion_value in
     place.wide-q.ensures.0
     ∙ missing-found N S _ w.rise (λ k l. omega (arith, w.known_at k l)) at.k t.loop-k-test.true
@@ -53,7 +53,7 @@ loop-k-preserved c =
 
 pub returns : goal.returns
 returns c = λ N S e o.
-    let pre = ((call (goal.at.returns c).At-loop-k).requires.criterion_value, ((call (goal.at.returns c).At-loop-k).requires.places_in_bounds)) in
+    let pre = (call (goal.at.returns c).At-loop-k).requires in
     let w = passed _ _ pre.criterion_value in
     sym e
     ∙ missing-none N S _ w.rise (λ k l. omega (arith, w.known_at k l))

@@ -17,5 +17,5 @@ pub other_tokens-requires : goal.other_tokens-requires
 other_tokens-requires c =
     let other = c in
     let s = other in
-    let pre = (s.requires.sound, (s.requires.sound_2, (s.requires.kind_value, (s.requires.known)))) in
+    let pre = s.requires in
     record { sound = pre.sound; sound_2 = pre.sound_2; kind_value = pre.kind_value; known = pre.known; uncapped = uncapped_by _ s.args.hp other.if-hp-eq-CAPS.false; uncapped_2 = uncapped_by _ s.args.hs c.if-hs-eq-CAPS.false }

@@ -43,14 +43,14 @@ loop-i-init c = (omega arith, λ k l. absurd (omega arith))
 
 pub get16-origin-requires : goal.get16-origin-requires
 get16-origin-requires c =
-    let pre = ((call (goal.at.get16-origin-requires c).At-loop-i).requires.sound, ((call (goal.at.get16-origin-requires c).At-loop-i).requires.sound_2, ((call (goal.at.get16-origin-requires c).At-loop-i).requires.kind_value, ((call (goal.at.get16-origin-requires c).At-loop-i).requires.known)))) in
+    let pre = (call (goal.at.get16-origin-requires c).At-loop-i).requires in
     let w = (place-origins _ _ pre.sound_2 pre.kind_value).fit in
     omega (arith, c.loop-i-test.true)
 
 pub alike-requires : goal.alike-requires
 alike-requires c =
     let t = turn_of c in
-    let pre = ((call (goal.at.In-loop-i t).At-loop-i).requires.sound, ((call (goal.at.In-loop-i t).At-loop-i).requires.sound_2, ((call (goal.at.In-loop-i t).At-loop-i).requires.kind_value, ((call (goal.at.In-loop-i t).At-loop-i).requires.known)))) in
+    let pre = (call (goal.at.In-loop-i t).At-loop-i).requires in
     let known = pre.known.at t.loop-i.i (inside t) in
     record { placed = pre.sound.placed; placed_2 = pre.sound_2.placed; p_lt_places = (rw (origin_is c) known, t.loop-i-test.true) }
 
@@ -58,7 +58,7 @@ pub returns-then-not-alike : goal.returns-then-not-alike
 returns-then-not-alike c =
     let same = c in
     let t = turn_of (goal.at.returns-then-not-alike same).After-get16-origin in
-    let pre = ((call (goal.at.In-loop-i t).At-loop-i).requires.sound, ((call (goal.at.In-loop-i t).At-loop-i).requires.sound_2, ((call (goal.at.In-loop-i t).At-loop-i).requires.kind_value, ((call (goal.at.In-loop-i t).At-loop-i).requires.known)))) in
+    let pre = (call (goal.at.In-loop-i t).At-loop-i).requires in
     origin_is (goal.at.returns-then-not-alike same).After-get16-origin
     ∙ other-found _ _ (pre.sound_2.place_origins pre.kind_value) pre.known t.loop-i.i (inside t) t.loop-i.invariant.1
     (sym (compared (goal.at.returns-then-not-alike same).After-alike) ∙ not-true _ c.if-not-alike.true-raw)
@@ -73,6 +73,6 @@ pub returns : goal.returns
 returns c =
     let s = call (goal.at.returns c).At-loop-i in
     let a = s.args in
-    let pre = (s.requires.sound, (s.requires.sound_2, (s.requires.kind_value, (s.requires.known)))) in
+    let pre = s.requires in
     let long = length-words a.slice.now a.hs.originstart a.hs.places in
     other_none _ _ (pre.sound_2.place_origins pre.kind_value) pre.known (λ k l. c.loop-i.invariant.1 k (omega (arith, c.loop-i-test.false)))

@@ -45,14 +45,14 @@ tokens_are c =
 
 pub get16-p-requires : goal.get16-p-requires
 get16-p-requires c =
-    let pre = ((call (goal.at.get16-p-requires c).At-loop-i).requires.sound, ((call (goal.at.get16-p-requires c).At-loop-i).requires.sound_2, ((call (goal.at.get16-p-requires c).At-loop-i).requires.kind_value, ((call (goal.at.get16-p-requires c).At-loop-i).requires.known, ((call (goal.at.get16-p-requires c).At-loop-i).requires.uncapped, ((call (goal.at.get16-p-requires c).At-loop-i).requires.uncapped_2)))))) in
+    let pre = (call (goal.at.get16-p-requires c).At-loop-i).requires in
     let w = (place-origins _ _ pre.sound_2 pre.kind_value).fit in
     omega (arith, c.loop-i-test.true)
 
 pub marking-tokens-requires : goal.marking-tokens-requires
 marking-tokens-requires c =
     let t = turn_of c in
-    let pre = ((call (goal.at.In-loop-i t).At-loop-i).requires.sound, ((call (goal.at.In-loop-i t).At-loop-i).requires.sound_2, ((call (goal.at.In-loop-i t).At-loop-i).requires.kind_value, ((call (goal.at.In-loop-i t).At-loop-i).requires.known, ((call (goal.at.In-loop-i t).At-loop-i).requires.uncapped, ((call (goal.at.In-loop-i t).At-loop-i).requires.uncapped_2)))))) in
+    let pre = (call (goal.at.In-loop-i t).At-loop-i).requires in
     let known = pre.known.at t.loop-i.i (inside t) in
     record { placed = pre.sound.placed; place_lt_places = rw (origin_is c) known }
 
@@ -65,7 +65,7 @@ pub returns-then-marking-tokens : goal.returns-then-marking-tokens
 returns-then-marking-tokens c =
     let read = c in
     let t = turn_of (origin_of (goal.at.returns-then-marking-tokens read).After-marking) in
-    let pre = ((call (goal.at.In-loop-i t).At-loop-i).requires.sound, ((call (goal.at.In-loop-i t).At-loop-i).requires.sound_2, ((call (goal.at.In-loop-i t).At-loop-i).requires.kind_value, ((call (goal.at.In-loop-i t).At-loop-i).requires.known, ((call (goal.at.In-loop-i t).At-loop-i).requires.uncapped, ((call (goal.at.In-loop-i t).At-loop-i).requires.uncapped_2)))))) in
+    let pre = (call (goal.at.In-loop-i t).At-loop-i).requires in
     origin_is (origin_of (goal.at.returns-then-marking-tokens read).After-marking)
     ∙ other-found _ _ (pre.sound_2.place_origins pre.kind_value) pre.known t.loop-i.i (inside t) t.loop-i.invariant.1
     (tokens-decide _ _ pre.uncapped pre.uncapped_2 _ _ ∙ ne_eqb _ _ (λ e. c.if-marking-tokens.true (read.marking.ensures.0 ∙ e ∙ sym (tokens_are (goal.at.returns-then-marking-tokens read).After-marking))))
@@ -74,7 +74,7 @@ pub loop-i-preserved : goal.loop-i-preserved
 loop-i-preserved c =
     let read = c in
     let t = turn_of (origin_of (goal.at.loop-i-preserved read).After-marking) in
-    let pre = ((call (goal.at.In-loop-i t).At-loop-i).requires.sound, ((call (goal.at.In-loop-i t).At-loop-i).requires.sound_2, ((call (goal.at.In-loop-i t).At-loop-i).requires.kind_value, ((call (goal.at.In-loop-i t).At-loop-i).requires.known, ((call (goal.at.In-loop-i t).At-loop-i).requires.uncapped, ((call (goal.at.In-loop-i t).At-loop-i).requires.uncapped_2)))))) in
+    let pre = (call (goal.at.In-loop-i t).At-loop-i).requires in
     let same = tokens-decide _ _ pre.uncapped pre.uncapped_2 _ _ ∙ eq-eqb _ _ (sym read.marking.ensures.0 ∙ c.if-marking-tokens.false ∙ tokens_are (goal.at.loop-i-preserved read).After-marking) in
     (omega (arith, t.loop-i-test.true), below_more _ _ t.loop-i.invariant.1 (record { same = same }))
 
@@ -82,6 +82,6 @@ pub returns : goal.returns
 returns c =
     let s = call (goal.at.returns c).At-loop-i in
     let a = s.args in
-    let pre = (s.requires.sound, (s.requires.sound_2, (s.requires.kind_value, (s.requires.known, (s.requires.uncapped, (s.requires.uncapped_2)))))) in
+    let pre = s.requires in
     let long = length-words a.slice.now a.hs.originstart a.hs.places in
     other_none _ _ (pre.sound_2.place_origins pre.kind_value) pre.known (λ k l. c.loop-i.invariant.1 k (omega (arith, c.loop-i-test.false)))

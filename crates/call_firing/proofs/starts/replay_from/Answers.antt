@@ -48,5 +48,5 @@ returns c =
     let on = c in
     let r = ready (goal.at.returns on).Else-broken-ne0 in
     let o = opened-from r (λ i. omega (arith, (whole_of (goal.at.returns on).After-refusal-broken).type_inv.file i)) in
-    let x = (c.replay.ensures.answer, (c.replay.ensures.marking)) in
+    let x = c.replay.ensures in
     record { answer = on_answer _ _ _ _ r _ (read_answer _ _ o _ _ _ x.answer); marking = on_marking _ _ _ _ r _ (read-marking _ _ o _ _ _ x.marking) }

@@ -21,7 +21,7 @@ unfolding Bytes
 returns-then-places-cut_places c =
     let passed = c in
     let cut = cut_of (goal.at.returns-then-places-cut_places passed).Else-refusal-ne0 in
-    let s = (cut.nesfoal_safety-refusal.ensures.answer, (cut.nesfoal_safety-refusal.ensures.buffer, (cut.nesfoal_safety-refusal.ensures.long, (cut.nesfoal_safety-refusal.ensures.places, (cut.nesfoal_safety-refusal.ensures.transitions, (cut.nesfoal_safety-refusal.ensures.smallest)))))) in
+    let s = cut.nesfoal_safety-refusal.ensures in
     let a = (bytes_of cut).args in
     λ even same p t. says_no (fewer-places_bytes a.plan.now a.q.now a.buffer.now a.criterion.now (λ i. omega (arith, (bytes_of cut).type_inv.plan i)) even same (sym s.answer ∙ passed.if-refusal-ne0.false)
     a.slice.now (omega (arith, p, s.places, c.if-places-cut_places)))
@@ -31,7 +31,7 @@ unfolding Bytes
 returns-then-transitions-cut_transitions c =
     let passed = c in
     let cut = cut_of (goal.at.returns-then-transitions-cut_transitions passed).Else-refusal-ne0 in
-    let s = (cut.nesfoal_safety-refusal.ensures.answer, (cut.nesfoal_safety-refusal.ensures.buffer, (cut.nesfoal_safety-refusal.ensures.long, (cut.nesfoal_safety-refusal.ensures.places, (cut.nesfoal_safety-refusal.ensures.transitions, (cut.nesfoal_safety-refusal.ensures.smallest)))))) in
+    let s = cut.nesfoal_safety-refusal.ensures in
     let a = (bytes_of cut).args in
     λ even same p t. says_no (fewer-transitions_bytes a.plan.now a.q.now a.buffer.now a.criterion.now (λ i. omega (arith, (bytes_of cut).type_inv.plan i)) even same (sym s.answer ∙ passed.if-refusal-ne0.false)
     a.slice.now (omega (arith, t, s.transitions, c.if-transitions-cut_transitions)))

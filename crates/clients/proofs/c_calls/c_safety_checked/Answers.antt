@@ -33,6 +33,6 @@ unfolding Bytes
 returns c =
     let passed = c in
     let cut = cut_of (goal.at.returns passed).Else-refusal-ne0 in
-    let s = (cut.nesfoal_safety-refusal.ensures.answer, (cut.nesfoal_safety-refusal.ensures.buffer, (cut.nesfoal_safety-refusal.ensures.long, (cut.nesfoal_safety-refusal.ensures.places, (cut.nesfoal_safety-refusal.ensures.transitions, (cut.nesfoal_safety-refusal.ensures.smallest)))))) in
+    let s = cut.nesfoal_safety-refusal.ensures in
     let a = (bytes_of cut).args in
     λ even same. own-checked a.plan.now a.q.now a.buffer.now a.criterion.now (λ i. omega (arith, (bytes_of cut).type_inv.plan i)) even same (sym s.answer ∙ passed.if-refusal-ne0.false) _ s.buffer s.long c.nesfoal_check.ensures.answer

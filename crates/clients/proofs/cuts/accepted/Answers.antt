@@ -15,12 +15,12 @@ counted c = (goal.at.After-transitions_of c).After-places_of
 
 pub returns-then-places-places_of : goal.returns-then-places-places_of
 returns-then-places-places_of c =
-    let s = ((cut_of (goal.at.returns-then-places-places_of c).After-places_of).safety-c.ensures.answer, ((cut_of (goal.at.returns-then-places-places_of c).After-places_of).safety-c.ensures.buffer, ((cut_of (goal.at.returns-then-places-places_of c).After-places_of).safety-c.ensures.smallest))) in
+    let s = (cut_of (goal.at.returns-then-places-places_of c).After-places_of).safety-c.ensures in
     λ p t. says_no (fewer-places _ _ _ _ _ s.answer s.smallest (omega (arith, p, c.places_of.ensures, c.if-places-places_of)))
 
 pub returns-then-transitions-transitions_of : goal.returns-then-transitions-transitions_of
 returns-then-transitions-transitions_of c =
-    let s = ((cut_of (counted (goal.at.returns-then-transitions-transitions_of c).After-transitions_of)).safety-c.ensures.answer, ((cut_of (counted (goal.at.returns-then-transitions-transitions_of c).After-transitions_of)).safety-c.ensures.buffer, ((cut_of (counted (goal.at.returns-then-transitions-transitions_of c).After-transitions_of)).safety-c.ensures.smallest))) in
+    let s = (cut_of (counted (goal.at.returns-then-transitions-transitions_of c).After-transitions_of)).safety-c.ensures in
     λ p t. says_no (fewer-transitions _ _ _ _ _ s.answer s.smallest (omega (arith, t, c.transitions_of.ensures, c.if-transitions-transitions_of)))
 
 pub returns : goal.returns

@@ -38,6 +38,6 @@ unfolding Bytes
 returns c =
     let sized = c in
     let cut = cut_of (judged (goal.at.returns sized).After-length_of-end) in
-    let s = (cut.branching-c.ensures.answer, (cut.branching-c.ensures.buffer)) in
+    let s = cut.branching-c.ensures in
     branching-accepted _ _ _ _ (λ i. omega (arith, (bytes_of cut).type_inv.plan i)) s.answer s.buffer (judged (goal.at.returns sized).After-length_of-end).refusal_of-refusal.ensures sized.if-refusal-ne0.false sized.length_of-end.ensures
     c.check-v.ensures.answer c.code.ensures

@@ -35,5 +35,5 @@ slice_bounds-check-end-2 c = simp length-take (omega (arith, fits c))
 pub returns : goal.returns
 returns c =
     let sized = c in
-    let s = ((cut_of (judged (goal.at.returns sized).After-length_of-end)).safety-c.ensures.answer, ((cut_of (judged (goal.at.returns sized).After-length_of-end)).safety-c.ensures.buffer, ((cut_of (judged (goal.at.returns sized).After-length_of-end)).safety-c.ensures.smallest))) in
+    let s = (cut_of (judged (goal.at.returns sized).After-length_of-end)).safety-c.ensures in
     safety-accepted _ _ _ _ s.answer s.smallest (judged (goal.at.returns sized).After-length_of-end).refusal_of-refusal.ensures sized.if-refusal-ne0.false sized.length_of-end.ensures c.check-v.ensures.answer c.code.ensures

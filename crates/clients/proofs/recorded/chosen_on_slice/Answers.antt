@@ -37,5 +37,5 @@ pub returns : goal.returns
 returns c =
     let again = c in
     let sized = again in
-    let s = ((cut_of (goal.at.returns sized).After-length_of-end).run_cut-c.ensures.answer, ((cut_of (goal.at.returns sized).After-length_of-end).run_cut-c.ensures.buffer, ((cut_of (goal.at.returns sized).After-length_of-end).run_cut-c.ensures.positions, ((cut_of (goal.at.returns sized).After-length_of-end).run_cut-c.ensures.feeds)))) in
+    let s = (cut_of (goal.at.returns sized).After-length_of-end).run_cut-c.ensures in
     ended-above _ _ _ _ _ _ _ (told_back _ _ _ _ _ _ _ s.answer s.feeds) _ _ _ (sized.length_of-end.ensures ∙ ap (λ (r : RunAnswer). r.length) s.answer) again.replay.ensures.answer again.replay.ensures.marking

@@ -32,5 +32,5 @@ pub returns : goal.returns
 returns c =
     let again = c in
     let counted = again in
-    let s = ((shadowed (goal.at.returns counted).After-count_of-end).shadow-s.ensures.answer, ((shadowed (goal.at.returns counted).After-count_of-end).shadow-s.ensures.marking, ((shadowed (goal.at.returns counted).After-count_of-end).shadow-s.ensures.output, ((shadowed (goal.at.returns counted).After-count_of-end).shadow-s.ensures.followed)))) in
+    let s = (shadowed (goal.at.returns counted).After-count_of-end).shadow-s.ensures in
     λ Q a z h. shadow-ended _ _ _ _ _ _ _ _ _ Q s.answer s.followed counted.count_of-end.ensures a z h again.replay.ensures.answer again.replay.ensures.marking

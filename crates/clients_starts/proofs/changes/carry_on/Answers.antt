@@ -17,7 +17,7 @@ carried_in c = (goal.at.Else-refused-ne0 c).After-transfer-refused
 
 pub returns-then-refused-ne0 : goal.returns-then-refused-ne0
 returns-then-refused-ne0 c =
-    let a = (c.transfer-refused.ensures.answer, (c.transfer-refused.ensures.marking, (c.transfer-refused.ensures.carried))) in
+    let a = c.transfer-refused.ensures in
     record { refused = λ _. a.answer; continues = λ none long. absurd (c.if-refused-ne0.true (a.answer ∙ none)) }
 
 pub returns : goal.returns
@@ -25,7 +25,7 @@ returns c =
     let replayed = c in
     let on = not_refused (goal.at.returns replayed).After-replay_from in
     let carried = carried_in on in
-    let a = (carried.transfer-refused.ensures.answer, (carried.transfer-refused.ensures.marking, (carried.transfer-refused.ensures.carried))) in
+    let a = carried.transfer-refused.ensures in
     let known = lent carried in
     let s = known.args in
     record { refused = λ some. absurd (some (sym a.answer ∙ on.if-refused-ne0.false)); continues = λ none long. continues s.old.now s.new.now s.running.now s.table.now s.start.now none long s.list.now s.marking.now (λ i. omega (arith, known.type_inv.new i)) a.marking (a.carried on.if-refused-ne0.false) replayed.replay_from.ensures.answer replayed.replay_from.ensures.marking }

@@ -17,5 +17,5 @@ returns c =
     let first = begun (goal.at.returns done).After-branching_from in
     let known = lent first in
     let s = known.args in
-    let x = (done.branching_from.ensures.answer, (done.branching_from.ensures.buffer, (done.branching_from.ensures.exact))) in
+    let x = done.branching_from.ensures in
     record { answer = λ long. (own-branching s.plan.now s.own.now (λ i. omega (arith, known.type_inv.plan i)) long first.replay.ensures.marking s.criterion.now s.buffer.now x.answer x.buffer).0; buffer = λ long. (own-branching s.plan.now s.own.now (λ i. omega (arith, known.type_inv.plan i)) long first.replay.ensures.marking s.criterion.now s.buffer.now x.answer x.buffer).1 }

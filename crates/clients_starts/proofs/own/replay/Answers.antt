@@ -17,5 +17,5 @@ returns c =
     let first = begun (goal.at.returns done).After-replay_from in
     let known = lent first in
     let s = known.args in
-    let x = (done.replay_from.ensures.answer, (done.replay_from.ensures.marking)) in
+    let x = done.replay_from.ensures in
     record { answer = λ long. (own-replay s.file.now s.own.now (λ i. omega (arith, known.type_inv.file i)) long first.replay.ensures.marking s.list.now s.marking.now x.answer x.marking).0; marking = λ long. (own-replay s.file.now s.own.now (λ i. omega (arith, known.type_inv.file i)) long first.replay.ensures.marking s.list.now s.marking.now x.answer x.marking).1 }

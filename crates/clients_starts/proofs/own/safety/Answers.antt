@@ -17,5 +17,5 @@ returns c =
     let first = begun (goal.at.returns done).After-safety_from in
     let known = lent first in
     let s = known.args in
-    let x = (done.safety_from.ensures.answer, (done.safety_from.ensures.buffer, (done.safety_from.ensures.smallest))) in
+    let x = done.safety_from.ensures in
     record { answer = λ long. (own-safety s.plan.now s.own.now (λ i. omega (arith, known.type_inv.plan i)) long first.replay.ensures.marking s.criterion.now s.buffer.now x.answer x.buffer).0; buffer = λ long. (own-safety s.plan.now s.own.now (λ i. omega (arith, known.type_inv.plan i)) long first.replay.ensures.marking s.criterion.now s.buffer.now x.answer x.buffer).1 }

@@ -18,7 +18,7 @@ before_second c = (goal.at.After-replay_from c).Else-not-fired
 
 pub returns-then-not-fired : goal.returns-then-not-fired
 returns-then-not-fired c =
-    let a = ((tested (goal.at.returns-then-not-fired c).After-fired).replay-begun.ensures.answer, ((tested (goal.at.returns-then-not-fired c).After-fired).replay-begun.ensures.marking)) in
+    let a = (tested (goal.at.returns-then-not-fired c).After-fired).replay-begun.ensures in
     record { stopped = λ _. a.answer; whole = λ all fits few. stopped _ c.if-not-fired.true-raw c.fired.ensures a.answer all }
 
 pub returns : goal.returns
@@ -28,6 +28,6 @@ returns c =
     let first = tested (goal.at.Else-not-fired on).After-fired in
     let known = call first in
     let s = known.args in
-    let a = (first.replay-begun.ensures.answer, (first.replay-begun.ensures.marking)) in
+    let a = first.replay-begun.ensures in
     let all = went_on _ on.if-not-fired.false-raw on.fired.ensures a.answer in
     record { stopped = λ not-all. differ (sym not-all ∙ all); whole = λ yes fits few. two_parts s.file.now s.first.now s.second.now s.middle.now s.marking.now (λ i. omega (arith, known.type_inv.file i)) yes a.marking fits few second.replay_from.ensures.answer second.replay_from.ensures.marking }

@@ -5,7 +5,7 @@ use Rattle.nesfoal.proofs.cuts.nesfoal_branching_from.Goals as goal
 
 pub returns : goal.returns
 returns c =
-    let s = (c.branching_from-c.ensures.answer, (c.branching_from-c.ensures.buffer, (c.branching_from-c.ensures.exact))) in
+    let s = c.branching_from-c.ensures in
     let e = s.answer in
     let r = c.refusal.ensures ∙ ap (λ (a : CutAnswer). a.refusal) e in
     let n = c.length_of.ensures ∙ ap (λ (a : CutAnswer). a.length) e in

@@ -5,7 +5,7 @@ use Rattle.nesfoal.proofs.cuts.nesfoal_safety.Goals as goal
 
 pub returns : goal.returns
 returns c =
-    let s = (c.safety-c.ensures.answer, (c.safety-c.ensures.buffer, (c.safety-c.ensures.smallest))) in
+    let s = c.safety-c.ensures in
     let e = s.answer in
     let r = c.refusal.ensures ∙ ap (λ (a : CutAnswer). a.refusal) e in
     let n = c.length_of.ensures ∙ ap (λ (a : CutAnswer). a.length) e in

@@ -5,7 +5,7 @@ use Rattle.nesfoal.proofs.cuts.nesfoal_safety_from.Goals as goal
 
 pub returns : goal.returns
 returns c =
-    let s = (c.safety_from-c.ensures.answer, (c.safety_from-c.ensures.buffer, (c.safety_from-c.ensures.smallest))) in
+    let s = c.safety_from-c.ensures in
     let e = s.answer in
     let r = c.refusal.ensures ∙ ap (λ (a : CutAnswer). a.refusal) e in
     let n = c.length_of.ensures ∙ ap (λ (a : CutAnswer). a.length) e in

@@ -5,7 +5,7 @@ use Rattle.nesfoal.proofs.plans.nesfoal_from_pnml.Goals as goal
 
 pub returns : goal.returns
 returns c =
-    let s = (c.convert-f.ensures.answer, (c.convert-f.ensures.buffer, (c.convert-f.ensures.named))) in
+    let s = c.convert-f.ensures in
     let e = s.answer in
     let r = c.refusal.ensures ∙ ap (λ (a : FileAnswer). a.refusal) e in
     let n = c.length_of.ensures ∙ ap (λ (a : FileAnswer). a.length) e in

@@ -5,7 +5,7 @@ use Rattle.nesfoal.proofs.plans.nesfoal_normal.Goals as goal
 
 pub returns : goal.returns
 returns c =
-    let s = (c.normal-f.ensures.answer, (c.normal-f.ensures.buffer, (c.normal-f.ensures.form))) in
+    let s = c.normal-f.ensures in
     let e = s.answer in
     let r = c.refusal.ensures ∙ ap (λ (a : FileAnswer). a.refusal) e in
     let n = c.length_of.ensures ∙ ap (λ (a : FileAnswer). a.length) e in

@@ -5,6 +5,6 @@ use Rattle.nesfoal.proofs.ranges.nesfoal_range.Goals as goal
 
 pub returns : goal.returns
 returns c =
-    let e = (c.range-a.ensures.answer, (c.range-a.ensures.need, (c.range-a.ensures.range))) in
+    let e = c.range-a.ensures in
     let r = c.code.ensures ∙ ap range_code e.answer in
     record { answer = r; need = e.need; range = range-for_c _ _ _ _ r e.need }

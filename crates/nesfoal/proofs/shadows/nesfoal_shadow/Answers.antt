@@ -22,7 +22,7 @@ pub returns : goal.returns
 returns c =
     let done = called (indexed c) in
     let a = (call done).args in
-    let e = (done.shadow-s.ensures.answer, (done.shadow-s.ensures.marking, (done.shadow-s.ensures.output, (done.shadow-s.ensures.followed)))) in
+    let e = done.shadow-s.ensures in
     let out = done.shadow-s.new.out in
     let code = c.code.ensures ∙ ap (λ (x : ShadowAnswer). replay_code x.run) e.answer in
     let index = (indexed c).index_of.ensures ∙ ap (λ (x : ShadowAnswer). x.run.index) e.answer in

@@ -11,7 +11,7 @@ known c = (goal.at.After-kept-kept c).After-shared_slice_known-1
 
 pub kept-kept-requires : goal.kept-kept-requires
 kept-kept-requires c =
-    let pre = (c.requires.startable, (c.requires.criterion_value)) in
+    let pre = c.requires in
     record { sound = pre.startable.opened.good; criterion_value = pre.criterion_value }
 
 pub write-requires : goal.write-requires

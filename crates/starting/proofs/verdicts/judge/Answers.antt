@@ -10,7 +10,7 @@ use Rattle.starting.proofs.verdicts.judge.Goals as goal
 
 pub whole_outcome-found-requires : goal.whole_outcome-found-requires
 whole_outcome-found-requires c =
-    let pre = (c.requires.startable, (c.requires.opened, (c.requires.criterion_value))) in
+    let pre = c.requires in
     let q = pre.opened in
     record { judged = record { planned = pre.startable.opened.good; sliced = q.good; kind = eqb-true _ 1 (not-false _ q.kind); criterion = pre.criterion_value }; start_len = entries pre.startable }
 

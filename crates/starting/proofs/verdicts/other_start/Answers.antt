@@ -53,7 +53,7 @@ loop-i-init c = (omega arith, λ k l. absurd (omega arith))
 
 pub get16-origin-requires : goal.get16-origin-requires
 get16-origin-requires c =
-    let pre = ((call (goal.at.get16-origin-requires c).At-loop-i).requires.placed, ((call (goal.at.get16-origin-requires c).At-loop-i).requires.sound, ((call (goal.at.get16-origin-requires c).At-loop-i).requires.kind_value, ((call (goal.at.get16-origin-requires c).At-loop-i).requires.known, ((call (goal.at.get16-origin-requires c).At-loop-i).requires.start_len))))) in
+    let pre = (call (goal.at.get16-origin-requires c).At-loop-i).requires in
     let w = (place-origins _ _ pre.sound pre.kind_value).fit in
     omega (arith, c.loop-i-test.true)
 
@@ -66,14 +66,14 @@ pub alike-requires : goal.alike-requires
 alike-requires c =
     let read = c in
     let t = turn_of (goal.at.alike-requires read).After-get16-origin in
-    let pre = ((call (goal.at.In-loop-i t).At-loop-i).requires.placed, ((call (goal.at.In-loop-i t).At-loop-i).requires.sound, ((call (goal.at.In-loop-i t).At-loop-i).requires.kind_value, ((call (goal.at.In-loop-i t).At-loop-i).requires.known, ((call (goal.at.In-loop-i t).At-loop-i).requires.start_len))))) in
+    let pre = (call (goal.at.In-loop-i t).At-loop-i).requires in
     record { placed = pre.placed; placed_2 = pre.sound.placed; p_lt_places = (known (goal.at.alike-requires read).After-get16-origin, t.loop-i-test.true) }
 
 pub returns-then-not-alike : goal.returns-then-not-alike
 returns-then-not-alike c =
     let same = c in
     let t = turn_of (read_of (goal.at.returns-then-not-alike same).After-alike) in
-    let pre = ((call (goal.at.In-loop-i t).At-loop-i).requires.placed, ((call (goal.at.In-loop-i t).At-loop-i).requires.sound, ((call (goal.at.In-loop-i t).At-loop-i).requires.kind_value, ((call (goal.at.In-loop-i t).At-loop-i).requires.known, ((call (goal.at.In-loop-i t).At-loop-i).requires.start_len))))) in
+    let pre = (call (goal.at.In-loop-i t).At-loop-i).requires in
     origin_is (read_of (goal.at.returns-then-not-alike same).After-alike)
     ∙ other-found _ _ (pre.sound.place_origins pre.kind_value) pre.known t.loop-i.i (inside t) t.loop-i.invariant.1
     (sym (compared (goal.at.returns-then-not-alike same).After-alike) ∙ not-true _ c.if-not-alike.true-raw)
@@ -88,6 +88,6 @@ pub returns : goal.returns
 returns c =
     let s = call (goal.at.returns c).At-loop-i in
     let a = s.args in
-    let pre = (s.requires.placed, (s.requires.sound, (s.requires.kind_value, (s.requires.known, (s.requires.start_len))))) in
+    let pre = s.requires in
     let long = length-words a.slice.now a.hs.originstart a.hs.places in
     other_none _ _ (pre.sound.place_origins pre.kind_value) pre.known (λ k l. c.loop-i.invariant.1 k (omega (arith, c.loop-i-test.false)))
