@@ -1,3 +1,4 @@
+use mir.Syntax.{w32}
 use mathlib.Core.Path.{◌∙◌}
 use mir.Facts.{to_z-of_z}
 use native.Mathlib.Omega.{arith}
@@ -30,6 +31,6 @@ weight-output-requires c =
 pub returns : goal.returns
 returns c =
     let found = c in
-    to_z-of_z (record { sfits = c.difference.type_inv })
+    to_z-of_z {w = w32} (record { sfits = c.difference.type_inv })
     ∙ c.difference.ensures
     ∙ effect_is _ _ (call (goal.at.returns found).After-next_from-c).requires.0 _ _ _ _ found.first_from-a.ensures found.next_from-b.ensures found.next_from-c.ensures _ _ _ c.weight-input.ensures.0 c.weight-output.ensures.0

@@ -26,10 +26,10 @@ abbrev transitions_at : Else-p-hp → After-unknown_transition-j
 transitions_at c = (goal.at.Else-p-hp c).After-unknown_transition-j
 
 abbrev places_at : Else-p-hp → After-unknown_place-i
-places_at c = (transitions_at c)
+places_at c = (goal.at.After-unknown_transition-j (transitions_at c)).After-unknown_place-i
 
 abbrev start : Else-p-hp → Start
-start c = (places_at c)
+start c = (goal.at.After-unknown_place-i (places_at c)).Start
 
 first_three : (c : Else-p-hp) → OthersDecide (start c)
 first_three c =

@@ -5,7 +5,7 @@ use Rattle.file.specs.Layout.{net_from}
 use Rattle.cut_search.specs.Search.{draws_both}
 use Rattle.cut_search.proofs.Turns.{Halfway, halfway_followed, halfway_none, turned, nexts-of, lowers, raises, row_at}
 use Rattle.cut_search.proofs.follow_rows.Goals as goal
-use Rattle.cut_search.proofs.follow_rows.Goals.{Joined-draws_both, Start}
+use Rattle.cut_search.proofs.follow_rows.Goals.{then-draws_both, else-draws_both, Joined-draws_both, Start}
 
 abbrev call : Joined-draws_both → Start
 call c = (goal.at.Joined-draws_both c).Start
@@ -21,10 +21,10 @@ halfway : (c : Joined-draws_both) → let s = call c in
 halfway c =
     let s = call c in
     let is = sym c.draws_both.ensures in
-    ⊎_elim
-    (λ w. halfway_followed _ s.args.h _ _ _ _ _ (is ∙ w.0.taken) _ _ _ _ _ _ (w.4.ensures 0 s.args.p (omega arith) (lowers _ s.args.h _ _ s.requires.1 _ s.requires.2)) w.5 w.6 w.7)
-    (λ w. halfway_none _ s.args.h _ _ _ _ _ (is ∙ w.0.left) s.requires.4 _ _ _ w.1 w.2 w.3)
-    c.if-draws_both.branch
+    elim c.if-draws_both.branch [
+      | then-draws_both w ↦ halfway_followed _ s.args.h _ _ _ _ _ (is ∙ w.if-draws_both.true) _ _ _ _ _ _ (w.follow-m.ensures 0 s.args.p (omega arith) (lowers _ s.args.h _ _ s.requires.1 _ s.requires.2)) w.m-is w.places-is w.transitions-is
+      | else-draws_both w ↦ halfway_none _ s.args.h _ _ _ _ _ (is ∙ w.if-draws_both.false) s.requires.4 _ _ _ w.m-is w.places-is w.transitions-is
+    ]
 
 pub follow-requires : goal.follow-requires
 follow-requires c =

@@ -62,7 +62,7 @@ abbrev Done : Type 0
 Done = After-wrapping_add_u64-value
 
 abbrev turn : Done → At-loop-j
-turn c = (placed_of (signed_of c))
+turn c = (goal.at.After-entry-p (placed_of (signed_of c))).At-loop-j
 
 moved_on : (c : Done) (h : Header) → let t = turn c in let s = call t in let v = c.wrapping_add_u64-value.result in
     Movable s.args.file.now h s.args.from s.args.to s.args.marking.now → MovesOf s.args.file.now h s.args.places.now s.args.changes.now

@@ -3,7 +3,7 @@ use Rattle.file_header.specs.declared.Header.{Header}
 use Rattle.replay_fast.specs.Moves.{MovesOf, Movable}
 use Rattle.replay_fast.proofs.Moving.{change-is, place_inside, shifting_none, shifting_end, Holding, holding_none, holding_long, holding_still, holding_other, holding_more}
 use Rattle.replay_fast.proofs.shift_joined.Goals as goal
-use Rattle.replay_fast.proofs.shift_joined.Goals.{After-entry-p, After-entry-q, After-wrapping_add_u64-value, At-loop-j, Else-to-from, Joined-q-p, Start}
+use Rattle.replay_fast.proofs.shift_joined.Goals.{then-q-p, else-q-p, After-entry-p, After-entry-q, After-wrapping_add_u64-value, At-loop-j, Else-to-from, Joined-q-p, Start}
 
 -- The marking is that of `shift`, with the entry in hand put at its place.
 
@@ -53,8 +53,10 @@ met : (c : Joined-q-p) → let x = c in let s = call (goal.at.Joined-q-p x).At-l
 met c =
     let e = c in
     let inv = e.loop-j.invariant in
-    ⊎_elim (λ w. (w.3, λ h can mv. holding_other (inv.1 h can mv) (each (goal.at.Joined-q-p e).After-entry-q).0 w.2 w.3 w.4)) (λ w. (w.2 ∙ sym w.0.left, λ h can mv. holding_still (inv.1 h can mv) w.1 w.2 w.3))
-    c.if-q-p.branch
+    elim c.if-q-p.branch [
+      | then-q-p w ↦ (w.p-is, λ h can mv. holding_other (inv.1 h can mv) (each (goal.at.Joined-q-p e).After-entry-q).0 w.marking-is w.p-is w.value-is)
+      | else-q-p w ↦ (w.p-is ∙ sym w.if-q-p.false, λ h can mv. holding_still (inv.1 h can mv) w.marking-is w.p-is w.value-is)
+    ]
 
 -- ---- no arc
 

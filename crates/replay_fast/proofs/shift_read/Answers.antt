@@ -6,7 +6,7 @@ use Rattle.replay_fast.specs.Moves.{Movable}
 use Rattle.replay_fast.proofs.Moving.{place_inside, arc-inside, Shifting, shifting_none, shifting_end}
 use Rattle.replay_fast.proofs.Reading.{outputs-after, shifting_takes, shifting_gives_at}
 use Rattle.replay_fast.proofs.shift_read.Goals as goal
-use Rattle.replay_fast.proofs.shift_read.Goals.{After-arc-a, After-arc-a-in-loop-j-2, At-loop-j, At-loop-j-2, Left-loop-j, Start}
+use Rattle.replay_fast.proofs.shift_read.Goals.{else-loop-j-test, then-loop-j-test+then-a-ne0, After-arc-a, After-arc-a-in-loop-j-2, At-loop-j, At-loop-j-2, Left-loop-j, Start}
 
 -- First loop: the inputs before j are taken. Second loop: from j on there are outputs only.
 
@@ -29,9 +29,10 @@ outputs : (c : Left-loop-j) → let s = call (goal.at.Left-loop-j c).At-loop-j i
 outputs c k a b =
     let x = c.loop-j in
     let can = (call (goal.at.Left-loop-j c).At-loop-j).requires in
-    ⊎_elim (λ w. absurd (omega (arith, w.left, a, b)))
-    (λ w. outputs-after can x.j x.invariant.1.moving.rising w.0.taken (λ z. w.3.taken (ap (λ (d : Arc). d.direction) w.1.ensures.0 ∙ z)) k a b)
-    c.loop-j-test.branch
+    elim c.loop-j-test.branch [
+      | else-loop-j-test w ↦ absurd (omega (arith, w.loop-j-test.false, a, b))
+      | then-loop-j-test+then-a-ne0 w ↦ outputs-after can x.j x.invariant.1.moving.rising w.loop-j-test.true (λ z. w.if-a-ne0.true (ap (λ (d : Arc). d.direction) w.arc-a.ensures.0 ∙ z)) k a b
+    ]
 
 -- what is so at output j
 giving : (c : Output) → let x = c in let s = call (goal.at.At-loop-j-2 x).At-loop-j in Shifting s.args.file.now s.args.h.arcstart s.args.from c.loop-j-2.j s.args.marking.now c.loop-j-2.marking x.loop-j.all

@@ -10,7 +10,7 @@ abbrev bytes_of : After-limit_capped → After-shared_slice_known-1
 bytes_of c = (goal.at.After-limit_capped c).After-shared_slice_known-1
 
 abbrev call : After-limit_capped → Start
-call c = (bytes_of c)
+call c = (goal.at.After-shared_slice_known-1 (bytes_of c)).Start
 
 pub limit_capped-requires : goal.limit_capped-requires
 limit_capped-requires c =

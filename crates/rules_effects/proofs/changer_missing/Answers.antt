@@ -16,7 +16,7 @@ bytes_of c =
     lent
 
 abbrev call : After-unlimited → Start
-call c = (bytes_of c)
+call c = (goal.at.After-shared_slice_known-1 (bytes_of c)).Start
 
 abbrev cleared : After-limit_criterion → After-unlimited
 cleared c = (goal.at.After-limit_criterion c).After-unlimited

@@ -10,7 +10,7 @@ abbrev bytes_of : After-limit_kept → After-shared_slice_known-1
 bytes_of c = (goal.at.After-limit_kept c).After-shared_slice_known-1
 
 abbrev call : After-limit_kept → Start
-call c = (bytes_of c)
+call c = (goal.at.After-shared_slice_known-1 (bytes_of c)).Start
 
 pub limit_kept-requires : goal.limit_kept-requires
 limit_kept-requires c =

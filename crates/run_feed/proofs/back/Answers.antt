@@ -32,7 +32,7 @@ abbrev first_of : After-last-1 → After-first-1
 first_of c = (goal.at.After-last-1 c).After-first-1
 
 abbrev taken_of : After-last-1 → Taken
-taken_of c = (first_of c)
+taken_of c = (goal.at.After-first-1 (first_of c)).After-take_up-end
 
 -- each firing has an entry
 has_entries : (s : Start) (i : ℕ) → i < length s.args.list.now → get_or s.args.list.now i 0 < length s.args.first.now

@@ -18,7 +18,7 @@ abbrev known : In-Whole → After-shared_slice_known-1
 known c = (goal.at.In-Whole c).After-shared_slice_known-1
 
 abbrev call : In-Whole → Start
-call c = (known c)
+call c = (goal.at.After-shared_slice_known-1 (known c)).Start
 
 abbrev plan_of : In-Whole-second → In-Whole
 plan_of c = (goal.at.In-Whole-second c).In-Whole

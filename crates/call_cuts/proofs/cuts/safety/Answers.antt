@@ -14,7 +14,7 @@ abbrev bytes_of : After-read-whole → After-shared_slice_known-1
 bytes_of c = (goal.at.After-read-whole c).After-shared_slice_known-1
 
 abbrev call : After-read-whole → Start
-call c = (bytes_of c)
+call c = (goal.at.After-shared_slice_known-1 (bytes_of c)).Start
 
 abbrev read_of : In-Whole → After-read-whole
 read_of c = (goal.at.In-Whole c).After-read-whole

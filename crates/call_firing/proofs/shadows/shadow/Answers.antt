@@ -13,7 +13,7 @@ abbrev plan_known : After-read-first → After-shared_slice_known-1
 plan_known c = (goal.at.After-read-first c).After-shared_slice_known-1
 
 abbrev call : After-read-first → Start
-call c = (plan_known c)
+call c = (goal.at.After-shared_slice_known-1 (plan_known c)).Start
 
 abbrev read_of : In-Whole → After-read-first
 read_of c = (goal.at.In-Whole c).After-read-first
