@@ -41,14 +41,18 @@ carry_in-requires c =
     let t = e in
     let s = call (goal.at.carry_in-requires t).Else-table_wrong in
     let long = length-take-le {A = ℕ} s.args.h.places (replicate 1024 0) (omega (arith, s.requires.sound.placed.places, length-replicate {A = ℕ} 1024 0)) in
-    record { sound = s.requires.sound; sums_len = long; passed = record {
-          long = (known (goal.at.carry_in-requires t).Else-table_wrong).1 ∙ sym (known (goal.at.carry_in-requires t).Else-table_wrong).0;
-          few = omega (arith, (known (goal.at.carry_in-requires t).Else-table_wrong).1, s.requires.bound);
-          small = omega (arith, long, s.requires.sound.placed.places);
-          placed = subst⁻¹ (λ (P : ℕ). any (names_no_place P) s.args.table.now ≡ false) long (known (goal.at.carry_in-requires t).Else-table_wrong).2;
-          targets = sym e.stranded.ensures ∙ e.if-stranded.false;
-          zeros = zeros-taken s.args.h.places 1024;
-        } }
+    record {
+      sound = s.requires.sound;
+      sums_len = long;
+      passed = record {
+        long = (known (goal.at.carry_in-requires t).Else-table_wrong).1 ∙ sym (known (goal.at.carry_in-requires t).Else-table_wrong).0;
+        few = omega (arith, (known (goal.at.carry_in-requires t).Else-table_wrong).1, s.requires.bound);
+        small = omega (arith, long, s.requires.sound.placed.places);
+        placed = subst⁻¹ (λ (P : ℕ). any (names_no_place P) s.args.table.now ≡ false) long (known (goal.at.carry_in-requires t).Else-table_wrong).2;
+        targets = sym e.stranded.ensures ∙ e.if-stranded.false;
+        zeros = zeros-taken s.args.h.places 1024;
+      };
+    }
 
 pub returns : goal.returns
 returns c =

@@ -72,5 +72,8 @@ returns c =
     let m = made (within (goal.at.returns e).Else-overfull) in
     let s = call m in
     let N = net_from s.args.new.now s.args.h in
-    record { value = sums-pass _ _ _ _ (none_over (goal.at.returns e).Else-overfull) e.if-marking-places.false; marking_after = written-whole 0 s.args.h.places _ _ s.args.marking.now refl refl (length-tokens N _)
-          (copied.copy.ensures ∙ sums-are N s.args.running.now s.args.table.now 0 s.requires.sums_len m.add_up.ensures (not-false _ (within (goal.at.returns e).Else-overfull).if-not-add_up.false-raw)) }
+    record {
+      value = sums-pass _ _ _ _ (none_over (goal.at.returns e).Else-overfull) e.if-marking-places.false;
+      marking_after = written-whole 0 s.args.h.places _ _ s.args.marking.now refl refl (length-tokens N _)
+          (copied.copy.ensures ∙ sums-are N s.args.running.now s.args.table.now 0 s.requires.sums_len m.add_up.ensures (not-false _ (within (goal.at.returns e).Else-overfull).if-not-add_up.false-raw));
+    }

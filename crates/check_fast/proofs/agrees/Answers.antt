@@ -66,7 +66,7 @@ number-requires-2 c =
 
 pub all_kept-requires : goal.all_kept-requires
 all_kept-requires c =
-    let p = places_of (numbered c) in
+    let p = places_of (goal.at.all_kept-requires c).After-number-2 in
     let pre = (call p).requires in
     criterion-reached _ _ _ _ _ pre.sound pre.sound_2 pre.kind_value pre.criterion_value _ _ pre.blank _ p.number.ensures
 

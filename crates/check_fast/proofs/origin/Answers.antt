@@ -29,5 +29,8 @@ pub returns : goal.returns
 returns c =
     let read = c in
     let s = start (goal.at.returns read).After-word-w in
-    record { value = λ l. c.get16.ensures.0 ∙ sym (words-at s.args.slice.now (s.args.hs.originstart + 2 * s.args.hs.places) s.args.hs.transitions (read.word-w.result % 65536) (known (goal.at.returns read).After-word-w))
-          ∙ ap (λ (a : Arc). get_or (slice_from s.args.slice.now s.args.hs).transition_origins a.transition 0) read.word-w.ensures.arc; value_2 = λ l. absurd (omega (arith, read.if-hs-k.false)) }
+    record {
+      value = λ l. c.get16.ensures.0 ∙ sym (words-at s.args.slice.now (s.args.hs.originstart + 2 * s.args.hs.places) s.args.hs.transitions (read.word-w.result % 65536) (known (goal.at.returns read).After-word-w))
+          ∙ ap (λ (a : Arc). get_or (slice_from s.args.slice.now s.args.hs).transition_origins a.transition 0) read.word-w.ensures.arc;
+      value_2 = λ l. absurd (omega (arith, read.if-hs-k.false));
+    }

@@ -26,7 +26,8 @@ links_outcome-requires c =
     let own = numbered.fill_own.ensures in
     let made = (starts_at numbered).starts.ensures in
     let pre = (start (goal.at.After-starts (starts_at numbered)).After-starts-arg-1).requires in
-    record { cases = record {
+    record {
+      cases = record {
         planned = pre.judged.planned;
         sliced = pre.judged.sliced;
         starts = record { long = omega (arith, made.0, pre.room.starts); split = made.1 };
@@ -34,4 +35,10 @@ links_outcome-requires c =
         transitions = own.transitions;
         places_reached = omega (arith, own.long-p, pre.room.places);
         transitions_reached = omega (arith, own.long-t, pre.room.transitions);
-      }; transitions_in_bounds = pre.room.runs-start; criterion_value = pre.judged.criterion; resting = pre.resting; limit_len = pre.limit_len; agreed = pre.agreed }
+      };
+      transitions_in_bounds = pre.room.runs-start;
+      criterion_value = pre.judged.criterion;
+      resting = pre.resting;
+      limit_len = pre.limit_len;
+      agreed = pre.agreed;
+    }

@@ -11,8 +11,12 @@ small_agrees-requires c =
     let a = ltb 16 start.args.hp.transitions in
     let b = ltb 16 start.args.hs.transitions in
     let few = fails (a || b) c.if-hp-hs.false in
-    record { judged = start.requires.judged; known_in = start.requires.known_in; within = record {
-          places = first.if-hp-gt-SMALL.false;
-          transitions = ltb-false 16 _ (is_false a (λ t. few (or_left a b t)));
-          own = ltb-false 16 _ (is_false b (λ t. few (or_right a b t)));
-        } }
+    record {
+      judged = start.requires.judged;
+      known_in = start.requires.known_in;
+      within = record {
+        places = first.if-hp-gt-SMALL.false;
+        transitions = ltb-false 16 _ (is_false a (λ t. few (or_left a b t)));
+        own = ltb-false 16 _ (is_false b (λ t. few (or_right a b t)));
+      };
+    }

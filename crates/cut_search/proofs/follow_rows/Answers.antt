@@ -22,8 +22,8 @@ halfway c =
     let s = call c in
     let is = sym c.draws_both.ensures in
     elim c.if-draws_both.branch [
-      | then-draws_both w ↦ halfway_followed _ s.args.h _ _ _ _ _ (is ∙ w.if-draws_both.true) _ _ _ _ _ _ (w.follow-m.ensures 0 s.args.p (omega arith) (lowers _ s.args.h _ _ s.requires.1 _ s.requires.2)) w.m-is w.places-is w.transitions-is
-      | else-draws_both w ↦ halfway_none _ s.args.h _ _ _ _ _ (is ∙ w.if-draws_both.false) s.requires.4 _ _ _ w.m-is w.places-is w.transitions-is
+      | then-draws_both w ↦ halfway_followed _ s.args.h _ _ _ _ _ (is ∙ w.if-draws_both.true) _ _ _ _ _ _ (w.follow-m.ensures 0 s.args.p (omega arith) (lowers _ s.args.h _ _ s.requires.1 _ s.requires.2)) w.places-is w.transitions-is w.m-is
+      | else-draws_both w ↦ halfway_none _ s.args.h _ _ _ _ _ (is ∙ w.if-draws_both.false) s.requires.4 _ _ _ w.places-is w.transitions-is w.m-is
     ]
 
 pub follow-requires : goal.follow-requires

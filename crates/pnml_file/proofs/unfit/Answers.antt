@@ -18,8 +18,8 @@ overflow_sub-names c = let g = c.requires in omega (arith, listing_long g)
 pub overflow_sub-names-2 : goal.overflow_sub-names-2
 overflow_sub-names-2 c = let g = c.requires in omega (arith, listing_long g)
 
--- GONE part-marking-off-end : tie.Need-slice-bounds-marking-off-end
--- part-marking-off-end c = let g = c.before.before.before.requires in omega (arith, listing_long g)
+pub slice_bounds-marking_off-end : goal.slice_bounds-marking_off-end
+slice_bounds-marking_off-end c = let g = c.requires in omega (arith, listing_long g)
 
 pub returns : goal.returns
 returns c =

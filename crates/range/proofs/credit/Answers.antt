@@ -16,8 +16,8 @@ inside c =
 pub loop-j-init : goal.loop-j-init
 loop-j-init c = (omega arith, c.requires.rising, credits_none)
 
--- GONE slice-read-less : tie.Need-slice-read-smaller invariant-loop decreases-loop
--- slice-read-less c = omega (arith, inside c.before, c.before.before.before.loop.invariant.2.long)
+pub bounds-need-p : goal.bounds-need-p
+bounds-need-p c = omega (arith, inside (goal.at.bounds-need-p c).After-arc-a, c.loop-j.invariant.2.long)
 
 pub bounds-need-p-in-loop-j : goal.bounds-need-p-in-loop-j
 bounds-need-p-in-loop-j c = let a = c in omega (arith, inside (goal.at.bounds-need-p-in-loop-j a).After-arc-a, a.loop-j.invariant.2.long)

@@ -42,6 +42,9 @@ returns c =
     let s = call clear in
     let Q = s.args.criterion.now in
     let in-limit : (p : ℕ) → p < s.args.hp.places → p < length clear.unlimited.new.limit = λ p l. omega (arith, s.requires.resting.reached, s.requires.limit_len, clear.unlimited.kept.0) in
-    record { value = first-changer _ _ _ _ _ _ _ s.requires.cases (λ i. omega (arith, (bytes_of clear).type_inv.plan i)) _ Q s.requires.criterion_value
+    record {
+      value = first-changer _ _ _ _ _ _ _ s.requires.cases (λ i. omega (arith, (bytes_of clear).type_inv.plan i)) _ Q s.requires.criterion_value
           (λ p l. limited.limit_criterion.ensures p (in-limit p l) ∙ ap (limit_on (among p Q) 0) (clear.unlimited.ensures p (in-limit p l)))
-          _ found.value; resting_2 = found.resting_2 }
+          _ found.value;
+      resting_2 = found.resting_2;
+    }

@@ -7,7 +7,12 @@ use Rattle.slice.proofs.write_large.Goals as goal
 pub write_sets-requires : goal.write_sets-requires
 write_sets-requires c =
     let start = c in
-    record { sound = start.requires.sound; within = start.requires.within; places_in_bounds = (omega (arith, start.requires.sound.placed.places, length-replicate {A = ℕ} 1024 0), omega (arith, start.requires.sound.placed.transitions, length-replicate {A = ℕ} 1024 0)); cleared = (
-            record { reach = omega (arith, start.requires.sound.placed.places, length-replicate {A = ℕ} 1024 0); clear = zeros-at 1024 },
-            record { reach = omega (arith, start.requires.sound.placed.transitions, length-replicate {A = ℕ} 1024 0); clear = zeros-at 1024 },
-          ) }
+    record {
+      sound = start.requires.sound;
+      within = start.requires.within;
+      places_in_bounds = (omega (arith, start.requires.sound.placed.places, length-replicate {A = ℕ} 1024 0), omega (arith, start.requires.sound.placed.transitions, length-replicate {A = ℕ} 1024 0));
+      cleared = (
+        record { reach = omega (arith, start.requires.sound.placed.places, length-replicate {A = ℕ} 1024 0); clear = zeros-at 1024 },
+        record { reach = omega (arith, start.requires.sound.placed.transitions, length-replicate {A = ℕ} 1024 0); clear = zeros-at 1024 },
+      );
+    }

@@ -40,9 +40,13 @@ write_if_room-requires c =
     let s = call (places_of (goal.at.write_if_room-requires numbered).After-positions-2) in
     let places = (places_of (goal.at.write_if_room-requires numbered).After-positions-2).positions.ensures in
     let transitions = numbered.positions-2.ensures in
-    record { sound = s.requires.sound; lists = s.requires.lists; tables = record {
-          places-reach = omega (arith, places.0, s.requires.cleared.0.reach);
-          transitions-reach = omega (arith, transitions.0, s.requires.cleared.1.reach);
-          places-own = places.1;
-          transitions-own = transitions.1;
-        } }
+    record {
+      sound = s.requires.sound;
+      lists = s.requires.lists;
+      tables = record {
+        places-reach = omega (arith, places.0, s.requires.cleared.0.reach);
+        transitions-reach = omega (arith, transitions.0, s.requires.cleared.1.reach);
+        places-own = places.1;
+        transitions-own = transitions.1;
+      };
+    }

@@ -7,7 +7,12 @@ use Rattle.slice.proofs.write_small.Goals as goal
 pub write_sets-requires : goal.write_sets-requires
 write_sets-requires c =
     let start = c in
-    record { sound = start.requires.sound; within = start.requires.within; places_in_bounds = (omega (arith, start.requires.places_bound.0, length-replicate {A = ℕ} 16 0), omega (arith, start.requires.places_bound.1, length-replicate {A = ℕ} 16 0)); cleared = (
-            record { reach = omega (arith, start.requires.places_bound.0, length-replicate {A = ℕ} 16 0); clear = zeros-at 16 },
-            record { reach = omega (arith, start.requires.places_bound.1, length-replicate {A = ℕ} 16 0); clear = zeros-at 16 },
-          ) }
+    record {
+      sound = start.requires.sound;
+      within = start.requires.within;
+      places_in_bounds = (omega (arith, start.requires.places_bound.0, length-replicate {A = ℕ} 16 0), omega (arith, start.requires.places_bound.1, length-replicate {A = ℕ} 16 0));
+      cleared = (
+        record { reach = omega (arith, start.requires.places_bound.0, length-replicate {A = ℕ} 16 0); clear = zeros-at 16 },
+        record { reach = omega (arith, start.requires.places_bound.1, length-replicate {A = ℕ} 16 0); clear = zeros-at 16 },
+      );
+    }

@@ -38,14 +38,12 @@ bounds-marking-p c =
     inside (call (goal.at.bounds-marking-p x).At-loop-j).requires.one_way x.loop-j.invariant a.loop-j-test.true _ a.arc-a.ensures.0
 
 -- a group has at least the weight of its first arc, and that is not 0
--- GONE div-here : tie.Need-nonzero-div-here invariant-loop decreases-loop
--- div-here c =
---     let g = c.before.group.ensures in
---     let a = c.before.before in
---     let x = a.before.before in
---     let o = (call x).requires.0 in
---     let l = a.before.loop-test.true in
---     omega (arith, g.1, shared o x.loop.invariant l _ a.arc.ensures.0 g.0, has_weight o x.loop.invariant l _ a.arc.ensures.0)
+pub nonzero_div-here : goal.nonzero_div-here
+nonzero_div-here c =
+    let g = c.group-all.ensures in
+    let o = c.requires.one_way in
+    let l = c.loop-j-test.true in
+    omega (arith, g.1, shared o c.loop-j.invariant l _ c.arc-a.ensures.0 g.0, has_weight o c.loop-j.invariant l _ c.arc-a.ensures.0)
 
 pub loop-j-smaller : goal.loop-j-smaller
 loop-j-smaller c = let g = c in omega (arith, g.loop-j-test.true, g.group-all.ensures.0.after)

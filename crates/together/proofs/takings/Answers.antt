@@ -14,7 +14,7 @@ use Rattle.together.proofs.takings.Goals.{Else-refused-ne0, Start}
 -- ---- the state where nothing is refused
 
 abbrev call : Else-refused-ne0 → Start
-call c = let k = c in k
+call c = (goal.at.Else-refused-ne0 c).Start
 
 passed : (c : Else-refused-ne0) → let s = (call c).args in Passed s.file.now s.h s.transition s.marking.now (take s.h.places s.rest.now)
 passed c =
