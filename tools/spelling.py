@@ -4,8 +4,8 @@
 usage: python3 tools/spelling.py        at the top, once, right after the port's own script
 
 A name that is declared in specs/ or in a lemma file of proofs/ turns everywhere: in .antt files, in the ghost clauses of .rt files and
-in the edits of must-fail/. A dash stays only behind the name of a definition (length-words); any other dash, and any capital inside a
-word, becomes an underscore. A name stays as it is where the new one is taken. What a library has, and what the source has, stays.
+in the edits of must-fail/. In a lemma's name a dash stays behind the name of a definition (length-words); any other dash, and any capital
+inside a word, becomes an underscore. A name stays as it is where the new one is taken. What a library has, and what the source has, stays.
 The table of what turned is printed.
 """
 
@@ -30,6 +30,7 @@ CHOSEN = {
     "onePlace": "one_place_plan",
     "readAt": "wanted_read",
     "stays-linked": "keeps_linked",
+    "transition-origins": "origins_of_transitions",
 }
 
 
@@ -48,13 +49,13 @@ def main():
     rust = sorted(glob.glob("crates/*/src/**/*.rt", recursive=True))
     text = {p: read(p) for p in antt + rust}
     declared, lent, words = set(), set(), collections.defaultdict(set)
-    definitions = set(STD)
+    definitions, fields = set(STD), set()
     for p in own:
         code = code_of(text[p])
         for m in HEAD.finditer(code):
             declared.add(m.group(3))
             if "/specs/" in p:
-                definitions.add(m.group(3))
+                (fields if m.group(1) else definitions).add(m.group(3))
         for m in RECORD.finditer(code):
             definitions.add(m.group(1))
     for p in antt + rust:
@@ -71,6 +72,8 @@ def main():
             return re.sub(r"(?<=[a-z0-9])([A-Z])", lambda m: "_" + m.group(1).lower(), w)
 
         parts = name.split("-")
+        if name in fields and name not in definitions:
+            return "_".join(map(camel, parts))
         out = camel(parts[0])
         seen = parts[0]
         for q in parts[1:]:
@@ -93,10 +96,10 @@ def main():
     for new, olds in sorted(by_new.items()):
         if olds == [new]:
             continue
-        # a definition of specs/ has the name first; a lemma that would have it too gets _lem
+        # a definition of specs/ has the name first; a lemma that would have it too gets _lem, a field _row
         olds.sort(key=lambda n: (n not in in_specs, n != new, n))
         for k, old in enumerate(olds):
-            name = new + "_lem" * k
+            name = new + ("_row" if old in fields else "_lem") * k
             why = None
             if name == old:
                 continue
@@ -120,7 +123,14 @@ def main():
         print(line)
 
     def turn(code):
-        return WORD.sub(lambda m: table.get(m.group(), m.group()), code)
+        def one(m):
+            word = m.group()
+            new = table.get(word, word)
+            # behind a dot stands a field, or a step of a function that a proof cites
+            behind = m.start() and code[m.start() - 1] == "." and code[m.start() - 2 : m.start() - 1] not in ("", " ", "\n")
+            return word if behind and word not in fields else new
+
+        return WORD.sub(one, code)
 
     for p in antt:
         new = turn(text[p])
@@ -147,8 +157,6 @@ def main():
                 f.write(new)
     for p in sorted(glob.glob("crates/*/must-fail/*.edit")):
         t = read(p)
-        if not re.search(r"(?m)^file: (specs|proofs)/", t):
-            continue
         new = turn(t)
         if new != t:
             with open(p, "w", encoding="utf-8") as f:

@@ -1,3 +1,4 @@
+use mir.Syntax.{w32}
 use Prim.Native.Nat.{◌<◌}
 use mir.Facts.{to_z-of_z}
 use mathlib.Core.Path.{refl, sym, ap, ◌∙◌}
@@ -40,7 +41,7 @@ returns-then-flags-eq8 c = λ h.
     let w = word_of (goal.at.returns-then-flags-eq8 a).After-arc_of-a in
     let s = call w in
     settled_raise _ _ _ _ _ _ _ s.requires.ready _ s.requires.j_lt_arcs _ w.word-w.ensures (omega arith) _ a.joined-z.ensures _ a.arc_of-a.ensures.0
-    _ (to_z-of_z (record { sfits = effect.type_inv }) ∙ effect.ensures) c.if-flags-eq8.true (sym c.lowers.ensures ∙ h)
+    _ (to_z-of_z {w = w32} (record { sfits = effect.type_inv }) ∙ effect.ensures) c.if-flags-eq8.true (sym c.lowers.ensures ∙ h)
 
 pub effect-requires-then-flags : goal.effect-requires-then-flags
 effect-requires-then-flags c = let a = c in ((call (word_of (goal.at.effect-requires-then-flags a).After-arc_of-a)).requires.ready.planned, known (goal.at.effect-requires-then-flags a).After-arc_of-a)
@@ -53,7 +54,7 @@ returns-then-flags c = λ h.
     let s = call w in
     let f = nine_ten _ c.if-flags.true in
     settled_change _ _ _ _ _ _ _ s.requires.ready _ s.requires.j_lt_arcs _ w.word-w.ensures (omega arith) _ a.joined-z.ensures _ a.arc_of-a.ensures.0
-    _ (to_z-of_z (record { sfits = effect.type_inv }) ∙ effect.ensures) f.0 f.1 (sym c.balances.ensures ∙ h)
+    _ (to_z-of_z {w = w32} (record { sfits = effect.type_inv }) ∙ effect.ensures) f.0 f.1 (sym c.balances.ensures ∙ h)
 
 pub returns : goal.returns
 returns c = λ e. apart e refl

@@ -4,9 +4,7 @@ use Rattle.check_rules.proofs.lent_outcome.Goals as goal
 use Rattle.check_rules.proofs.lent_outcome.Goals.{After-fill_own, After-links_outcome-arg-1, After-starts, After-starts-arg-1, Start}
 
 abbrev start : After-starts-arg-1 → Start
-start c =
-    let lent = c in
-    lent
+start c = (goal.at.After-starts-arg-1 c).Start
 
 abbrev filled : After-links_outcome-arg-1 → After-fill_own
 filled c = (goal.at.After-links_outcome-arg-1 c).After-fill_own

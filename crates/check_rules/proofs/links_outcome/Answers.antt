@@ -5,9 +5,7 @@ use Rattle.check_rules.proofs.links_outcome.Goals.{After-arcs_breaker-other, Aft
 
 -- from each rule's call back to the one before it, and to the start
 abbrev start : After-slice_known-3-1 → Start
-start c =
-    let lent = c in
-    lent
+start c = (goal.at.After-slice_known-3-1 c).Start
 
 abbrev start_of : After-arcs_breaker-other → Start
 start_of c = start (goal.at.After-arcs_breaker-other c).After-slice_known-3-1

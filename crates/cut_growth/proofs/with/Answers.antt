@@ -1,8 +1,6 @@
 use mathlib.Core.Bool.{or_comm}
-use mathlib.Core.Path.{refl, ◌∙◌, sym}
-use Prim.Native.Nat.{ℕ}
+use mathlib.Core.Path.{refl, ◌∙◌}
 use lib.Dec.{eqb}
-use lib.ListN.{length-map}
 use Rattle.sets.specs.Member.{member}
 use Rattle.cut_growth.proofs.with.Goals as goal
 
@@ -13,5 +11,5 @@ returns c =
       places = λ k. c.with-more.ensures.members k ∙ or_comm (member start.args.kept.places k) (eqb k start.args.p);
       transitions = λ k. refl;
       places-long = c.with-more.ensures.long;
-      transitions-long = sym (length-map start.args.kept.transitions (λ (v : ℕ). v)) ∙ start.well_formed.0.1.1.1.0.1.0.1;
+      transitions-long = start.well_formed.0.1.1.1.0.1.0.1;
     }

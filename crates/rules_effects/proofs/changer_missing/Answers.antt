@@ -11,9 +11,7 @@ use Rattle.rules_effects.proofs.changer_missing.Goals.{After-limit_criterion, Af
 -- ---- the states: the plan's bytes known, the limits cleared, those of the criterion set
 
 abbrev bytes_of : After-unlimited → After-shared_slice_known-1
-bytes_of c =
-    let lent = c in
-    lent
+bytes_of c = (goal.at.After-unlimited c).After-shared_slice_known-1
 
 abbrev call : After-unlimited → Start
 call c = (goal.at.After-shared_slice_known-1 (bytes_of c)).Start
@@ -32,7 +30,7 @@ first_mover-requires c =
     let limited = c in
     let clear = cleared (goal.at.first_mover-requires limited).After-limit_criterion in
     let s = call clear in
-    record { cases = s.requires.cases; resting = s.requires.resting; limit_len = limited.limit_criterion.auto.limit ∙ clear.unlimited.kept.0 ∙ s.requires.limit_len }
+    record { cases = s.requires.cases; resting = s.requires.resting; limit_len = limited.limit_criterion.auto.limit ∙ clear.unlimited.auto.limit ∙ s.requires.limit_len }
 
 pub returns : goal.returns
 returns c =
@@ -41,7 +39,7 @@ returns c =
     let clear = cleared (goal.at.returns limited).After-limit_criterion in
     let s = call clear in
     let Q = s.args.criterion.now in
-    let in-limit : (p : ℕ) → p < s.args.hp.places → p < length clear.unlimited.new.limit = λ p l. omega (arith, s.requires.resting.reached, s.requires.limit_len, clear.unlimited.kept.0) in
+    let in-limit : (p : ℕ) → p < s.args.hp.places → p < length clear.unlimited.new.limit = λ p l. omega (arith, s.requires.resting.reached, s.requires.limit_len, clear.unlimited.auto.limit) in
     record {
       value = first-changer _ _ _ _ _ _ _ s.requires.cases (λ i. omega (arith, (bytes_of clear).type_inv.plan i)) _ Q s.requires.criterion_value
           (λ p l. limited.limit_criterion.ensures p (in-limit p l) ∙ ap (limit_on (among p Q) 0) (clear.unlimited.ensures p (in-limit p l)))

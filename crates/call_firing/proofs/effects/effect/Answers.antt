@@ -1,3 +1,4 @@
+use mir.Syntax.{w32}
 use mathlib.Core.Path.{◌∙◌}
 use mir.Facts.{to_z-of_z}
 use Rattle.file.specs.Facts.{Opened}
@@ -24,4 +25,4 @@ pub effect-by-requires : goal.effect-by-requires
 effect-by-requires c = ((open_at (goal.at.effect-by-requires c).In-Whole).good, c.if-h-t.false)
 
 pub returns : goal.returns
-returns c = effect-by _ _ (open_at (goal.at.returns c).In-Whole) _ _ _ c.if-h-p.false c.if-h-t.false (to_z-of_z (record { sfits = c.effect-by.type_inv }) ∙ c.effect-by.ensures)
+returns c = effect-by _ _ (open_at (goal.at.returns c).In-Whole) _ _ _ c.if-h-p.false c.if-h-t.false (to_z-of_z {w = w32} (record { sfits = c.effect-by.type_inv }) ∙ c.effect-by.ensures)

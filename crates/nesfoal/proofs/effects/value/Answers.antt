@@ -1,3 +1,4 @@
+use mir.Syntax.{w32}
 use mathlib.Core.Path.{◌∙◌, sym, ap}
 use mir.Facts.{to_z-of_z}
 use Rattle.call_firing.specs.Effect.{change_numbers}
@@ -5,7 +6,7 @@ use Rattle.call_firing.specs.declared.effects.Change.{Change}
 use Rattle.nesfoal.proofs.effects.value.Goals as goal
 
 pub returns-in-By : goal.returns-in-By
-returns-in-By c = to_z-of_z (record { sfits = c.known_told-1.given.0.1 }) ∙ sym (ap (λ (x : Change). (change_numbers x).effect) c.in-By.is)
+returns-in-By c = to_z-of_z {w = w32} (record { sfits = c.known_told-1.given.0.1 }) ∙ sym (ap (λ (x : Change). (change_numbers x).effect) c.in-By.is)
 
 pub returns-in-Refused : goal.returns-in-Refused
 returns-in-Refused c = sym (ap (λ (x : Change). (change_numbers x).effect) c.in-Refused.is)

@@ -197,4 +197,4 @@ returns-in-At c =
     ended-rest i (ended-full i.is (listed_at x) done.fire_capped-full.ensures c.in-At.is)
 
 pub shape_of-marking-in-At : goal.shape_of-marking-in-At
-shape_of-marking-in-At c = (returns-3 c).marking.long
+shape_of-marking-in-At c = (returns-in-At c).marking.long
