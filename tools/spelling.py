@@ -130,7 +130,8 @@ def main():
             behind = m.start() and code[m.start() - 1] == "." and code[m.start() - 2 : m.start() - 1] not in ("", " ", "\n")
             return word if behind and word not in fields else new
 
-        return WORD.sub(one, code)
+        code = WORD.sub(one, code)
+        return re.sub(r"`([^`\s]+)`", lambda m: "`" + table.get(m.group(1), m.group(1)) + "`", code)
 
     for p in antt:
         new = turn(text[p])

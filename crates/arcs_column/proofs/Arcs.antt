@@ -13,8 +13,8 @@ use Rattle.file.specs.Facts.{Sound}
 use Rattle.file_header.specs.declared.Header.{Header}
 use Rattle.net.specs.declared.Arc.{Arc}
 use Rattle.arcs_starts.specs.Table.{slot_of, slot_at, Split}
-use Rattle.file_arcs.proofs.Rows.{weight-none, weight-next}
-use Rattle.file.proofs.Rows.{good-at}
+use Rattle.file_arcs.proofs.Rows.{weight_none, weight_next}
+use Rattle.file.proofs.Rows.{good_at}
 use Rattle.arcs_column.specs.Ways.{Joins}
 
 pub record JoinsBelow (d p t : ℕ) (s : List ℕ) (start n : ℕ) : Type 0 where
@@ -38,14 +38,14 @@ joined d p t s start i a is e = go (eqb a.transition t) (eqb a.direction d) (eqb
 
 -- a weight above 0 has an arc
 pub has_arc : (d p t : ℕ) (s : List ℕ) (start n : ℕ) → 0 < weight_on d p t (arcs_from s start n) → JoinsBelow d p t s start n
-has_arc d p t s start zero l = absurd (omega (arith, weight-none d p t s start))
+has_arc d p t s start zero l = absurd (omega (arith, weight_none d p t s start))
 has_arc d p t s start (suc n) l = go (joins d p t (arc_at s (start + 8 * n))) refl (λ h. has_arc d p t s start n h)
   where
     go : (b : Bool) → joins d p t (arc_at s (start + 8 * n)) ≡ b → (0 < weight_on d p t (arcs_from s start n) → JoinsBelow d p t s start n) → JoinsBelow d p t s start (suc n)
     go true e rest = record { at = n; below = omega arith; joins-it = joined d p t s start n (arc_at s (start + 8 * n)) refl e }
     go false e rest =
         let q : counted (joins d p t (arc_at s (start + 8 * n))) (arc_at s (start + 8 * n)).weight ≡ 0 = rw e in
-        let r = rest (omega (arith, weight-next d p t s start n, q)) in
+        let r = rest (omega (arith, weight_next d p t s start n, q)) in
         record { at = r.at; below = let h = r.below in omega arith; joins-it = r.joins-it }
 
 -- an arc adds its weight
@@ -57,19 +57,19 @@ arc-has d p t s start (suc n) i l x = go (ℕ_discrete i n) (λ h. arc-has d p t
     go (yes e) rest =
         let q : counted (joins d p t (arc_at s (start + 8 * i))) (arc_at s (start + 8 * i)).weight ≡ (arc_at s (start + 8 * i)).weight =
         rw (eq-eqb (arc_at s (start + 8 * i)).transition t x.transition, eq-eqb (arc_at s (start + 8 * i)).direction d x.direction, eq-eqb (arc_at s (start + 8 * i)).place p x.place) in
-        omega (arith, weight-next d p t s start n, q, ap (λ (k : ℕ). counted (joins d p t (arc_at s (start + 8 * k))) (arc_at s (start + 8 * k)).weight) e)
-    go (no e) rest = omega (arith, weight-next d p t s start n, rest (omega arith))
+        omega (arith, weight_next d p t s start n, q, ap (λ (k : ℕ). counted (joins d p t (arc_at s (start + 8 * k))) (arc_at s (start + 8 * k)).weight) e)
+    go (no e) rest = omega (arith, weight_next d p t s start n, rest (omega arith))
 
 -- ---- in a file that was read
 
 module _ (s : List ℕ) (h : Header) (sound : Sound s h) where
   -- no arc is at a number past the places
-  pub none-past : (d p t : ℕ) → h.places ≤ p → weight_on d p t (arcs_from s h.arcstart h.arcs) ≡ 0
-  none-past d p t l = go (ℕ_discrete (weight_on d p t (arcs_from s h.arcstart h.arcs)) 0)
+  pub none_past : (d p t : ℕ) → h.places ≤ p → weight_on d p t (arcs_from s h.arcstart h.arcs) ≡ 0
+  none_past d p t l = go (ℕ_discrete (weight_on d p t (arcs_from s h.arcstart h.arcs)) 0)
     where
       go : Dec (weight_on d p t (arcs_from s h.arcstart h.arcs) ≡ 0) → weight_on d p t (arcs_from s h.arcstart h.arcs) ≡ 0
       go (yes e) = e
-      go (no e) = let j = has_arc d p t s h.arcstart h.arcs (omega (arith, e)) in absurd (omega (arith, (good-at s h sound j.at j.below).place, j.joins-it.place))
+      go (no e) = let j = has_arc d p t s h.arcstart h.arcs (omega (arith, e)) in absurd (omega (arith, (good_at s h sound j.at j.below).place, j.joins-it.place))
 
   -- the arcs of t in direction d stand between two starts
   module _ (d t b e : ℕ) (dl : d ≤ 1) (low : Split s h.arcstart h.arcs (2 * t + d) b) (high : Split s h.arcstart h.arcs (2 * t + d + 1) e) where
@@ -93,5 +93,5 @@ module _ (s : List ℕ) (h : Header) (sound : Sound s h) where
     in_joins i l m =
         let u = high.within in
         let x : slot_of (arc_at s (h.arcstart + 8 * i)) ≡ 2 * t + d = omega (arith, low.above i l (omega arith), high.below i m) in
-        let g = (good-at s h sound i (omega arith)).direction in
+        let g = (good_at s h sound i (omega arith)).direction in
         record { transition = omega arith; direction = omega arith; place = refl }

@@ -67,14 +67,14 @@ or_second false y e = e
 
 module _ (s : List ℕ) (start from : ℕ) (limit was : List ℕ) (j : ℕ) (is : List ℕ) (found : Bool) (x : Looked s start from limit was j is found) (l : from ≤ j) (p : ℕ) (e : p ≡ (arc_at s (start + 8 * j)).place) (inside : p < length was) (now : Bool) (n : now ≡ Gain.pulls_at limit is p) where
   -- what is found now, or was before, is what stands at the place at first
-  found-is : Stands was limit found is p → (found || now) ≡ (found || Gain.pulls_at limit was p)
-  found-is (kept q) = ap (λ (b : Bool). found || b) (n ∙ ap (λ (g : ℕ). Gain.pulls (get_or limit p 0) g) q)
-  found-is (seen q h) = ap (λ (b : Bool). found || b) (n ∙ at_rest (get_or limit p 0) (get_or is p 0) q) ∙ or-false found ∙ or_held found (Gain.pulls_at limit was p) h
+  found_is : Stands was limit found is p → (found || now) ≡ (found || Gain.pulls_at limit was p)
+  found_is (kept q) = ap (λ (b : Bool). found || b) (n ∙ ap (λ (g : ℕ). Gain.pulls (get_or limit p 0) g) q)
+  found_is (seen q h) = ap (λ (b : Bool). found || b) (n ∙ at_rest (get_or limit p 0) (get_or is p 0) q) ∙ or-false found ∙ or_held found (Gain.pulls_at limit was p) h
 
   pub looked_more : Looked s start from limit was (j + 1) (set is p 1073741824) (found || now)
   looked_more = record {
     long = length-set is p 1073741824 ∙ x.long;
-    answer = found-is (x.each p) ∙ ap (λ (b : Bool). b || Gain.pulls_at limit was p) x.answer
+    answer = found_is (x.each p) ∙ ap (λ (b : Bool). b || Gain.pulls_at limit was p) x.answer
         ∙ ap (λ (q : ℕ). Gain.pulled_to s start limit was from j || Gain.pulls_at limit was q) e ∙ sym (pulled_next s start from limit was j l);
     here = λ i a b. rest i a b (ℕ_discrete (arc_at s (start + 8 * i)).place p) (ℕ_discrete i j);
     each = λ q. stands q (ℕ_discrete q p) (x.each q);
@@ -91,7 +91,7 @@ module _ (s : List ℕ) (start from : ℕ) (limit was : List ℕ) (j : ℕ) (is 
       stands : (q : ℕ) → Dec (q ≡ p) → Stands was limit found is q → Stands was limit (found || now) (set is p 1073741824) q
       stands q (yes r) h =
           seen (ap (λ (k : ℕ). get_or (set is p 1073741824) k 0) r ∙ get_or-set_same is p 1073741824 0 room)
-          (λ t. found-is (x.each p) ∙ or_second found (Gain.pulls_at limit was p) (sym (ap (Gain.pulls_at limit was) r) ∙ t))
+          (λ t. found_is (x.each p) ∙ or_second found (Gain.pulls_at limit was p) (sym (ap (Gain.pulls_at limit was) r) ∙ t))
       stands q (no r) (kept h) = kept (get_or-set_other is p q 1073741824 0 r ∙ h)
       stands q (no r) (seen h t) = seen (get_or-set_other is p q 1073741824 0 r ∙ h) (λ u. or_first found now (t u))
 

@@ -10,7 +10,7 @@ use lib.Dec.{eqb}
 use Rattle.net.specs.Net.{counted, joins, weight_on}
 use Rattle.net.specs.declared.Arc.{Arc}
 use Rattle.file_arcs.specs.Layout.{arc_at, arcs_from}
-use Rattle.file_arcs.proofs.Rows.{weight-next}
+use Rattle.file_arcs.proofs.Rows.{weight_next}
 
 -- one arc's part in a sum
 abbrev pub share : ℕ → ℕ → ℕ → Arc → ℕ
@@ -31,15 +31,15 @@ share-unless d p t a other = go (eqb a.transition t) (eqb a.direction d) (eqb a.
 
 module _ (d p t : ℕ) (s : List ℕ) where
   module _ (at : ℕ) where
-    pub sum-next : (j : ℕ) → weight_on d p t (arcs_from s at (j + 1)) ≡ weight_on d p t (arcs_from s at j) + share d p t (arc_at s (at + 8 * j))
-    sum-next j = let e : j + 1 ≡ suc j = omega arith in rw e (weight-next d p t s at j)
+    pub sum_next : (j : ℕ) → weight_on d p t (arcs_from s at (j + 1)) ≡ weight_on d p t (arcs_from s at j) + share d p t (arc_at s (at + 8 * j))
+    sum_next j = let e : j + 1 ≡ suc j = omega arith in rw e (weight_next d p t s at j)
 
     sum-same_by : (j k : ℕ) → ((i : ℕ) → j ≤ i → i < j + k → share d p t (arc_at s (at + 8 * i)) ≡ 0)
         → weight_on d p t (arcs_from s at (j + k)) ≡ weight_on d p t (arcs_from s at j)
     sum-same_by j zero none' = rw add-zero
     sum-same_by j (suc k) none' =
         let e : j + suc k ≡ suc (j + k) = omega arith in
-        rw e (omega (arith, weight-next d p t s at (j + k), none' (j + k) (omega arith) (omega arith), sum-same_by j k (λ i l u. none' i l (omega arith))))
+        rw e (omega (arith, weight_next d p t s at (j + k), none' (j + k) (omega arith) (omega arith), sum-same_by j k (λ i l u. none' i l (omega arith))))
 
     -- arcs from j to k that have no part in the sum
     pub sum_same : (j k : ℕ) → j ≤ k → ((i : ℕ) → j ≤ i → i < k → share d p t (arc_at s (at + 8 * i)) ≡ 0)
@@ -52,7 +52,7 @@ module _ (d p t : ℕ) (s : List ℕ) where
     sum-more_by j zero = rw add-zero (omega arith)
     sum-more_by j (suc k) =
         let e : j + suc k ≡ suc (j + k) = omega arith in
-        rw e (omega (arith, weight-next d p t s at (j + k), sum-more_by j k))
+        rw e (omega (arith, weight_next d p t s at (j + k), sum-more_by j k))
 
     -- the sum does not fall
     pub sum_more : (j k : ℕ) → j ≤ k → weight_on d p t (arcs_from s at j) ≤ weight_on d p t (arcs_from s at k)

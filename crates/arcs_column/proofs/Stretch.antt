@@ -13,8 +13,8 @@ use Rattle.file.specs.Facts.{Sound}
 use Rattle.file_header.specs.declared.Header.{Header}
 use Rattle.arcs_starts.specs.Table.{slot_at, Split}
 use Rattle.arcs_column.specs.Ways.{transition_at, sum_on}
-use Rattle.file_arcs.proofs.Rows.{weight-le}
-use Rattle.file.proofs.Rows.{good-at}
+use Rattle.file_arcs.proofs.Rows.{weight_le}
+use Rattle.file.proofs.Rows.{good_at}
 use Rattle.arcs_column.proofs.Ways.{sum-run}
 
 -- the arcs of t stand from b to e
@@ -26,7 +26,7 @@ pub record Stretch (s : List ℕ) (h : Header) (t b e : ℕ) : Type 0 where
 
 module _ {s : List ℕ} {h : Header} {t b e : ℕ} (r : Stretch s h t b e) where
   pub ways : (i : ℕ) → i < h.arcs → (arc_at s (h.arcstart + 8 * i)).direction ≤ 1
-  ways i l = (good-at s h r.sound i l).direction
+  ways i l = (good_at s h r.sound i l).direction
 
   pub rises : b ≤ e
   unfolding slot_at
@@ -52,4 +52,4 @@ module _ {s : List ℕ} {h : Header} {t b e : ℕ} (r : Stretch s h t b e) where
   sums d p = sum-run d p t s h.arcstart h.arcs b e earlier own later rises r.end.within
 
   pub small : (d p : ℕ) → weight_on d p t (net_from s h).arcs ≤ 268431360
-  small d p = omega (arith, weight-le d p t s r.bytes h.arcstart h.arcs, r.sound.placed.arcs)
+  small d p = omega (arith, weight_le d p t s r.bytes h.arcstart h.arcs, r.sound.placed.arcs)

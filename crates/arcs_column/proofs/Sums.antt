@@ -11,9 +11,9 @@ use Rattle.file_arcs.specs.Layout.{arc_at}
 use Rattle.net.specs.declared.Arc.{Arc}
 use Rattle.arcs_column.specs.Gain
 
-pub sum-next : (s : List ℕ) (start p j : ℕ) → Gain.sum_to s start p (j + 1) ≡ Gain.sum_to s start p j + Gain.part p (arc_at s (start + 8 * j))
+pub sum_next : (s : List ℕ) (start p j : ℕ) → Gain.sum_to s start p (j + 1) ≡ Gain.sum_to s start p j + Gain.part p (arc_at s (start + 8 * j))
 unfolding Gain.sum_to
-sum-next s start p j = let e : j + 1 ≡ suc j = omega arith in rw e
+sum_next s start p j = let e : j + 1 ≡ suc j = omega arith in rw e
 
 pub part-here : (a : Arc) (p : ℕ) → a.place ≡ p → Gain.part p a ≡ a.weight
 part-here a p e = rw (eq-eqb a.place p e)
@@ -34,16 +34,16 @@ sum_more s start p j k l = subst (λ (n : ℕ). Gain.sum_to s start p j ≤ Gain
 
 -- one arc more
 module _ (s : List ℕ) (start from j : ℕ) (was is : List ℕ) (a : Arc) (e : a ≡ arc_at s (start + 8 * j)) (inside : a.place < length was) where
-  same-part : (p : ℕ) → Gain.part p (arc_at s (start + 8 * j)) ≡ Gain.part p a
-  same-part p = ap (Gain.part p) (sym e)
+  same_part : (p : ℕ) → Gain.part p (arc_at s (start + 8 * j)) ≡ Gain.part p a
+  same_part p = ap (Gain.part p) (sym e)
 
   -- what arc j wants is there
   pub enough : (to : ℕ) → j < to → Gain.Takes s start from j was is → ((p : ℕ) → Gain.sum_to s start p to ≤ get_or was p 0 + Gain.sum_to s start p from) → a.weight ≤ get_or is a.place 0
   enough to l x room =
-      omega (arith, x.at a.place, room a.place, sum-next s start a.place j, same-part a.place, part-here a a.place refl, sum_more s start a.place (j + 1) to (omega arith))
+      omega (arith, x.at a.place, room a.place, sum_next s start a.place j, same_part a.place, part-here a a.place refl, sum_more s start a.place (j + 1) to (omega arith))
 
-  pub takes-more : Gain.Takes s start from j was is → a.weight ≤ get_or is a.place 0 → Gain.Takes s start from (j + 1) was (set is a.place (get_or is a.place 0 - a.weight))
-  takes-more x h = record {
+  pub takes_more : Gain.Takes s start from j was is → a.weight ≤ get_or is a.place 0 → Gain.Takes s start from (j + 1) was (set is a.place (get_or is a.place 0 - a.weight))
+  takes_more x h = record {
     long = length-set is a.place _ ∙ x.long;
     at = λ p. go p (ℕ_discrete p a.place);
   }
@@ -51,14 +51,14 @@ module _ (s : List ℕ) (start from j : ℕ) (was is : List ℕ) (a : Arc) (e : 
       go : (p : ℕ) → Dec (p ≡ a.place) → get_or (set is a.place (get_or is a.place 0 - a.weight)) p 0 + Gain.sum_to s start p (j + 1) ≡ get_or was p 0 + Gain.sum_to s start p from
       go p (yes q) =
           subst (λ (p : ℕ). get_or (set is a.place (get_or is a.place 0 - a.weight)) p 0 + Gain.sum_to s start p (j + 1) ≡ get_or was p 0 + Gain.sum_to s start p from) (sym q)
-          (omega (arith, h, get_or-set_same is a.place (get_or is a.place 0 - a.weight) 0 (omega (arith, x.long)), x.at a.place, sum-next s start a.place j, same-part a.place, part-here a a.place refl))
+          (omega (arith, h, get_or-set_same is a.place (get_or is a.place 0 - a.weight) 0 (omega (arith, x.long)), x.at a.place, sum_next s start a.place j, same_part a.place, part-here a a.place refl))
       go p (no q) =
-          omega (arith, get_or-set_other is a.place p (get_or is a.place 0 - a.weight) 0 q, x.at p, sum-next s start p j, same-part p, part-other a p (λ r. q (sym r)))
+          omega (arith, get_or-set_other is a.place p (get_or is a.place 0 - a.weight) 0 q, x.at p, sum_next s start p j, same_part p, part-other a p (λ r. q (sym r)))
 
   -- what arc j brings fits, in entries of any width
   pub fits : {limit : ℕ} (to : ℕ) → j < to → Gain.Gives s start from j was is → ((p : ℕ) → get_or was p 0 + Gain.sum_to s start p to < limit + Gain.sum_to s start p from) → get_or is a.place 0 + a.weight < limit
   fits {limit} to l x room =
-      omega (arith, x.at a.place inside, room a.place, sum-next s start a.place j, same-part a.place, part-here a a.place refl, sum_more s start a.place (j + 1) to (omega arith))
+      omega (arith, x.at a.place inside, room a.place, sum_next s start a.place j, same_part a.place, part-here a a.place refl, sum_more s start a.place (j + 1) to (omega arith))
 
   pub gives_more : Gain.Gives s start from j was is → Gain.Gives s start from (j + 1) was (set is a.place (get_or is a.place 0 + a.weight))
   gives_more x = record {
@@ -69,6 +69,6 @@ module _ (s : List ℕ) (start from j : ℕ) (was is : List ℕ) (a : Arc) (e : 
       go : (p : ℕ) → p < length was → Dec (p ≡ a.place) → get_or (set is a.place (get_or is a.place 0 + a.weight)) p 0 + Gain.sum_to s start p from ≡ get_or was p 0 + Gain.sum_to s start p (j + 1)
       go p l (yes q) =
           subst (λ (p : ℕ). get_or (set is a.place (get_or is a.place 0 + a.weight)) p 0 + Gain.sum_to s start p from ≡ get_or was p 0 + Gain.sum_to s start p (j + 1)) (sym q)
-          (omega (arith, get_or-set_same is a.place (get_or is a.place 0 + a.weight) 0 (omega (arith, x.long)), x.at a.place inside, sum-next s start a.place j, same-part a.place, part-here a a.place refl))
+          (omega (arith, get_or-set_same is a.place (get_or is a.place 0 + a.weight) 0 (omega (arith, x.long)), x.at a.place inside, sum_next s start a.place j, same_part a.place, part-here a a.place refl))
       go p l (no q) =
-          omega (arith, get_or-set_other is a.place p (get_or is a.place 0 + a.weight) 0 q, x.at p l, sum-next s start p j, same-part p, part-other a p (λ r. q (sym r)))
+          omega (arith, get_or-set_other is a.place p (get_or is a.place 0 + a.weight) 0 q, x.at p l, sum_next s start p j, same_part p, part-other a p (λ r. q (sym r)))

@@ -11,17 +11,17 @@ use borrow.Author.Tests.{eq-eqb, ne_eqb}
 use Rattle.net.specs.Net.{counted, joins, weight_on}
 use Rattle.net.specs.declared.Arc.{Arc}
 use Rattle.file_arcs.specs.Layout.{arc_at, arcs_from}
-use Rattle.file_arcs.proofs.Rows.{weight-none, weight-next}
+use Rattle.file_arcs.proofs.Rows.{weight_none, weight_next}
 use Rattle.arcs_column.specs.Ways.{transition_at, share, sum_on}
 
 module _ (d : ℕ) (s : List ℕ) (start p : ℕ) where
-  pub sum-next : (j : ℕ) → sum_on d s start p (j + 1) ≡ sum_on d s start p j + share d p (arc_at s (start + 8 * j))
+  pub sum_next : (j : ℕ) → sum_on d s start p (j + 1) ≡ sum_on d s start p j + share d p (arc_at s (start + 8 * j))
   unfolding sum_on
-  sum-next j = ap (sum_on d s start p) (add-one j)
+  sum_next j = ap (sum_on d s start p) (add-one j)
 
   sum_more : (j k : ℕ) → sum_on d s start p j ≤ sum_on d s start p (j + k)
   sum_more j zero = let e : j + 0 ≡ j = omega arith in rw e (omega arith)
-  sum_more j (suc k) = let e : j + suc k ≡ j + k + 1 = omega arith in rw e (omega (arith, sum-next (j + k), sum_more j k))
+  sum_more j (suc k) = let e : j + suc k ≡ j + k + 1 = omega arith in rw e (omega (arith, sum_next (j + k), sum_more j k))
 
   pub sum-rises : (j k : ℕ) → j ≤ k → sum_on d s start p j ≤ sum_on d s start p k
   sum-rises j k l = let e : j + (k - j) ≡ k = omega arith in subst (λ (x : ℕ). sum_on d s start p j ≤ sum_on d s start p x) e (sum_more j (k - j))
@@ -48,7 +48,7 @@ module _ (d : ℕ) (s : List ℕ) (start p j : ℕ) where
   sum-quiet_by zero n = ap (sum_on d s start p) (let e : j + 0 ≡ j = omega arith in e)
   sum-quiet_by (suc k) n =
       let e : j + suc k ≡ j + k + 1 = omega arith in
-      rw e (omega (arith, sum-next d s start p (j + k), share-against (arc_at s (start + 8 * (j + k))) d p (n (j + k) (omega arith) (omega arith)), sum-quiet_by k (λ i l m. n i l (omega arith))))
+      rw e (omega (arith, sum_next d s start p (j + k), share-against (arc_at s (start + 8 * (j + k))) d p (n (j + k) (omega arith) (omega arith)), sum-quiet_by k (λ i l m. n i l (omega arith))))
 
   pub sum-quiet : (k : ℕ) → j ≤ k → ((i : ℕ) → j ≤ i → i < k → (arc_at s (start + 8 * i)).direction ≢ d) → sum_on d s start p k ≡ sum_on d s start p j
   sum-quiet k l n =
@@ -66,21 +66,21 @@ module _ (d p t : ℕ) (s : List ℕ) (start n b e : ℕ) (low : (i : ℕ) → i
   own a h = rw (eq-eqb a.transition t h)
 
   before : (j : ℕ) → j ≤ b → weight_on d p t (arcs_from s start j) ≡ 0
-  before zero l = weight-none d p t s start
-  before (suc j) l = omega (arith, weight-next d p t s start j, before j (omega arith), other (arc_at s (start + 8 * j)) (low j (omega arith)))
+  before zero l = weight_none d p t s start
+  before (suc j) l = omega (arith, weight_next d p t s start j, before j (omega arith), other (arc_at s (start + 8 * j)) (low j (omega arith)))
 
   inside-run : (k : ℕ) → b + k ≤ e → weight_on d p t (arcs_from s start (b + k)) + sum_on d s start p b ≡ sum_on d s start p (b + k)
   unfolding sum_on
   inside-run zero l = let z : b + 0 ≡ b = omega arith in rw z (omega (arith, before b (omega arith)))
   inside-run (suc k) l =
       let z : b + suc k ≡ suc (b + k) = omega arith in
-      rw z (omega (arith, weight-next d p t s start (b + k), inside-run k (omega arith), own (arc_at s (start + 8 * (b + k))) (here (b + k) (omega arith) (omega arith))))
+      rw z (omega (arith, weight_next d p t s start (b + k), inside-run k (omega arith), own (arc_at s (start + 8 * (b + k))) (here (b + k) (omega arith) (omega arith))))
 
   after : (k : ℕ) → e + k ≤ n → weight_on d p t (arcs_from s start (e + k)) ≡ weight_on d p t (arcs_from s start e)
   after zero l = let z : e + 0 ≡ e = omega arith in rw z
   after (suc k) l =
       let z : e + suc k ≡ suc (e + k) = omega arith in
-      rw z (omega (arith, weight-next d p t s start (e + k), after k (omega arith), other (arc_at s (start + 8 * (e + k))) (high (e + k) (omega arith) (omega arith))))
+      rw z (omega (arith, weight_next d p t s start (e + k), after k (omega arith), other (arc_at s (start + 8 * (e + k))) (high (e + k) (omega arith) (omega arith))))
 
   pub sum-run : sum_on d s start p e ≡ sum_on d s start p b + weight_on d p t (arcs_from s start n)
   sum-run =

@@ -19,10 +19,10 @@ use Rattle.file.specs.Facts.{Sound}
 use Rattle.file_header.specs.declared.Header.{Header}
 use Rattle.arcs_starts.specs.Table.{slot_of, slot_at, number_below, Split}
 use Rattle.file_arcs.proofs.Rows.{key-le}
-use Rattle.file.proofs.Rows.{good-at}
-use Rattle.arcs_starts.proofs.Reached.{number-below}
+use Rattle.file.proofs.Rows.{good_at}
+use Rattle.arcs_starts.proofs.Reached.{number_below_lem}
 use Rattle.arcs_column.specs.Gain.{sum_to}
-use Rattle.arcs_column.proofs.Weights.{weight-run, rising}
+use Rattle.arcs_column.proofs.Weights.{weight_run, rising}
 use Rattle.promise.specs.Firing.{before, run_if, run_from, run_start, start_if}
 use Rattle.arcs_effect.specs.Runs.{run_of, start_of, PartOf, Within}
 use Rattle.arcs_effect.specs.declared.Part.{Part}
@@ -58,12 +58,12 @@ module _ (s : List ℕ) (h : Header) (w : Sound s h) (t : ℕ) where
   Cuts k r = Split s h.arcstart h.arcs k r
 
   ways : (i : ℕ) → i < h.arcs → (arc_at s (h.arcstart + 8 * i)).direction ≤ 1
-  ways i l = (good-at s h w i l).direction
+  ways i l = (good_at s h w i l).direction
 
   -- arcs with the same slot are in order by their places
-  places-rise : (k i j : ℕ) → i ≤ j → j < h.arcs → slot_at s h.arcstart i ≡ k → slot_at s h.arcstart j ≡ k → (arc_at s (h.arcstart + 8 * i)).place ≤ (arc_at s (h.arcstart + 8 * j)).place
+  places_rise : (k i j : ℕ) → i ≤ j → j < h.arcs → slot_at s h.arcstart i ≡ k → slot_at s h.arcstart j ≡ k → (arc_at s (h.arcstart + 8 * i)).place ≤ (arc_at s (h.arcstart + 8 * j)).place
   unfolding slot_at
-  places-rise k i j l m e f = omega (arith, e, f, key-le s h.arcstart 0 h.arcs i j w.order l m)
+  places_rise k i j l m e f = omega (arith, e, f, key-le s h.arcstart 0 h.arcs i j w.order l m)
 
   module _ (a b c : ℕ) (low : Cuts (2 * t) a) (middle : Cuts (2 * t + 1) b) (high : Cuts (2 * t + 2) c) where
     low₀ : Cuts (2 * t + 0) a
@@ -81,17 +81,17 @@ module _ (s : List ℕ) (h : Header) (w : Sound s h) (t : ℕ) where
       few = omega (arith, middle.within, w.placed.arcs);
       fit = omega (arith, middle.within, w.placed.arcs_fit, w.placed.origins_fit);
       order = λ i j f l m.
-          places-rise (2 * t) i j l (omega (arith, m, middle.within)) (omega (arith, low.above i f (omega (arith, l, m, middle.within)), middle.below i (omega (arith, l, m))))
+          places_rise (2 * t) i j l (omega (arith, m, middle.within)) (omega (arith, low.above i f (omega (arith, l, m, middle.within)), middle.below i (omega (arith, l, m))))
           (omega (arith, low.above j (omega (arith, f, l)) (omega (arith, m, middle.within)), middle.below j m));
     }
 
-    pub outputs-in : Within s h.arcstart b c
-    outputs-in = record {
+    pub outputs_in : Within s h.arcstart b c
+    outputs_in = record {
       rising = rising 1 0 t s h.arcstart h.arcs b c (omega arith) ways middle high₀;
       few = omega (arith, high.within, w.placed.arcs);
       fit = omega (arith, high.within, w.placed.arcs_fit, w.placed.origins_fit);
       order = λ i j f l m.
-          places-rise (2 * t + 1) i j l (omega (arith, m, high.within)) (omega (arith, middle.above i f (omega (arith, l, m, high.within)), high.below i (omega (arith, l, m))))
+          places_rise (2 * t + 1) i j l (omega (arith, m, high.within)) (omega (arith, middle.above i f (omega (arith, l, m, high.within)), high.below i (omega (arith, l, m))))
           (omega (arith, middle.above j (omega (arith, f, l)) (omega (arith, m, high.within)), high.below j m));
     }
 
@@ -100,8 +100,8 @@ module _ (s : List ℕ) (h : Header) (w : Sound s h) (t : ℕ) where
         → pos o -ℤ pos i ≡ effect (net_from s h) p t
     unfolding effect input output
     effect_is p i o e f =
-        let x : o ≡ weight_on 1 p t (arcs_from s h.arcstart h.arcs) = omega (arith, f, weight-run 1 p t s h.arcstart h.arcs b c (omega arith) ways middle high₀) in
-        let y : i ≡ weight_on 0 p t (arcs_from s h.arcstart h.arcs) = omega (arith, e, weight-run 0 p t s h.arcstart h.arcs a b (omega arith) ways low₀ middle₀) in
+        let x : o ≡ weight_on 1 p t (arcs_from s h.arcstart h.arcs) = omega (arith, f, weight_run 1 p t s h.arcstart h.arcs b c (omega arith) ways middle high₀) in
+        let y : i ≡ weight_on 0 p t (arcs_from s h.arcstart h.arcs) = omega (arith, e, weight_run 0 p t s h.arcstart h.arcs a b (omega arith) ways low₀ middle₀) in
         ap₂ (λ (m n : ℕ). pos m -ℤ pos n) x y
 
   abbrev arcs : List Arc
@@ -122,20 +122,20 @@ module _ (s : List ℕ) (h : Header) (w : Sound s h) (t : ℕ) where
 
   module _ (a e : ℕ) (known : t < h.transitions) (low : Cuts (2 * t) a) (high : Cuts (2 * t + 2) e) where
     starts-at : before t arcs ≡ a
-    starts-at = before-number h.places h.transitions t arcs w.arcs ∙ number-below s h.arcstart h.arcs (2 * t) a low
+    starts-at = before-number h.places h.transitions t arcs w.arcs ∙ number_below_lem s h.arcstart h.arcs (2 * t) a low
 
     many : a + length (arcs_of t arcs) ≡ e
     many =
         omega (
           arith,
-          number-below s h.arcstart h.arcs (2 * t) a low,
-          number-below s h.arcstart h.arcs (2 * t + 2) e high,
+          number_below_lem s h.arcstart h.arcs (2 * t) a low,
+          number_below_lem s h.arcstart h.arcs (2 * t + 2) e high,
           run-number h.places h.transitions t arcs w.arcs,
         )
 
-    is-run : run_of s h t ≡ take (8 * (e - a)) (drop (h.arcstart + 8 * a) s)
+    is_run : run_of s h t ≡ take (8 * (e - a)) (drop (h.arcstart + 8 * a) s)
     unfolding run_of
-    is-run =
+    is_run =
         let n : 8 * length (arcs_of t arcs) ≡ 8 * (e - a) = omega (arith, many) in
         let m : run_start s h t ≡ h.arcstart + 8 * a = omega (arith, starts-at) in
         rw (lt-ltb t h.transitions known, n, m)
@@ -145,7 +145,7 @@ module _ (s : List ℕ) (h : Header) (w : Sound s h) (t : ℕ) where
 
     run_long : length (run_of s h t) ≡ 8 * (e - a)
     run_long =
-        ap length is-run
+        ap length is_run
         ∙ (let f = fitting in omega (arith, length-take (8 * (e - a)) (drop (h.arcstart + 8 * a) s), length-drop (h.arcstart + 8 * a) s))
 
     pub part_none : e ≤ a → PartOf s h t (record { start = 0; length = 0 })
@@ -169,7 +169,7 @@ module _ (s : List ℕ) (h : Header) (w : Sound s h) (t : ℕ) where
     part-some l = record {
       start = sym (some (length (run_of s h t)) (run_start s h t) (omega (arith, run_long)) ∙ (let m : run_start s h t ≡ h.arcstart + 8 * a = omega (arith, starts-at) in m));
       long = sym run_long;
-      part = sym is-run;
+      part = sym is_run;
       fits = fitting;
       short = w.placed.short;
     }

@@ -6,7 +6,7 @@ use native.Mathlib.Omega.{arith}
 use Rattle.file_arcs.specs.Layout.{arc_at}
 use Rattle.net.specs.declared.Arc.{Arc}
 use Rattle.arcs_column.specs.Gain.{sum_to, part}
-use Rattle.arcs_column.proofs.Sums.{sum-next, part-here, part-other}
+use Rattle.arcs_column.proofs.Sums.{sum_next, part-here, part-other}
 use Rattle.arcs_effect.specs.Runs.{Within, FromPlace}
 
 -- the place of arc i
@@ -18,7 +18,7 @@ skip_by : (s : List ℕ) (start p a k : ℕ) → ((i : ℕ) → a ≤ i → i < 
 skip_by s start p a zero h = ap (sum_to s start p) (let e : a + 0 ≡ a = omega arith in e)
 skip_by s start p a (suc k) h =
     let e : a + suc k ≡ a + k + 1 = omega arith in
-    ap (sum_to s start p) e ∙ sum-next s start p (a + k)
+    ap (sum_to s start p) e ∙ sum_next s start p (a + k)
     ∙ (let z = part-other (arc_at s (start + 8 * (a + k))) p (h (a + k) (omega arith) (omega arith)) in
     let r = skip_by s start p a k (λ i l m. h i l (omega (arith, m))) in
     omega (arith, z, r))
@@ -58,7 +58,7 @@ module _ {s : List ℕ} {start from to p sum j : ℕ} (x : Summed s start from t
     after = omega (arith, x.after);
     within = omega (arith, m);
     bound = omega (arith, x.bound, l, m, x.run.few);
-    same = omega (arith, x.same, sum-next s start p j, ap (part p) e, part-here a p q);
+    same = omega (arith, x.same, sum_next s start p j, ap (part p) e, part-here a p q);
   }
 
   -- at a higher place: no arc is left

@@ -14,8 +14,8 @@ use Rattle.file_arcs.specs.Facts.{ArcWord}
 use Rattle.file.specs.Facts.{Sound}
 use Rattle.file_arcs.specs.Refusal.{key}
 use Rattle.file_header.specs.declared.Header.{Header}
-use Rattle.file_arcs.proofs.Rows.{key-le, weight-none, weight-next}
-use Rattle.file.proofs.Rows.{good-at}
+use Rattle.file_arcs.proofs.Rows.{key-le, weight_none, weight_next}
+use Rattle.file.proofs.Rows.{good_at}
 use Rattle.arcs_column.specs.Ways.{place_at, transition_at, direction_at, Joins}
 use Rattle.arcs_column.proofs.Shares.{share-is, share-unless, sum_same}
 use Rattle.arcs_groups.specs.Groups
@@ -23,15 +23,15 @@ use Rattle.arcs_groups.specs.Groups
 -- ---- the test of two arcs, each as one number
 
 module _ (s : List ℕ) (start j i v w : ℕ) (x : ArcWord s (start + 8 * i) v) (y : ArcWord s (start + 8 * j) w) where
-  pub parallel-is : v % 16777216 ≡ w % 16777216 → v / 4294967296 % 65536 ≡ w / 4294967296 % 65536 → Groups.Parallel s start j i
-  parallel-is e f = record {
+  pub parallel_is : v % 16777216 ≡ w % 16777216 → v / 4294967296 % 65536 ≡ w / 4294967296 % 65536 → Groups.Parallel s start j i
+  parallel_is e f = record {
     transition = sym (ap (λ (a : Arc). a.transition) x.arc) ∙ omega arith ∙ ap (λ (a : Arc). a.transition) y.arc;
     direction = sym (ap (λ (a : Arc). a.direction) x.arc) ∙ omega arith ∙ ap (λ (a : Arc). a.direction) y.arc;
     place = sym (ap (λ (a : Arc). a.place) x.arc) ∙ f ∙ ap (λ (a : Arc). a.place) y.arc;
   }
 
-  is-parallel : Groups.Parallel s start j i → (v % 16777216 ≡ w % 16777216) × (v / 4294967296 % 65536 ≡ w / 4294967296 % 65536)
-  is-parallel p =
+  is_parallel : Groups.Parallel s start j i → (v % 16777216 ≡ w % 16777216) × (v / 4294967296 % 65536 ≡ w / 4294967296 % 65536)
+  is_parallel p =
       let t : v % 65536 ≡ w % 65536 = ap (λ (a : Arc). a.transition) x.arc ∙ p.transition ∙ sym (ap (λ (a : Arc). a.transition) y.arc) in
       let d : v / 65536 % 256 ≡ w / 65536 % 256 = ap (λ (a : Arc). a.direction) x.arc ∙ p.direction ∙ sym (ap (λ (a : Arc). a.direction) y.arc) in
       (omega arith, ap (λ (a : Arc). a.place) x.arc ∙ p.place ∙ sym (ap (λ (a : Arc). a.place) y.arc))
@@ -40,13 +40,13 @@ module _ (s : List ℕ) (start j i v w : ℕ) (x : ArcWord s (start + 8 * i) v) 
   test_true e = go (eqb (v % 16777216) (w % 16777216)) (eqb (v / 4294967296 % 65536) (w / 4294967296 % 65536)) refl refl e
     where
       go : (a b : Bool) → eqb (v % 16777216) (w % 16777216) ≡ a → eqb (v / 4294967296 % 65536) (w / 4294967296 % 65536) ≡ b → a && b ≡ true → Groups.Parallel s start j i
-      go true true f g q = parallel-is (eqb-true _ _ f) (eqb-true _ _ g)
+      go true true f g q = parallel_is (eqb-true _ _ f) (eqb-true _ _ g)
       go true false f g q = absurd (let z : ◌≡◌ {A = ℕ} 0 1 = cc in omega arith)
       go false b f g q = absurd (let z : ◌≡◌ {A = ℕ} 0 1 = cc in omega arith)
 
   pub test_false : eqb (v % 16777216) (w % 16777216) && eqb (v / 4294967296 % 65536) (w / 4294967296 % 65536) ≡ false → Groups.Parallel s start j i → ⊥
   test_false e p =
-      let q = is-parallel p in
+      let q = is_parallel p in
       let z : eqb (v % 16777216) (w % 16777216) && eqb (v / 4294967296 % 65536) (w / 4294967296 % 65536) ≡ true = rw (eq-eqb (v % 16777216) (w % 16777216) q.0, eq-eqb (v / 4294967296 % 65536) (w / 4294967296 % 65536) q.1) in
       let o : ◌≡◌ {A = ℕ} 0 1 = cc in omega arith
 
@@ -86,7 +86,7 @@ run-adds_by d p t s start j zero f = let e : j + 0 ≡ j = omega arith in rw e (
 run-adds_by d p t s start j (suc n) f =
     let e : j + suc n ≡ suc (j + n) = omega arith in
     let x = f (j + n) (omega arith) (omega arith) in
-    rw e (omega (arith, weight-next d p t s start (j + n), share-is d p t (arc_at s (start + 8 * (j + n))) x.transition x.direction x.place, run-adds_by d p t s start j n (λ i a b. f i a (omega arith))))
+    rw e (omega (arith, weight_next d p t s start (j + n), share-is d p t (arc_at s (start + 8 * (j + n))) x.transition x.direction x.place, run-adds_by d p t s start j n (λ i a b. f i a (omega arith))))
 
 pub run-adds : (d p t : ℕ) (s : List ℕ) (start j e : ℕ) → j ≤ e → ((i : ℕ) → j ≤ i → i < e → Joins d p t s start i)
     → weight_on d p t (arcs_from s start e) ≡ weight_on d p t (arcs_from s start j) + Groups.run_weight s start j (e - j)
@@ -101,16 +101,16 @@ pub alone : (s : List ℕ) (start j : ℕ) → Groups.Alike s start j (j + 1)
 alone s start j = record { after = omega arith; same = only_one s start j }
 
 -- all that the first e arcs have of a group that ends with them
-pub alike-sum : (s : List ℕ) (start j e : ℕ) → Groups.Alike s start j e → Groups.Opens s start j
+pub alike_sum : (s : List ℕ) (start j e : ℕ) → Groups.Alike s start j e → Groups.Opens s start j
     → weight_on (direction_at s start j) (place_at s start j) (transition_at s start j) (arcs_from s start e) ≡ Groups.run_weight s start j (e - j)
-alike-sum s start j e g opens =
+alike_sum s start j e g opens =
     let d = direction_at s start j in
     let p = place_at s start j in
     let t = transition_at s start j in
     let a = g.after in
     omega (
       arith,
-      weight-none d p t s start,
+      weight_none d p t s start,
       sum_same d p t s start 0 j (omega arith) (λ i u v. share-unless d p t (arc_at s (start + 8 * i)) (λ x y z. opens i v (record { transition = x; direction = y; place = z }))),
       run-adds d p t s start j e (omega arith) g.same,
     )
@@ -121,23 +121,23 @@ alike-sum s start j e g opens =
 same_place : (a b d e p q : ℕ) → 131072 * a + 65536 * d + p ≡ 131072 * b + 65536 * e + q → d ≤ 1 → e ≤ 1 → p < 65536 → q < 65536 → p ≡ q
 same_place a b d e p q l u v w x = omega arith
 
-same-direction : (a b d e p q : ℕ) → 131072 * a + 65536 * d + p ≡ 131072 * b + 65536 * e + q → d ≤ 1 → e ≤ 1 → p < 65536 → q < 65536 → d ≡ e
-same-direction a b d e p q l u v w x = omega arith
+same_direction : (a b d e p q : ℕ) → 131072 * a + 65536 * d + p ≡ 131072 * b + 65536 * e + q → d ≤ 1 → e ≤ 1 → p < 65536 → q < 65536 → d ≡ e
+same_direction a b d e p q l u v w x = omega arith
 
-same-transition : (a b d e p q : ℕ) → 131072 * a + 65536 * d + p ≡ 131072 * b + 65536 * e + q → d ≤ 1 → e ≤ 1 → p < 65536 → q < 65536 → a ≡ b
-same-transition a b d e p q l u v w x = omega arith
+same_transition : (a b d e p q : ℕ) → 131072 * a + 65536 * d + p ≡ 131072 * b + 65536 * e + q → d ≤ 1 → e ≤ 1 → p < 65536 → q < 65536 → a ≡ b
+same_transition a b d e p q l u v w x = omega arith
 
 module _ (s : List ℕ) (h : Header) (sound : Sound s h) where
   by_key : (i j : ℕ) → i < h.arcs → j < h.arcs → key (arc_at s (h.arcstart + 8 * i)) ≡ key (arc_at s (h.arcstart + 8 * j)) → Groups.Parallel s h.arcstart j i
   by_key i j l m e =
-      let a = good-at s h sound i l in
-      let b = good-at s h sound j m in
+      let a = good_at s h sound i l in
+      let b = good_at s h sound j m in
       let c = sound.placed.places in
       let p : place_at s h.arcstart i < 65536 = omega (arith, a.place) in
       let q : place_at s h.arcstart j < 65536 = omega (arith, b.place) in
       record {
-        transition = same-transition _ _ _ _ _ _ e a.direction b.direction p q;
-        direction = same-direction _ _ _ _ _ _ e a.direction b.direction p q;
+        transition = same_transition _ _ _ _ _ _ e a.direction b.direction p q;
+        direction = same_direction _ _ _ _ _ _ e a.direction b.direction p q;
         place = same_place _ _ _ _ _ _ e a.direction b.direction p q;
       }
 
@@ -159,8 +159,8 @@ module _ (s : List ℕ) (h : Header) (sound : Sound s h) where
     none_after k l m x = let a = g.after in g.other (omega arith) (between j e k (omega arith) l (omega arith) x)
 
     -- the next group opens
-    pub opens-next : e < to → Groups.Opens s h.arcstart e
-    opens-next m i l x = go (dec_lt i j)
+    pub opens_next : e < to → Groups.Opens s h.arcstart e
+    opens_next m i l x = go (dec_lt i j)
       where
         turned : (k : ℕ) → Groups.Parallel s h.arcstart e k → Groups.Parallel s h.arcstart k e
         turned k y = record { transition = sym y.transition; direction = sym y.direction; place = sym y.place }
@@ -175,16 +175,16 @@ module _ (s : List ℕ) (h : Header) (sound : Sound s h) where
             g.other m (record { transition = sym x.transition ∙ sym y.transition; direction = sym x.direction ∙ sym y.direction; place = sym x.place ∙ sym y.place })
 
     -- the sum of a group is all that its transition takes or gives there
-    pub group-sum : Groups.Opens s h.arcstart j → (m : ℕ) → e ≤ m → m ≤ to
+    pub group_sum : Groups.Opens s h.arcstart j → (m : ℕ) → e ≤ m → m ≤ to
         → weight_on (direction_at s h.arcstart j) (place_at s h.arcstart j) (transition_at s h.arcstart j) (arcs_from s h.arcstart m) ≡ Groups.run_weight s h.arcstart j (e - j)
-    group-sum opens m l n =
+    group_sum opens m l n =
         let d = direction_at s h.arcstart j in
         let p = place_at s h.arcstart j in
         let t = transition_at s h.arcstart j in
         let a = g.after in
         omega (
           arith,
-          weight-none d p t s h.arcstart,
+          weight_none d p t s h.arcstart,
           sum_same d p t s h.arcstart 0 j (omega arith) (λ i u v. share-unless d p t (arc_at s (h.arcstart + 8 * i)) (λ x y z. opens i v (record { transition = x; direction = y; place = z }))),
           run-adds d p t s h.arcstart j e (omega arith) g.same,
           sum_same d p t s h.arcstart e m l (λ i u v. share-unless d p t (arc_at s (h.arcstart + 8 * i)) (λ x y z. none_after i u (omega arith) (record { transition = x; direction = y; place = z }))),

@@ -42,8 +42,8 @@ pub record Firsts (s : List ℕ) (start n j next : ℕ) (table : List ℕ) : Typ
   pub made : (k : ℕ) → k < next → Split s start n (2 * k) (get_or table k 0)
   pub passed : (i : ℕ) → i < j → (arc_at s (start + 8 * i)).transition < next
 
-pub firsts-none : {s : List ℕ} {start n : ℕ} {table : List ℕ} → Firsts s start n 0 0 table
-firsts-none = record { made = λ k l. absurd (omega arith); passed = λ i l. absurd (omega arith) }
+pub firsts_none : {s : List ℕ} {start n : ℕ} {table : List ℕ} → Firsts s start n 0 0 table
+firsts_none = record { made = λ k l. absurd (omega arith); passed = λ i l. absurd (omega arith) }
 
 module _ {s : List ℕ} {start n T size : ℕ} (t : Tabled s start n T size) (ways : (i : ℕ) → i < n → (arc_at s (start + 8 * i)).direction ≤ 1)
     {j next : ℕ} {was : List ℕ} (x : Firsts s start n j next was) where
@@ -74,13 +74,13 @@ module _ {s : List ℕ} {start n T size : ℕ} (t : Tabled s start n T size) (wa
       passed i m (no q) = omega (arith, x.passed i (omega (arith, m, q)), p.from)
 
   -- and those that are left start at the end
-  pub firsts-end : n ≤ j → {r : ℕ} {is : List ℕ} → PutUp next T n was is r → (k : ℕ) → k ≤ T → Split s start n (2 * k) (get_or is k 0)
+  pub firsts_end : n ≤ j → {r : ℕ} {is : List ℕ} → PutUp next T n was is r → (k : ℕ) → k ≤ T → Split s start n (2 * k) (get_or is k 0)
   unfolding slot_at
-  firsts-end l {r} {is} p k m = made (dec_lt k next)
+  firsts_end l {r} {is} p k m = made (dec_lt k next)
     where
-      at-end : next ≤ k → Split s start n (2 * k) n
-      at-end a = record { within = omega arith; below = λ i u. omega (arith, x.passed i (omega (arith, u, l)), ways i u, a); above = λ i u v. absurd (omega (arith, u, v)) }
+      at_end : next ≤ k → Split s start n (2 * k) n
+      at_end a = record { within = omega arith; below = λ i u. omega (arith, x.passed i (omega (arith, u, l)), ways i u, a); above = λ i u v. absurd (omega (arith, u, v)) }
 
       made : Dec (k < next) → Split s start n (2 * k) (get_or is k 0)
       made (yes a) = subst (Split s start n (2 * k)) (sym (p.kept k a)) (x.made k a)
-      made (no a) = subst (Split s start n (2 * k)) (sym (p.set k (omega (arith, a)) m)) (at-end (omega (arith, a)))
+      made (no a) = subst (Split s start n (2 * k)) (sym (p.set k (omega (arith, a)) m)) (at_end (omega (arith, a)))

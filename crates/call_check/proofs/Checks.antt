@@ -28,18 +28,18 @@ module _ (a b k n : ℕ) (v : Verdict) where
       go zero h = absurd (h refl)
       go (suc m) h = refl
 
-  second-turned : a ≡ 0 → (b ≡ n) × (n ≡ 0 → ⊥) → record { refused = true; code = n; number = 0 } ≡ refused_or (or_else a (or_else b k)) v
-  second-turned e t = rw (e, t.0) (go n t.1)
+  second_turned : a ≡ 0 → (b ≡ n) × (n ≡ 0 → ⊥) → record { refused = true; code = n; number = 0 } ≡ refused_or (or_else a (or_else b k)) v
+  second_turned e t = rw (e, t.0) (go n t.1)
     where
       go : (m : ℕ) → (m ≡ 0 → ⊥) → record { refused = true; code = m; number = 0 } ≡ refused_or (or_else 0 (or_else m k)) v
       go zero h = absurd (h refl)
       go (suc m) h = refl
 
-  third-turned : a ≡ 0 → b ≡ 0 → n ≡ k → (n ≡ 0 → ⊥) → record { refused = true; code = n; number = 0 } ≡ refused_or (or_else a (or_else b k)) v
-  third-turned e f t h = rw (e, f, ← t) (refused n v h)
+  third_turned : a ≡ 0 → b ≡ 0 → n ≡ k → (n ≡ 0 → ⊥) → record { refused = true; code = n; number = 0 } ≡ refused_or (or_else a (or_else b k)) v
+  third_turned e f t h = rw (e, f, ← t) (refused n v h)
 
-  none-turned : a ≡ 0 → b ≡ 0 → k ≡ 0 → told v ≡ refused_or (or_else a (or_else b k)) v
-  none-turned e f t = rw (e, f, t)
+  none_turned : a ≡ 0 → b ≡ 0 → k ≡ 0 → told v ≡ refused_or (or_else a (or_else b k)) v
+  none_turned e f t = rw (e, f, t)
 
 module _ (plan slice Q : List ℕ) where
   pub plan_turned : (n : ℕ) → (file_refusal due.Plan plan ≡ n) × (n ≡ 0 → ⊥) → record { refused = true; code = n; number = 0 } ≡ checked plan slice Q
@@ -53,27 +53,27 @@ module _ (plan slice Q : List ℕ) where
       (first-turned (file_refusal due.Plan plan) (file_refusal due.Slice slice) (criterion_bytes_refusal (net_of plan).places Q) n (verdict (net_of plan) (slice_of slice) (criterion_of Q)) t)
 
   module _ (p : Header) (o : Opened due.Plan plan p) where
-    pub slice-turned : (n : ℕ) → (file_refusal due.Slice slice ≡ n) × (n ≡ 0 → ⊥) → record { refused = true; code = n; number = 0 } ≡ checked plan slice Q
+    pub slice_turned : (n : ℕ) → (file_refusal due.Slice slice ≡ n) × (n ≡ 0 → ⊥) → record { refused = true; code = n; number = 0 } ≡ checked plan slice Q
     unfolding checked check_refusal
-    slice-turned n t = second-turned _ _ _ n _ o.read t
+    slice_turned n t = second_turned _ _ _ n _ o.read t
 
-    pub slice-turned_bytes : (n : ℕ) → (file_refusal due.Slice slice ≡ n) × (n ≡ 0 → ⊥) → n ≡ checked_bytes plan slice Q
+    pub slice_turned_bytes : (n : ℕ) → (file_refusal due.Slice slice ≡ n) × (n ≡ 0 → ⊥) → n ≡ checked_bytes plan slice Q
     unfolding checked_bytes
-    slice-turned_bytes n t = ap (λ (x : Checked). x.code) (second-turned _ _ _ n _ o.read t)
+    slice_turned_bytes n t = ap (λ (x : Checked). x.code) (second_turned _ _ _ n _ o.read t)
 
     module _ (s : Header) (q : Opened due.Slice slice s) where
-      pub slice-kind : s.kind ≡ 1
-      slice-kind = eqb-true s.kind 1 (not-false _ q.kind)
+      pub slice_kind : s.kind ≡ 1
+      slice_kind = eqb-true s.kind 1 (not-false _ q.kind)
 
-      pub criterion-turned : (n : ℕ) → n ≡ criterion_refusal p.places Q → (n ≡ 0 → ⊥) → record { refused = true; code = n; number = 0 } ≡ checked plan slice Q
+      pub criterion_turned : (n : ℕ) → n ≡ criterion_refusal p.places Q → (n ≡ 0 → ⊥) → record { refused = true; code = n; number = 0 } ≡ checked plan slice Q
       unfolding checked check_refusal
-      criterion-turned n t h = third-turned _ _ _ n _ o.read q.read (t ∙ ap (λ (g : Header). criterion_refusal g.places Q) o.same) h
+      criterion_turned n t h = third_turned _ _ _ n _ o.read q.read (t ∙ ap (λ (g : Header). criterion_refusal g.places Q) o.same) h
 
-      pub criterion-turned_bytes : (n : ℕ) → n ≡ criterion_bytes_refusal p.places Q → (n ≡ 0 → ⊥) → n ≡ checked_bytes plan slice Q
+      pub criterion_turned_bytes : (n : ℕ) → n ≡ criterion_bytes_refusal p.places Q → (n ≡ 0 → ⊥) → n ≡ checked_bytes plan slice Q
       unfolding checked_bytes
-      criterion-turned_bytes n t h =
+      criterion_turned_bytes n t h =
           ap (λ (x : Checked). x.code)
-          (third-turned _ _ _ n _ o.read q.read (t ∙ ap (λ (g : Header). criterion_bytes_refusal g.places Q) o.same) h)
+          (third_turned _ _ _ n _ o.read q.read (t ∙ ap (λ (g : Header). criterion_bytes_refusal g.places Q) o.same) h)
 
       whole : (R : List ℕ) → told (verdict (net_from plan p) (slice_from slice s) R) ≡ told (verdict (net_from plan (header_of plan)) (slice_from slice (header_of slice)) R)
       whole R =
@@ -82,10 +82,10 @@ module _ (plan slice Q : List ℕ) where
 
       pub judged : criterion_refusal p.places Q ≡ 0 → told (verdict (net_from plan p) (slice_from slice s) Q) ≡ checked plan slice Q
       unfolding checked check_refusal
-      judged e = whole Q ∙ none-turned _ _ _ 0 _ o.read q.read (ap (λ (g : Header). criterion_refusal g.places Q) (sym o.same) ∙ e)
+      judged e = whole Q ∙ none_turned _ _ _ 0 _ o.read q.read (ap (λ (g : Header). criterion_refusal g.places Q) (sym o.same) ∙ e)
 
       pub judged_bytes : criterion_bytes_refusal p.places Q ≡ 0 → (told (verdict (net_from plan p) (slice_from slice s) (criterion_of Q))).code ≡ checked_bytes plan slice Q
       unfolding checked_bytes
       judged_bytes e =
           ap (λ (x : Checked). x.code)
-          (whole (criterion_of Q) ∙ none-turned _ _ _ 0 _ o.read q.read (ap (λ (g : Header). criterion_bytes_refusal g.places Q) (sym o.same) ∙ e))
+          (whole (criterion_of Q) ∙ none_turned _ _ _ 0 _ o.read q.read (ap (λ (g : Header). criterion_bytes_refusal g.places Q) (sym o.same) ∙ e))

@@ -18,8 +18,8 @@ use Rattle.promise.specs.Calls.{Checked, checked}
 use Rattle.promise.specs.Together.{standing}
 use Rattle.promise.specs.Starts.{starting_at, start_refusal, started_from, started, from_refusal, check_unless, check_from_refusal, checked_from}
 use Rattle.promise.proofs.Started.{started-net}
-use Rattle.promise.proofs.Starts.{demand_3-from}
-use Rattle.inputs_starts.proofs.Calls.{same-file}
+use Rattle.promise.proofs.Starts.{demand_3_from}
+use Rattle.inputs_starts.proofs.Calls.{same_file}
 
 stops : (n : ℕ) (a : Checked) → (n ≡ 0 → ⊥) → record { refused = true; code = n; number = 0 } ≡ check_unless n a
 stops zero a z = absurd (z refl)
@@ -37,7 +37,7 @@ when_accepted plan slice start Q {c} b e a =
     let n = unless_0 (or_else (file_refusal due.Plan plan) (or_else (file_refusal due.Slice slice) (start_refusal (net_of plan) start))) (checked (started plan start) slice Q) z in
     let r = or_else_0 (file_refusal due.Plan plan) (or_else (file_refusal due.Slice slice) (start_refusal (net_of plan) start)) n in
     let o = (or_else_0 (file_refusal due.Slice slice) (start_refusal (net_of plan) start) r.1).1 in
-    subst (λ (N : Net). Guarantee N (slice_of slice) Q) (started-net due.Plan plan b r.0 start o) ((demand_3-from plan start slice Q [] b (rw (r.0, o))).guarantee z)
+    subst (λ (N : Net). Guarantee N (slice_of slice) Q) (started-net due.Plan plan b r.0 start o) ((demand_3_from plan start slice Q [] b (rw (r.0, o))).guarantee z)
 
 module _ (plan slice start Q : List ℕ) where
   pub plan_stops : (n : ℕ) → (file_refusal due.Plan plan ≡ n) × (n ≡ 0 → ⊥) → record { refused = true; code = n; number = 0 } ≡ checked_from plan slice start Q
@@ -49,18 +49,18 @@ module _ (plan slice start Q : List ℕ) where
       first (suc m) z = refl
 
   module _ (p : Header) (o : Opened due.Plan plan p) where
-    pub slice-stops : (n : ℕ) → (file_refusal due.Slice slice ≡ n) × (n ≡ 0 → ⊥) → record { refused = true; code = n; number = 0 } ≡ checked_from plan slice start Q
+    pub slice_stops : (n : ℕ) → (file_refusal due.Slice slice ≡ n) × (n ≡ 0 → ⊥) → record { refused = true; code = n; number = 0 } ≡ checked_from plan slice start Q
     unfolding checked_from check_from_refusal
-    slice-stops n t = rw (o.read, t.0) (second n t.1)
+    slice_stops n t = rw (o.read, t.0) (second n t.1)
       where
         second : (m : ℕ) → (m ≡ 0 → ⊥) → record { refused = true; code = m; number = 0 } ≡ check_unless (or_else 0 (or_else m (start_refusal (net_of plan) start))) (checked (started plan start) slice Q)
         second zero z = absurd (z refl)
         second (suc m) z = refl
 
     module _ (s : Header) (q : Opened due.Slice slice s) where
-      pub start-stops : {n : ℕ} → n ≡ start_refusal (net_from plan p) start → (n ≡ 0 → ⊥) → record { refused = true; code = n; number = 0 } ≡ checked_from plan slice start Q
+      pub start_stops : {n : ℕ} → n ≡ start_refusal (net_from plan p) start → (n ≡ 0 → ⊥) → record { refused = true; code = n; number = 0 } ≡ checked_from plan slice start Q
       unfolding checked_from check_from_refusal
-      start-stops {n} e z =
+      start_stops {n} e z =
           let same : start_refusal (net_of plan) start ≡ n = ap (λ (g : Header). start_refusal (net_from plan g) start) (sym o.same) ∙ sym e in
           rw (o.read, q.read, same) (stops n (checked (started plan start) slice Q) z)
 
@@ -68,7 +68,7 @@ module _ (plan slice start Q : List ℕ) where
       unfolding checked_from check_from_refusal
       goes_on_lem e f =
           let same : start_refusal (net_of plan) start ≡ 0 = ap (λ (g : Header). start_refusal (net_from plan g) start) (sym o.same) ∙ e in
-          rw (o.read, q.read, same) (f ∙ ap (λ (x : List ℕ). checked x slice Q) (same-file start o))
+          rw (o.read, q.read, same) (f ∙ ap (λ (x : List ℕ). checked x slice Q) (same_file start o))
 
   -- both promises, from the first
   pub with-guarantee : {c : Checked} → ((i : ℕ) → byte_at plan i < 256) → c ≡ checked_from plan slice start Q

@@ -78,15 +78,15 @@ module _ (plan Q : List ℕ) (h : Header) (o : Opened due.Plan plan h) where
     module _ (kept : KeptSets) where
       pub safety-within : Kept (growth_of false (net_from plan h) Q) kept → Within kept h
       unfolding safety growth
-      safety-within k = record { places = k.places-below; transitions = k.transitions-below }
+      safety-within k = record { places = k.places_below; transitions = k.transitions_below }
 
       pub branching-within : Kept (growth_of true (net_from plan h) Q) kept → Within kept h
       unfolding branching growth
-      branching-within k = record { places = k.places-below; transitions = k.transitions-below }
+      branching-within k = record { places = k.places_below; transitions = k.transitions_below }
 
-      safety-slice : Kept (growth_of false (net_from plan h) Q) kept → kept_slice plan h kept ≡ cut_of safety plan Q
+      safety_slice : Kept (growth_of false (net_from plan h) Q) kept → kept_slice plan h kept ≡ cut_of safety plan Q
       unfolding kept_slice cut_of cut safety growth
-      safety-slice k = rw (← o.same) (ap₂ (keeping (net_from plan h)) k.places k.transitions)
+      safety_slice k = rw (← o.same) (ap₂ (keeping (net_from plan h)) k.places k.transitions)
 
       branching-slice : Kept (growth_of true (net_from plan h) Q) kept → kept_slice plan h kept ≡ cut_of branching plan Q
       unfolding kept_slice cut_of cut branching growth
@@ -97,15 +97,15 @@ module _ (plan Q : List ℕ) (h : Header) (o : Opened due.Plan plan h) where
         abbrev edition : ℕ
         edition = (header_of plan).edition
 
-        same-edition : (S : Slice) → kept_slice plan h kept ≡ S → Answers edition S entry exit r
-        same-edition S e =
+        same_edition : (S : Slice) → kept_slice plan h kept ≡ S → Answers edition S entry exit r
+        same_edition S e =
             subst (λ (k : Header). Answers k.edition S entry exit r) o.same (subst (λ (K : Slice). Answers h.edition K entry exit r) e a)
 
         pub safety-written : Kept (growth_of false (net_from plan h) Q) kept → (cut_numbers r ≡ safety_answer plan Q (length entry)) × (exit ≡ safety_buffer plan Q entry)
         unfolding safety_answer safety_buffer safety_file
         safety-written k =
             let S = cut_of safety plan Q in
-            let b = same-edition S (safety-slice k) in
+            let b = same_edition S (safety_slice k) in
             let on = goes_on_lem (length entry) (slice_bytes edition S) edition S refl in
             (rw on b.answer, rw on b.buffer)
 
@@ -113,7 +113,7 @@ module _ (plan Q : List ℕ) (h : Header) (o : Opened due.Plan plan h) where
         unfolding branching_answer branching_buffer branching_file
         branching-written k =
             let S = cut_of branching plan Q in
-            let b = same-edition S (branching-slice k) in
+            let b = same_edition S (branching-slice k) in
             let on = goes_on_lem (length entry) (slice_bytes edition S) edition S refl in
             (rw on b.answer, rw on b.buffer)
 

@@ -18,7 +18,7 @@ use Rattle.file_words.proofs.Laws.{or_else_stop}
 use Rattle.promise.specs.Calls.{written}
 use Rattle.promise.specs.Firing.{list_refusal}
 use Rattle.promise.specs.RunCut.{RunAnswer, run_or, run_refusal, run_outcome, run_file, run_chosen, run_answer, run_buffer, run_positions, RunsBack}
-use Rattle.promise.proofs.RunCut.{runs-back-at}
+use Rattle.promise.proofs.RunCut.{runs_back_at}
 use Rattle.run_cut.specs.Told.{run_numbers, answer_to, Answers}
 use Rattle.run_cut.specs.declared.RunCut.{RunCut}
 use Rattle.run_cut.specs.declared.RunCut.TheVariants.{Refused}
@@ -69,4 +69,4 @@ module _ (plan Q list : List ℕ) (h : Header) (o : Opened due.Plan plan h) (non
 pub run-all : (plan Q list entry slots : List ℕ) {exit positions : List ℕ} {a : RunAnswer} → ((i : ℕ) → byte_at plan i < 256) → Told plan Q list entry slots a exit positions
     → (a ≡ run_answer plan Q list (length entry) (length slots)) × ((exit ≡ run_buffer plan Q list entry (length slots)) × ((positions ≡ run_positions plan Q list (length entry) slots) × RunsBack plan Q list a exit positions))
 unfolding Bytes
-run-all plan Q list entry slots b (e, f, g) = (e, (f, (g, runs-back-at plan Q list entry slots b e f g)))
+run-all plan Q list entry slots b (e, f, g) = (e, (f, (g, runs_back_at plan Q list entry slots b e f g)))

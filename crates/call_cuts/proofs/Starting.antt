@@ -14,9 +14,9 @@ use Rattle.promise.specs.Calls.{CutAnswer, cut_refusal, safety_answer, safety_bu
 use Rattle.promise.specs.Exactness.{WritesExact}
 use Rattle.promise.specs.Starts.{net_at, started_from, started, from_refusal, cut_unless, left_unless, safety_from_answer, safety_from_buffer, branching_from_answer, branching_from_buffer, AcceptsFrom}
 use Rattle.promise.specs.Promise.{WritesSmallest}
-use Rattle.promise.proofs.Starts.{writes_smallest_from, writes_exact-from}
+use Rattle.promise.proofs.Starts.{writes_smallest_from, writes_exact_from}
 use Rattle.inputs_starts.specs.Startable.{Startable}
-use Rattle.inputs_starts.proofs.Calls.{by_start, same-file}
+use Rattle.inputs_starts.proofs.Calls.{by_start, same_file}
 use Rattle.sets.specs.declared.KeptSets.{KeptSets}
 use Rattle.cut.specs.Kept.{draws_all, growth_of, Kept}
 use Rattle.cut.specs.declared.Kind.{Kind}
@@ -28,21 +28,21 @@ use Rattle.call_cuts.specs.Kinds.{answer_by, buffer_by}
 use Rattle.call_cuts.proofs.Cutting.{safety-refused, safety-untouched, safety-written, branching-refused, branching-untouched, branching-written}
 
 -- either cut, by its kind
-pub kind-refused : (k : Kind) (plan Q : List ℕ) {n : ℕ} → cut_refusal plan Q ≡ n → n ≢ 0 → (buffer : List ℕ)
+pub kind_refused : (k : Kind) (plan Q : List ℕ) {n : ℕ} → cut_refusal plan Q ≡ n → n ≢ 0 → (buffer : List ℕ)
     → (cut_numbers (Refused n) ≡ answer_by k plan Q (length buffer)) × (buffer ≡ buffer_by k plan Q buffer)
-kind-refused Safety plan Q {n} e z buffer = (safety-refused plan Q n e z (length buffer), safety-untouched plan Q n e z buffer)
-kind-refused Branching plan Q {n} e z buffer = (branching-refused plan Q n e z (length buffer), branching-untouched plan Q n e z buffer)
+kind_refused Safety plan Q {n} e z buffer = (safety-refused plan Q n e z (length buffer), safety-untouched plan Q n e z buffer)
+kind_refused Branching plan Q {n} e z buffer = (branching-refused plan Q n e z (length buffer), branching-untouched plan Q n e z buffer)
 
 module _ (plan Q : List ℕ) (h : Header) (o : Opened due.Plan plan h) (q : criterion_refusal h.places Q ≡ 0) (kept : KeptSets) where
-  pub kind-written : (k : Kind) (entry exit : List ℕ) (r : Cut) → Answers h.edition (kept_slice plan h kept) entry exit r → Kept (growth_of (draws_all k) (net_from plan h) Q) kept
+  pub kind_written : (k : Kind) (entry exit : List ℕ) (r : Cut) → Answers h.edition (kept_slice plan h kept) entry exit r → Kept (growth_of (draws_all k) (net_from plan h) Q) kept
       → (cut_numbers r ≡ answer_by k plan Q (length entry)) × (exit ≡ buffer_by k plan Q entry)
-  kind-written Safety entry exit r = safety-written plan Q h o q kept entry exit r
-  kind-written Branching entry exit r = branching-written plan Q h o q kept entry exit r
+  kind_written Safety entry exit r = safety-written plan Q h o q kept entry exit r
+  kind_written Branching entry exit r = branching-written plan Q h o q kept entry exit r
 
 -- the same of a file by another name
-pub kind-as : (k : Kind) {c c' : List ℕ} (Q entry : List ℕ) {exit : List ℕ} {a : CutAnswer} → c ≡ c'
+pub kind_as : (k : Kind) {c c' : List ℕ} (Q entry : List ℕ) {exit : List ℕ} {a : CutAnswer} → c ≡ c'
     → (a ≡ answer_by k c Q (length entry)) × (exit ≡ buffer_by k c Q entry) → (a ≡ answer_by k c' Q (length entry)) × (exit ≡ buffer_by k c' Q entry)
-kind-as k Q entry e (f, g) = (f ∙ ap (λ (x : List ℕ). answer_by k x Q (length entry)) e, g ∙ ap (λ (x : List ℕ). buffer_by k x Q entry) e)
+kind_as k Q entry e (f, g) = (f ∙ ap (λ (x : List ℕ). answer_by k x Q (length entry)) e, g ∙ ap (λ (x : List ℕ). buffer_by k x Q entry) e)
 
 -- from a start: refused by the plan or the start, or not
 stops : (n : ℕ) (a : CutAnswer) → n ≢ 0 → cut_numbers (Refused n) ≡ cut_unless n a
@@ -53,17 +53,17 @@ stays : (n : ℕ) (exit m : List ℕ) → n ≢ 0 → m ≡ left_unless n exit m
 stays zero exit m z = absurd (z refl)
 stays (suc n) exit m z = refl
 
-pub from-refused : (k : Kind) (plan start Q buffer : List ℕ) {n : ℕ} → from_refusal due.Plan plan start ≡ n → n ≢ 0
+pub from_refused : (k : Kind) (plan start Q buffer : List ℕ) {n : ℕ} → from_refusal due.Plan plan start ≡ n → n ≢ 0
     → (cut_numbers (Refused n) ≡ cut_unless (from_refusal due.Plan plan start) (answer_by k (started plan start) Q (length buffer)))
     × (buffer ≡ left_unless (from_refusal due.Plan plan start) (buffer_by k (started plan start) Q buffer) buffer)
-from-refused k plan start Q buffer {n} e z = (rw e (stops n _ z), rw e (stays n _ buffer z))
+from_refused k plan start Q buffer {n} e z = (rw e (stops n _ z), rw e (stays n _ buffer z))
 
 pub from_on : (k : Kind) (plan : List ℕ) (h : Header) (start Q entry : List ℕ) {exit : List ℕ} {a : CutAnswer} → Startable due.Plan plan h start
     → (a ≡ answer_by k (started_from plan h start) Q (length entry)) × (exit ≡ buffer_by k (started_from plan h start) Q entry)
     → (a ≡ cut_unless (from_refusal due.Plan plan start) (answer_by k (started plan start) Q (length entry)))
     × (exit ≡ left_unless (from_refusal due.Plan plan start) (buffer_by k (started plan start) Q entry) entry)
 from_on k plan h start Q entry r p =
-    let x = kind-as k Q entry (same-file start r.opened) p in
+    let x = kind_as k Q entry (same_file start r.opened) p in
     let none = by_start due.Plan plan h start r.opened (sym r.passes) in
     (rw none x.0, rw none x.1)
 
@@ -78,4 +78,4 @@ pub branching-promised : (plan start Q entry : List ℕ) {exit : List ℕ} {a : 
     → (a ≡ cut_unless (from_refusal due.Plan plan start) (branching_answer (started plan start) Q (length entry))) × (exit ≡ left_unless (from_refusal due.Plan plan start) (branching_buffer (started plan start) Q entry) entry)
     → (a ≡ branching_from_answer plan start Q (length entry)) × ((exit ≡ branching_from_buffer plan start Q entry) × WritesExact (λ S. AcceptsFrom plan start S Q) (net_at plan start) a exit)
 unfolding Bytes branching_from_answer branching_from_buffer
-branching-promised plan start Q entry b (e, f) = (e, (f, writes_exact-from plan start Q entry b e f))
+branching-promised plan start Q entry b (e, f) = (e, (f, writes_exact_from plan start Q entry b e f))

@@ -35,8 +35,8 @@ module _ (plan slice : List ℕ) (inslice : Bool) (t : ℕ) where
       first-0 zero b e = refl
       first-0 (suc a) b e = e
 
-  pub slice-refused : file_refusal due.Plan plan ≡ 0 → file_refusal due.Slice slice ≢ 0 → arc_run plan slice inslice t ≡ []
-  slice-refused p r = refused (λ e. r (ap (λ (n : ℕ). or_else n (file_refusal due.Slice slice)) (sym p) ∙ e))
+  pub slice_refused : file_refusal due.Plan plan ≡ 0 → file_refusal due.Slice slice ≢ 0 → arc_run plan slice inslice t ≡ []
+  slice_refused p r = refused (λ e. r (ap (λ (n : ℕ). or_else n (file_refusal due.Slice slice)) (sym p) ∙ e))
 
   -- a run that is empty starts at 0
   pub no_start : arc_run plan slice inslice t ≡ [] → arc_start plan slice inslice t ≡ 0
@@ -52,13 +52,13 @@ module _ (plan slice : List ℕ) (p s : Header) (o : Opened due.Plan plan p) (q 
   unfolding arc_run run_in run_of
   of_plan = rw (o.read, q.read, ← o.same)
 
-  pub start-of_slice : arc_start plan slice true t ≡ start_of slice s t
+  pub start_of_slice : arc_start plan slice true t ≡ start_of slice s t
   unfolding arc_start start_of
-  start-of_slice = rw (of_slice, ← q.same)
+  start_of_slice = rw (of_slice, ← q.same)
 
-  pub start-of_plan : arc_start plan slice false t ≡ start_of plan p t
+  pub start_of_plan : arc_start plan slice false t ≡ start_of plan p t
   unfolding arc_start start_of
-  start-of_plan = rw (of_plan, ← o.same)
+  start_of_plan = rw (of_plan, ← o.same)
 
 -- a file that was not read is refused
 pub not-read : (kind : Due) (s : List ℕ) {r : Reading} {n : ℕ} → r ≡ reading kind s → r ≡ Refused n → file_refusal kind s ≢ 0

@@ -7,7 +7,7 @@ use Rattle.file_header.specs.declared.Header.{Header}
 use Rattle.promise.specs.Firing.{ReplayAnswer, replay_answer, replay_marking}
 use Rattle.promise.specs.Starts.{started_from, from_refusal, replay_unless, left_unless, replay_from_answer, replay_from_marking}
 use Rattle.inputs_starts.specs.Startable.{Startable}
-use Rattle.inputs_starts.proofs.Calls.{by_start, same-file}
+use Rattle.inputs_starts.proofs.Calls.{by_start, same_file}
 use Rattle.replay.specs.Told.{outcome_numbers}
 use Rattle.replay.specs.declared.Outcome.TheVariants.{Refused}
 
@@ -20,13 +20,13 @@ stays zero exit m z = absurd (z refl)
 stays (suc n) exit m z = refl
 
 module _ (s start list : List ℕ) {n : ℕ} (e : from_refusal Either s start ≡ n) (z : n ≡ 0 → ⊥) where
-  pub from-answer : (room : ℕ) → outcome_numbers (Refused n) ≡ replay_from_answer s start list room
+  pub from_answer : (room : ℕ) → outcome_numbers (Refused n) ≡ replay_from_answer s start list room
   unfolding replay_from_answer
-  from-answer room = rw e (stops n _ z)
+  from_answer room = rw e (stops n _ z)
 
-  pub from-marking : (m : List ℕ) → m ≡ replay_from_marking s start list m
+  pub from_marking : (m : List ℕ) → m ≡ replay_from_marking s start list m
   unfolding replay_from_marking
-  from-marking m = rw e (stays n _ m z)
+  from_marking m = rw e (stays n _ m z)
 
 module _ (s : List ℕ) (h : Header) (start list : List ℕ) (r : Startable Either s h start) where
   none : from_refusal Either s start ≡ 0
@@ -34,8 +34,8 @@ module _ (s : List ℕ) (h : Header) (start list : List ℕ) (r : Startable Eith
 
   pub on_answer : (room : ℕ) {a : ReplayAnswer} → a ≡ replay_answer (started_from s h start) list room → a ≡ replay_from_answer s start list room
   unfolding replay_from_answer
-  on_answer room e = rw none (e ∙ ap (λ (c : List ℕ). replay_answer c list room) (same-file start r.opened))
+  on_answer room e = rw none (e ∙ ap (λ (c : List ℕ). replay_answer c list room) (same_file start r.opened))
 
   pub on_marking : (m : List ℕ) {m' : List ℕ} → m' ≡ replay_marking (started_from s h start) list m → m' ≡ replay_from_marking s start list m
   unfolding replay_from_marking
-  on_marking m e = rw none (e ∙ ap (λ (c : List ℕ). replay_marking c list m) (same-file start r.opened))
+  on_marking m e = rw none (e ∙ ap (λ (c : List ℕ). replay_marking c list m) (same_file start r.opened))

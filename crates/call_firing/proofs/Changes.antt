@@ -19,9 +19,9 @@ refused : (n : ℕ) (v : ℤ) → (n ≡ 0 → ⊥) → change_numbers (Refused 
 refused zero v h = absurd (h refl)
 refused (suc n) v h = refl
 
-pub effect-file : (s : List ℕ) (p t n : ℕ) → (file_refusal Either s ≡ n) × (n ≡ 0 → ⊥) → change_numbers (Refused n) ≡ effect_answer s p t
+pub effect_file : (s : List ℕ) (p t n : ℕ) → (file_refusal Either s ≡ n) × (n ≡ 0 → ⊥) → change_numbers (Refused n) ≡ effect_answer s p t
 unfolding effect_answer effect_refusal
-effect-file s p t n a = rw (a.0, or_else_stop n _ a.1) (refused n _ a.1)
+effect_file s p t n a = rw (a.0, or_else_stop n _ a.1) (refused n _ a.1)
 
 module _ (s : List ℕ) (h : Header) (o : Opened Either s h) (p t : ℕ) where
   pub effect-10 : h.places ≤ p → change_numbers (Refused 10) ≡ effect_answer s p t

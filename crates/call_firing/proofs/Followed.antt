@@ -16,14 +16,14 @@ use Rattle.file_header.specs.declared.Header.{Header}
 use Rattle.file_words.proofs.Laws.{or_else_stop}
 use Rattle.promise.specs.Shadow.{ShadowAnswer, shadow_of, shadow_or, shadow_refusal, shadow_answer, shadow_marking, shadow_output, FollowedIn}
 use Rattle.promise.proofs.Replays.{differ}
-use Rattle.promise.proofs.Shadow.{followed-in}
+use Rattle.promise.proofs.Shadow.{followed_in}
 use Rattle.inputs_lists.proofs.Passing.{kept-refused}
 use Rattle.shadow.specs.Told.{shadow_numbers, Follows}
 use Rattle.shadow.specs.declared.Shadow.{Shadow}
 use Rattle.shadow.specs.declared.Shadow.TheVariants.{Refused}
 
-pub slice-kind : {s : List ℕ} {h : Header} → Opened due.Slice s h → h.kind ≡ 1
-slice-kind {s} {h} o = eqb-true h.kind 1 (not-false (eqb h.kind 1) o.kind)
+pub slice_kind : {s : List ℕ} {h : Header} → Opened due.Slice s h → h.kind ≡ 1
+slice_kind {s} {h} o = eqb-true h.kind 1 (not-false (eqb h.kind 1) o.kind)
 
 -- the three equations of the call
 pub record Answered (plan slice list m m' out out' : List ℕ) (r : Shadow) : Type 0 where
@@ -60,20 +60,20 @@ both_read plan slice p s o q f = record {
 
 -- ---- in an accepted slice
 
-none-refused : (n : ℕ) (a : Answer) (c : ℕ) → (shadow_or n a c).run.refused ≡ false → n ≡ 0
-none-refused zero a c e = refl
-none-refused (suc n) a c e = differ (sym e)
+none_refused : (n : ℕ) (a : Answer) (c : ℕ) → (shadow_or n a c).run.refused ≡ false → n ≡ 0
+none_refused zero a c e = refl
+none_refused (suc n) a c e = differ (sym e)
 
 module _ (plan slice list m out : List ℕ) {m' out' : List ℕ} {r : Shadow} (bytes : Bytes plan) (a : Answered plan slice list m m' out out' r) where
   passes : (shadow_numbers r).run.refused ≡ false → shadow_refusal plan slice list (length m) (length out) ≡ 0
   unfolding shadow_answer
   passes e =
-      none-refused (shadow_refusal plan slice list (length m) (length out)) (replay (net_of plan) list).answer (length (shadow_of (net_of plan) (slice_of slice) list))
+      none_refused (shadow_refusal plan slice list (length m) (length out)) (replay (net_of plan) list).answer (length (shadow_of (net_of plan) (slice_of slice) list))
       (sym (ap (λ (x : ShadowAnswer). x.run.refused) a.answer) ∙ e)
 
   pub followed : (shadow_numbers r).run.refused ≡ false → FollowedIn plan slice (take (shadow_numbers r).count out') m'
   followed e =
-      let f = followed-in plan slice list m out bytes (passes e) in
+      let f = followed_in plan slice list m out bytes (passes e) in
       let count : (shadow_numbers r).count ≡ (shadow_answer plan slice list (length m) (length out)).count = ap (λ (x : ShadowAnswer). x.count) a.answer in
       subst⁻¹ (λ (x : List ℕ). FollowedIn plan slice (take (shadow_numbers r).count out') x) a.marking
       (subst⁻¹ (λ (x : List ℕ). FollowedIn plan slice (take (shadow_numbers r).count x) (shadow_marking plan slice list m out)) a.output

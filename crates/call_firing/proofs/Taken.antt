@@ -13,7 +13,7 @@ use Rattle.file_header.specs.declared.Header.{Header}
 use Rattle.file_words.proofs.Laws.{or_else_stop}
 use Rattle.promise.specs.Calls.{written}
 use Rattle.promise.specs.Together.{standing, TogetherAnswer, together_or, together_refusal, together_answer, together_rest, TakesLargest}
-use Rattle.promise.proofs.Together.{takes-largest}
+use Rattle.promise.proofs.Together.{takes_largest}
 use Rattle.together.specs.Told.{together_numbers, held_back}
 use Rattle.together.specs.declared.Together.TheVariants.{Refused}
 use Rattle.together.proofs.Passing.{told-refused}
@@ -26,32 +26,32 @@ Answers plan t marking rest a exit =
 
 module _ (plan : List ℕ) (t : ℕ) (marking rest : List ℕ) where
   meant : {a : TogetherAnswer} {exit : List ℕ} → a ≡ together_answer plan t marking (length rest) → exit ≡ together_rest plan t marking rest → Answers plan t marking rest a exit
-  meant e f = (e, (f, takes-largest plan t marking rest e f))
+  meant e f = (e, (f, takes_largest plan t marking rest e f))
 
   module _ (n : ℕ) (a : (file_refusal Plan plan ≡ n) × (n ≡ 0 → ⊥)) where
-    file-answer : together_numbers (Refused n) ≡ together_answer plan t marking (length rest)
+    file_answer_lem : together_numbers (Refused n) ≡ together_answer plan t marking (length rest)
     unfolding together_answer together_refusal
-    file-answer = rw (a.0, or_else_stop n _ a.1) (told-refused n _ refl a.1)
+    file_answer_lem = rw (a.0, or_else_stop n _ a.1) (told-refused n _ refl a.1)
 
-    file-rest : rest ≡ together_rest plan t marking rest
+    file_rest : rest ≡ together_rest plan t marking rest
     unfolding together_rest together_refusal
-    file-rest = rw (a.0, or_else_stop n _ a.1) (kept-refused n _ rest refl a.1)
+    file_rest = rw (a.0, or_else_stop n _ a.1) (kept-refused n _ rest refl a.1)
 
-    pub file-refused : Answers plan t marking rest (together_numbers (Refused n)) rest
-    file-refused = meant file-answer file-rest
+    pub file_refused : Answers plan t marking rest (together_numbers (Refused n)) rest
+    file_refused = meant file_answer_lem file_rest
 
   module _ (h : Header) (o : Opened Plan plan h) where
     read_answer : (r : TogetherAnswer) → r ≡ together_or (held_back h t (length marking) (length rest)) (together (net_from plan h) t (standing marking)) → r ≡ together_answer plan t marking (length rest)
     unfolding together_answer together_refusal
     read_answer r e = rw (o.read, ← o.same) e
 
-    read-rest : (exit : List ℕ)
+    read_rest : (exit : List ℕ)
         → exit ≡ written (held_back h t (length marking) (length rest)) (tokens (net_from plan h) (remainder (net_from plan h) t (standing marking) (together (net_from plan h) t (standing marking)))) rest
         → exit ≡ together_rest plan t marking rest
     unfolding together_rest together_refusal
-    read-rest exit e = rw (o.read, ← o.same) e
+    read_rest exit e = rw (o.read, ← o.same) e
 
     pub answered : (r : TogetherAnswer) (exit : List ℕ) → r ≡ together_or (held_back h t (length marking) (length rest)) (together (net_from plan h) t (standing marking))
         → exit ≡ written (held_back h t (length marking) (length rest)) (tokens (net_from plan h) (remainder (net_from plan h) t (standing marking) (together (net_from plan h) t (standing marking)))) rest
         → Answers plan t marking rest r exit
-    answered r exit e f = meant (read_answer r e) (read-rest exit f)
+    answered r exit e f = meant (read_answer r e) (read_rest exit f)

@@ -33,9 +33,9 @@ module _ (old new running table entry : List ℕ) where
       by_old = unfold transfer_answer in rw t.0 (or_else_stop n _ t.1)
 
   module _ (o : Header) (q : Opened Plan old o) where
-    pub new-turned : {n : ℕ} → (file_refusal Plan new ≡ n) × (n ≡ 0 → ⊥)
+    pub new_turned : {n : ℕ} → (file_refusal Plan new ≡ n) × (n ≡ 0 → ⊥)
         → (n ≡ transfer_answer old new running table (length entry)) × ((entry ≡ transfer_marking old new running table entry) × (n ≡ 0 → Carried new running table entry))
-    new-turned {n} t = let e = by_new in all (sym e) (untouched e t.1)
+    new_turned {n} t = let e = by_new in all (sym e) (untouched e t.1)
       where
         by_new : transfer_answer old new running table (length entry) ≡ n
         by_new = unfold transfer_answer in rw (q.read, t.0) (or_else_stop n _ t.1)

@@ -37,16 +37,16 @@ one_by_one false false false false true x = refl
 one_by_one false false false false false x = refl
 
 -- no test before it holds
-none-off : (a b c : Bool) (x : ℕ) → refuse a 19 (refuse b 19 (refuse c 20 x)) ≡ 0 → c ≡ false
-none-off true b c x e = absurd (omega (arith, e))
-none-off false true c x e = absurd (omega (arith, e))
-none-off false false true x e = absurd (omega (arith, e))
-none-off false false false x e = refl
+none_off : (a b c : Bool) (x : ℕ) → refuse a 19 (refuse b 19 (refuse c 20 x)) ≡ 0 → c ≡ false
+none_off true b c x e = absurd (omega (arith, e))
+none_off false true c x e = absurd (omega (arith, e))
+none_off false false true x e = absurd (omega (arith, e))
+none_off false false false x e = refl
 
 -- where a call is refused, it does not matter what the file would be
-other-file : {file other entry exit : List ℕ} {r : File} (n : ℕ) → (n ≡ 0 → file ≡ other) → Answers n file entry exit r → Answers n other entry exit r
-other-file {file} {other} {entry} {exit} {r} zero e a = subst (λ (l : List ℕ). Answers 0 l entry exit r) (e refl) a
-other-file (suc n) e a = record { answer = a.answer; buffer = a.buffer }
+other_file : {file other entry exit : List ℕ} {r : File} (n : ℕ) → (n ≡ 0 → file ≡ other) → Answers n file entry exit r → Answers n other entry exit r
+other_file {file} {other} {entry} {exit} {r} zero e a = subst (λ (l : List ℕ). Answers 0 l entry exit r) (e refl) a
+other_file (suc n) e a = record { answer = a.answer; buffer = a.buffer }
 
 module _ (s entry : List ℕ) where
   abbrev d : Drawing
@@ -85,9 +85,9 @@ module _ (s entry : List ℕ) where
       of : of_profile s ≡ true
       of = sym (profile_same s short) ∙ f
 
-      file-same : unfit d ≡ false → read_file s ≡ pnml_file s
+      file_same : unfit d ≡ false → read_file s ≡ pnml_file s
       unfolding read_file pnml_file
-      file-same g = ap (plan_bytes 1) (net-same s short of g)
+      file_same g = ap (plan_bytes 1) (net-same s short of g)
 
       -- the code's refusals are those of the definition
       later_same : after_profile s (length entry) ≡ later
@@ -96,9 +96,9 @@ module _ (s entry : List ℕ) where
           ∙ ap (λ (n : ℕ). refuse (twice_in d) 19 (refuse (wrong_in d) 19 n)) twenty
         where
           twenty : refuse (unfit d) 20 (room_refusal (length entry) (read_file s)) ≡ refuse (unfit d) 20 (room_refusal (length entry) (pnml_file s))
-          twenty = by_cases (unfit d) (λ t. rw t) (λ g. rw g (ap (room_refusal (length entry)) (file-same g)))
+          twenty = by_cases (unfit d) (λ t. rw t) (λ g. rw g (ap (room_refusal (length entry)) (file_same g)))
 
       pub of_profile_lem : {r : File} {exit : List ℕ} → Answers (after_profile s (length entry)) (read_file s) entry exit r → Converts r exit
       of_profile_lem a =
           converts _ (later_same ∙ sym (rw (e, of)) ∙ refusal_is)
-          (other-file _ (λ z. file-same (none-off (twice_in d) (wrong_in d) (unfit d) _ (sym later_same ∙ z))) a)
+          (other_file _ (λ z. file_same (none_off (twice_in d) (wrong_in d) (unfit d) _ (sym later_same ∙ z))) a)

@@ -7,7 +7,7 @@ use native.Mathlib.Omega.{arith}
 use native.Mathlib.Numerals.{add-one}
 use lib.Dec.{eqb, ltb, leb}
 use native.Mathlib.Nat.{add-zero}
-use Rattle.tables.proofs.Zeros.{zeros-at}
+use Rattle.tables.proofs.Zeros.{zeros_at}
 use lib.ListN.{length, take, drop, get_or, set, replicate, length-take, drop_of_length-le, get_or-eq_default}
 use lib.Seq.{get_or-take, take_all, drop-cons, get_or-set_same, get_or-set_other}
 use borrow.Author.Tests.{lt-ltb, le-ltb, ltb-true, ltb-false, leb-false, eqb-true, eqb-false, eq-eqb, ne_eqb, not-false}
@@ -22,7 +22,7 @@ use Rattle.net.proofs.Markings.{tokens-are}
 use Rattle.promise.specs.Together.{standing}
 use Rattle.promise.specs.Starts.{overfull}
 use Rattle.promise.specs.Transfer.{carried_to, names_no_place, table_wrong, strands, carry_refusal}
-use Rattle.promise.proofs.Started.{over-some, over-same}
+use Rattle.promise.proofs.Started.{over_some, over_same}
 
 -- the sums of the first entries
 module _ (q : ℕ) where
@@ -167,26 +167,26 @@ module _ (N : Net) (running table : List ℕ) (room : ℕ) where
   abbrev C : ℕ → ℕ
   C q = carried_to q table running
 
-  pub sums-over : overfull N C ≡ true → 24 ≡ sums_refusal N running table room
-  sums-over e = rw e
+  pub sums_over : overfull N C ≡ true → 24 ≡ sums_refusal N running table room
+  sums_over e = rw e
 
-  pub room-short : overfull N C ≡ false → room < N.places → 13 ≡ sums_refusal N running table room
-  room-short e l = rw (e, lt-ltb room N.places l)
+  pub room_short : overfull N C ≡ false → room < N.places → 13 ≡ sums_refusal N running table room
+  room_short e l = rw (e, lt-ltb room N.places l)
 
-  pub sums-pass : overfull N C ≡ false → N.places ≤ room → 0 ≡ sums_refusal N running table room
-  sums-pass e l = rw (e, le-ltb room N.places l)
+  pub sums_pass : overfull N C ≡ false → N.places ≤ room → 0 ≡ sums_refusal N running table room
+  sums_pass e l = rw (e, le-ltb room N.places l)
 
   -- a sum that a plan cannot hold
-  pub above-over : {sums₀ sums : List ℕ} {b : Bool} → length sums₀ ≡ N.places → AddsUp table running sums₀ sums b → b ≡ false → overfull N C ≡ true
-  above-over e a f =
+  pub above_over : {sums₀ sums : List ℕ} {b : Bool} → length sums₀ ≡ N.places → AddsUp table running sums₀ sums b → b ≡ false → overfull N C ≡ true
+  above_over e a f =
       let x = a.above f in
-      over-some N C x.0 (omega (arith, x.1, e, a.long)) (rw (lt-ltb 4294967295 (C x.0) x.2))
+      over_some N C x.0 (omega (arith, x.1, e, a.long)) (rw (lt-ltb 4294967295 (C x.0) x.2))
 
   pub sums_same : {sums₀ sums : List ℕ} {b : Bool} → length sums₀ ≡ N.places → AddsUp table running sums₀ sums b → b ≡ true → overfull N (standing sums) ≡ overfull N C
-  sums_same {sums = sums} e a f = over-same N (standing sums) C (λ p l. a.all f p (omega (arith, e, a.long)))
+  sums_same {sums = sums} e a f = over_same N (standing sums) C (λ p l. a.all f p (omega (arith, e, a.long)))
 
-  pub sums-are : {sums₀ sums : List ℕ} {b : Bool} → length sums₀ ≡ N.places → AddsUp table running sums₀ sums b → b ≡ true → sums ≡ tokens N C
-  sums-are {sums = sums} e a f = tokens-are N C sums (a.long ∙ e) (λ p l. a.all f p (omega (arith, e, a.long)))
+  pub sums_are : {sums₀ sums : List ℕ} {b : Bool} → length sums₀ ≡ N.places → AddsUp table running sums₀ sums b → b ≡ true → sums ≡ tokens N C
+  sums_are {sums = sums} e a f = tokens-are N C sums (a.long ∙ e) (λ p l. a.all f p (omega (arith, e, a.long)))
 
 module _ (old : ℕ) (N : Net) (running table : List ℕ) (room : ℕ) where
   pub carry_22 : true ≡ table_wrong old N.places running table → 22 ≡ carry_refusal old N running table room
@@ -202,7 +202,7 @@ module _ (old : ℕ) (N : Net) (running table : List ℕ) (room : ℕ) where
   carry_rest e f k = rw (e, f) k
 
 -- a part of a table of zeros
-pub zeros-taken : (k n q : ℕ) → ◌≡◌ {A = ℕ} (get_or {A = ℕ} (take k (replicate {A = ℕ} n 0)) q 0) 0
-zeros-taken k n q = by_cases (ltb q k)
-    (λ l. get_or-take {A = ℕ} k (replicate n 0) q 0 (ltb-true q k l) ∙ zeros-at n q)
+pub zeros_taken : (k n q : ℕ) → ◌≡◌ {A = ℕ} (get_or {A = ℕ} (take k (replicate {A = ℕ} n 0)) q 0) 0
+zeros_taken k n q = by_cases (ltb q k)
+    (λ l. get_or-take {A = ℕ} k (replicate n 0) q 0 (ltb-true q k l) ∙ zeros_at n q)
     (λ l. get_or-eq_default {A = ℕ} (take k (replicate n 0)) 0 {n = q} (omega (arith, ltb-false q k l, length-take {A = ℕ} k (replicate n 0))))

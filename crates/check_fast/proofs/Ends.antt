@@ -18,7 +18,7 @@ use Rattle.file.proofs.Rows.{length-words}
 use Rattle.file_arcs.proofs.Words.{field_transition, field_direction, field_place, field_weight}
 use Rattle.check_fast.specs.Entries.{left_place, left_capped, left_transition, numbered, flagged, marked, either}
 use Rattle.check_fast.specs.Pass.{watched, Ready, joined_of, kept_of, odd_of, due_of, Fine}
-use Rattle.check_fast.proofs.Sums.{Flags, flags_at, below, few-flags, many_flags, even_flags, Alike, own_is}
+use Rattle.check_fast.proofs.Sums.{Flags, flags_at, below, few_flags, many_flags, even_flags, Alike, own_is}
 
 pub numbered-in : (unit : ℕ) (os : List ℕ) (rest x : ℕ) → among x os ≡ true → numbered unit os rest x ≡ unit * (1024 + position x os - x)
 unfolding numbered
@@ -62,11 +62,11 @@ pub data Ends (N : Net) (ps ts Q : List ℕ) (w z : ℕ) : Type 0 where
       → Flags (1024 + position (arc_of w).transition ts) (spare w) (1024 + position (arc_of w).place ps) (arc_of w).weight ((arc_of w).direction + 2 * q) z → Ends N ps ts Q w z
   at_place : among (arc_of w).place ps ≡ true → among (arc_of w).transition ts ≡ false → among (arc_of w).place Q ≡ false
       → Flags (1024 + (arc_of w).transition) (spare w) (1024 + position (arc_of w).place ps) (arc_of w).weight ((arc_of w).direction + 7) z → Ends N ps ts Q w z
-  at-asked : among (arc_of w).place ps ≡ true → among (arc_of w).transition ts ≡ false → among (arc_of w).place Q ≡ true
+  at_asked : among (arc_of w).place ps ≡ true → among (arc_of w).transition ts ≡ false → among (arc_of w).place Q ≡ true
       → Flags (1024 + (arc_of w).transition) (spare w) (1024 + position (arc_of w).place ps) (arc_of w).weight ((arc_of w).direction + 9) z → Ends N ps ts Q w z
-  at-transition : among (arc_of w).place ps ≡ false → among (arc_of w).transition ts ≡ true → capped N (arc_of w).place ≡ false
+  at_transition : among (arc_of w).place ps ≡ false → among (arc_of w).transition ts ≡ true → capped N (arc_of w).place ≡ false
       → Flags (1024 + position (arc_of w).transition ts) (spare w) (1024 + (arc_of w).place) (arc_of w).weight ((arc_of w).direction + 15) z → Ends N ps ts Q w z
-  at-capped : among (arc_of w).place ps ≡ false → among (arc_of w).transition ts ≡ true
+  at_capped : among (arc_of w).place ps ≡ false → among (arc_of w).transition ts ≡ true
       → Flags (1024 + position (arc_of w).transition ts) (spare w) (1024 + (arc_of w).place) (arc_of w).weight ((arc_of w).direction + 14) z → Ends N ps ts Q w z
   neither : (f : ℕ) → 21 ≤ f → among (arc_of w).place ps ≡ false → among (arc_of w).transition ts ≡ false → among (arc_of w).place Q ≡ false
       → Flags (1024 + (arc_of w).transition) (spare w) (1024 + (arc_of w).place) (arc_of w).weight f z → Ends N ps ts Q w z
@@ -74,25 +74,25 @@ pub data Ends (N : Net) (ps ts Q : List ℕ) (w z : ℕ) : Type 0 where
 -- t, d, s, p, g are the arc's numbers, v and u its entries
 module _ (t d s p g v u z : ℕ) (sum : z ≡ t + 65536 * d + 16777216 * s + 4294967296 * p + 281474976710656 * g + v + u) (dl : d ≤ 1) (tl : t < 1024) (pl : p < 1024) (gl : g < 65536) (sl : s < 256) where
   flags_both : (a b q : ℕ) → a < 1024 → b < 1024 → q ≤ 1 → v ≡ 4294967296 * (1024 + a - p) + 131072 * q → u ≡ 1 * (1024 + b - t) → Flags (1024 + b) s (1024 + a) g (d + 2 * q) z
-  flags_both a b q al bl ql e f = record { least-t = omega arith; small-t = omega arith; small-f = omega arith; small-s = sl; least-p = omega arith; small-p = omega arith; small-g = gl; sum = omega arith }
+  flags_both a b q al bl ql e f = record { least_t = omega arith; small_t = omega arith; small_f = omega arith; small_s = sl; least_p = omega arith; small_p = omega arith; small_g = gl; sum = omega arith }
 
   flags_place : (a : ℕ) → a < 1024 → v ≡ 4294967296 * (1024 + a - p) → u ≡ left_transition → Flags (1024 + t) s (1024 + a) g (d + 7) z
-  flags_place a al e f = record { least-t = omega arith; small-t = omega arith; small-f = omega arith; small-s = sl; least-p = omega arith; small-p = omega arith; small-g = gl; sum = omega arith }
+  flags_place a al e f = record { least_t = omega arith; small_t = omega arith; small_f = omega arith; small_s = sl; least_p = omega arith; small_p = omega arith; small_g = gl; sum = omega arith }
 
   flags_asked : (a : ℕ) → a < 1024 → v ≡ 4294967296 * (1024 + a - p) + 131072 → u ≡ left_transition → Flags (1024 + t) s (1024 + a) g (d + 9) z
-  flags_asked a al e f = record { least-t = omega arith; small-t = omega arith; small-f = omega arith; small-s = sl; least-p = omega arith; small-p = omega arith; small-g = gl; sum = omega arith }
+  flags_asked a al e f = record { least_t = omega arith; small_t = omega arith; small_f = omega arith; small_s = sl; least_p = omega arith; small_p = omega arith; small_g = gl; sum = omega arith }
 
   flags_transition : (b : ℕ) → b < 1024 → v ≡ left_place → u ≡ 1 * (1024 + b - t) → Flags (1024 + b) s (1024 + p) g (d + 15) z
-  flags_transition b bl e f = record { least-t = omega arith; small-t = omega arith; small-f = omega arith; small-s = sl; least-p = omega arith; small-p = omega arith; small-g = gl; sum = omega arith }
+  flags_transition b bl e f = record { least_t = omega arith; small_t = omega arith; small_f = omega arith; small_s = sl; least_p = omega arith; small_p = omega arith; small_g = gl; sum = omega arith }
 
   flags_capped : (b : ℕ) → b < 1024 → v ≡ left_capped → u ≡ 1 * (1024 + b - t) → Flags (1024 + b) s (1024 + p) g (d + 14) z
-  flags_capped b bl e f = record { least-t = omega arith; small-t = omega arith; small-f = omega arith; small-s = sl; least-p = omega arith; small-p = omega arith; small-g = gl; sum = omega arith }
+  flags_capped b bl e f = record { least_t = omega arith; small_t = omega arith; small_f = omega arith; small_s = sl; least_p = omega arith; small_p = omega arith; small_g = gl; sum = omega arith }
 
   flags_neither : v ≡ left_place → u ≡ left_transition → Flags (1024 + t) s (1024 + p) g (d + 22) z
-  flags_neither e f = record { least-t = omega arith; small-t = omega arith; small-f = omega arith; small-s = sl; least-p = omega arith; small-p = omega arith; small-g = gl; sum = omega arith }
+  flags_neither e f = record { least_t = omega arith; small_t = omega arith; small_f = omega arith; small_s = sl; least_p = omega arith; small_p = omega arith; small_g = gl; sum = omega arith }
 
   flags_neither_capped : v ≡ left_capped → u ≡ left_transition → Flags (1024 + t) s (1024 + p) g (d + 21) z
-  flags_neither_capped e f = record { least-t = omega arith; small-t = omega arith; small-f = omega arith; small-s = sl; least-p = omega arith; small-p = omega arith; small-g = gl; sum = omega arith }
+  flags_neither_capped e f = record { least_t = omega arith; small_t = omega arith; small_f = omega arith; small_s = sl; least_p = omega arith; small_p = omega arith; small_g = gl; sum = omega arith }
 
 module _ (plan : List ℕ) (hp : Header) (slice : List ℕ) (hs : Header) (Q places transitions : List ℕ) (r : Ready plan hp slice hs Q places transitions) (w : ℕ) (wl : w < 18446744073709551616) (good : ArcGood hp.places hp.transitions (arc_of w)) where
   pub own-place : among (arc_of w).place (slice_from slice hs).place_origins ≡ true → position (arc_of w).place (slice_from slice hs).place_origins < 1024
@@ -105,11 +105,11 @@ module _ (plan : List ℕ) (hp : Header) (slice : List ℕ) (hs : Header) (Q pla
     sum_is : z ≡ (arc_of w).transition + 65536 * (arc_of w).direction + 16777216 * spare w + 4294967296 * (arc_of w).place + 281474976710656 * (arc_of w).weight + get_or places (arc_of w).place 0 + get_or transitions (arc_of w).transition 0
     sum_is = is ∙ ap (λ (n : ℕ). n + get_or places (arc_of w).place 0 + get_or transitions (arc_of w).transition 0) (whole w)
 
-    few-transitions : (arc_of w).transition < 1024
-    few-transitions = omega (arith, good.transition, r.planned.placed.transitions)
+    few_transitions : (arc_of w).transition < 1024
+    few_transitions = omega (arith, good.transition, r.planned.placed.transitions)
 
-    few-places : (arc_of w).place < 1024
-    few-places = omega (arith, good.place, r.planned.placed.places)
+    few_places : (arc_of w).place < 1024
+    few_places = omega (arith, good.place, r.planned.placed.places)
 
     light : (arc_of w).weight < 65536
     light = omega (arith, wl)
@@ -118,10 +118,10 @@ module _ (plan : List ℕ) (hp : Header) (slice : List ℕ) (hs : Header) (Q pla
     spare_lt = omega arith
 
     transition-in : among (arc_of w).transition (slice_from slice hs).transition_origins ≡ true → get_or transitions (arc_of w).transition 0 ≡ 1 * (1024 + position (arc_of w).transition (slice_from slice hs).transition_origins - (arc_of w).transition)
-    transition-in e = r.transition-entry _ good.transition ∙ numbered-in 1 _ left_transition _ e
+    transition-in e = r.transition_entry _ good.transition ∙ numbered-in 1 _ left_transition _ e
 
     transition-out : among (arc_of w).transition (slice_from slice hs).transition_origins ≡ false → get_or transitions (arc_of w).transition 0 ≡ left_transition
-    transition-out e = r.transition-entry _ good.transition ∙ numbered-out 1 _ left_transition _ e
+    transition-out e = r.transition_entry _ good.transition ∙ numbered-out 1 _ left_transition _ e
 
     -- what stands for the place where it is left out
     abbrev pub left : ℕ
@@ -131,33 +131,33 @@ module _ (plan : List ℕ) (hp : Header) (slice : List ℕ) (hs : Header) (Q pla
     W = watched plan hp slice hs Q
 
     place-plain : among (arc_of w).place (slice_from slice hs).place_origins ≡ true → among (arc_of w).place W ≡ false → get_or places (arc_of w).place 0 ≡ 4294967296 * (1024 + position (arc_of w).place (slice_from slice hs).place_origins - (arc_of w).place)
-    place-plain e q = r.place-entry _ good.place ∙ marked-out W _ _ q ∙ numbered-in 4294967296 _ left _ e
+    place-plain e q = r.place_entry _ good.place ∙ marked-out W _ _ q ∙ numbered-in 4294967296 _ left _ e
 
     place-asked : among (arc_of w).place (slice_from slice hs).place_origins ≡ true → among (arc_of w).place W ≡ true → get_or places (arc_of w).place 0 ≡ 4294967296 * (1024 + position (arc_of w).place (slice_from slice hs).place_origins - (arc_of w).place) + 131072
-    place-asked e q = r.place-entry _ good.place ∙ marked-in W _ _ q ∙ ap flagged (numbered-in 4294967296 _ left _ e) ∙ flagged-whole (1024 + position (arc_of w).place (slice_from slice hs).place_origins - (arc_of w).place)
+    place-asked e q = r.place_entry _ good.place ∙ marked-in W _ _ q ∙ ap flagged (numbered-in 4294967296 _ left _ e) ∙ flagged-whole (1024 + position (arc_of w).place (slice_from slice hs).place_origins - (arc_of w).place)
 
     place_out : among (arc_of w).place (slice_from slice hs).place_origins ≡ false → among (arc_of w).place W ≡ false → (b : Bool) → capped (net_from plan hp) (arc_of w).place ≡ b → get_or places (arc_of w).place 0 ≡ either b left_capped left_place
-    place_out e q b k = r.place-entry _ good.place ∙ marked-out W _ _ q ∙ numbered-out 4294967296 _ left _ e ∙ ap (λ (c : Bool). either c left_capped left_place) k
+    place_out e q b k = r.place_entry _ good.place ∙ marked-out W _ _ q ∙ numbered-out 4294967296 _ left _ e ∙ ap (λ (c : Bool). either c left_capped left_place) k
 
     pub ends : Ends (net_from plan hp) (slice_from slice hs).place_origins (slice_from slice hs).transition_origins W w z
     ends =
         by_cases (among (arc_of w).place (slice_from slice hs).place_origins)
         (λ kp. by_cases (among (arc_of w).transition (slice_from slice hs).transition_origins)
         (λ kt. by_cases (among (arc_of w).place W)
-        (λ kq. both 1 (omega arith) kp kt (flags_both _ _ _ _ _ _ _ z sum_is good.direction few-transitions few-places light spare_lt _ _ 1 (own-place kp) (own-transition kt) (omega arith) (omega (arith, place-asked kp kq)) (transition-in kt)))
-        (λ kq. both 0 (omega arith) kp kt (flags_both _ _ _ _ _ _ _ z sum_is good.direction few-transitions few-places light spare_lt _ _ 0 (own-place kp) (own-transition kt) (omega arith) (omega (arith, place-plain kp kq)) (transition-in kt))))
+        (λ kq. both 1 (omega arith) kp kt (flags_both _ _ _ _ _ _ _ z sum_is good.direction few_transitions few_places light spare_lt _ _ 1 (own-place kp) (own-transition kt) (omega arith) (omega (arith, place-asked kp kq)) (transition-in kt)))
+        (λ kq. both 0 (omega arith) kp kt (flags_both _ _ _ _ _ _ _ z sum_is good.direction few_transitions few_places light spare_lt _ _ 0 (own-place kp) (own-transition kt) (omega arith) (omega (arith, place-plain kp kq)) (transition-in kt))))
         (λ kt. by_cases (among (arc_of w).place W)
-        (λ kq. at-asked kp kt kq (flags_asked _ _ _ _ _ _ _ z sum_is good.direction few-transitions few-places light spare_lt _ (own-place kp) (place-asked kp kq) (transition-out kt)))
-        (λ kq. at_place kp kt kq (flags_place _ _ _ _ _ _ _ z sum_is good.direction few-transitions few-places light spare_lt _ (own-place kp) (place-plain kp kq) (transition-out kt)))))
+        (λ kq. at_asked kp kt kq (flags_asked _ _ _ _ _ _ _ z sum_is good.direction few_transitions few_places light spare_lt _ (own-place kp) (place-asked kp kq) (transition-out kt)))
+        (λ kq. at_place kp kt kq (flags_place _ _ _ _ _ _ _ z sum_is good.direction few_transitions few_places light spare_lt _ (own-place kp) (place-plain kp kq) (transition-out kt)))))
         (λ kp. by_cases (among (arc_of w).place W)
         (λ kq. apart (r.watches _ kq) kp)
         (λ kq. by_cases (among (arc_of w).transition (slice_from slice hs).transition_origins)
         (λ kt. by_cases (capped (net_from plan hp) (arc_of w).place)
-        (λ kc. at-capped kp kt (flags_capped _ _ _ _ _ _ _ z sum_is good.direction few-transitions few-places light spare_lt _ (own-transition kt) (place_out kp kq true kc) (transition-in kt)))
-        (λ kc. at-transition kp kt kc (flags_transition _ _ _ _ _ _ _ z sum_is good.direction few-transitions few-places light spare_lt _ (own-transition kt) (place_out kp kq false kc) (transition-in kt))))
+        (λ kc. at_capped kp kt (flags_capped _ _ _ _ _ _ _ z sum_is good.direction few_transitions few_places light spare_lt _ (own-transition kt) (place_out kp kq true kc) (transition-in kt)))
+        (λ kc. at_transition kp kt kc (flags_transition _ _ _ _ _ _ _ z sum_is good.direction few_transitions few_places light spare_lt _ (own-transition kt) (place_out kp kq false kc) (transition-in kt))))
         (λ kt. by_cases (capped (net_from plan hp) (arc_of w).place)
-        (λ kc. neither _ (omega arith) kp kt kq (flags_neither_capped _ _ _ _ _ _ _ z sum_is good.direction few-transitions few-places light spare_lt (place_out kp kq true kc) (transition-out kt)))
-        (λ kc. neither _ (omega arith) kp kt kq (flags_neither _ _ _ _ _ _ _ z sum_is good.direction few-transitions few-places light spare_lt (place_out kp kq false kc) (transition-out kt))))))
+        (λ kc. neither _ (omega arith) kp kt kq (flags_neither_capped _ _ _ _ _ _ _ z sum_is good.direction few_transitions few_places light spare_lt (place_out kp kq true kc) (transition-out kt)))
+        (λ kc. neither _ (omega arith) kp kt kq (flags_neither _ _ _ _ _ _ _ z sum_is good.direction few_transitions few_places light spare_lt (place_out kp kq false kc) (transition-out kt))))))
 
 -- ---- what the sum tells
 
@@ -171,25 +171,25 @@ module _ {N : Net} {ps ts Q : List ℕ} {w z : ℕ} (dl : (arc_of w).direction �
   pub sum_below : Ends N ps ts Q w z → z < 18446744073709551616
   sum_below (both q ql kp kt x) = below x
   sum_below (at_place kp kt kq x) = below x
-  sum_below (at-asked kp kt kq x) = below x
-  sum_below (at-transition kp kt kc x) = below x
-  sum_below (at-capped kp kt x) = below x
+  sum_below (at_asked kp kt kq x) = below x
+  sum_below (at_transition kp kt kc x) = below x
+  sum_below (at_capped kp kt x) = below x
   sum_below (neither n l kp kt kq x) = below x
 
   -- both ends are kept
-  pub ends-kept : Ends N ps ts Q w z → kept_of z ≡ true → (among (arc_of w).place ps && among (arc_of w).transition ts) ≡ true
-  ends-kept (both q ql kp kt x) k = rw (kp, kt)
-  ends-kept (at_place kp kt kq x) k = absurd (omega (arith, (few-flags x k).0))
-  ends-kept (at-asked kp kt kq x) k = absurd (omega (arith, (few-flags x k).0))
-  ends-kept (at-transition kp kt kc x) k = absurd (omega (arith, (few-flags x k).0))
-  ends-kept (at-capped kp kt x) k = absurd (omega (arith, (few-flags x k).0))
-  ends-kept (neither n l kp kt kq x) k = absurd (omega (arith, (few-flags x k).0))
+  pub ends_kept : Ends N ps ts Q w z → kept_of z ≡ true → (among (arc_of w).place ps && among (arc_of w).transition ts) ≡ true
+  ends_kept (both q ql kp kt x) k = rw (kp, kt)
+  ends_kept (at_place kp kt kq x) k = absurd (omega (arith, (few_flags x k).0))
+  ends_kept (at_asked kp kt kq x) k = absurd (omega (arith, (few_flags x k).0))
+  ends_kept (at_transition kp kt kc x) k = absurd (omega (arith, (few_flags x k).0))
+  ends_kept (at_capped kp kt x) k = absurd (omega (arith, (few_flags x k).0))
+  ends_kept (neither n l kp kt kq x) k = absurd (omega (arith, (few_flags x k).0))
 
   -- and an arc of the slice that is like the sum is the one due
   pub due_arc : Ends N ps ts Q w z → kept_of z ≡ true → (own : ℕ) → ArcGood 1024 1024 (arc_of own) → Alike z own → arc_of own ≡ renumber ps ts (arc_of w)
   unfolding renumber
   due_arc (both q ql kp kt x) k own g like =
-      let e = own_is x x.small-p (arc_of w).direction dl q ql refl (few-flags x k).1 (arc_of own).transition (arc_of own).direction (spare own) (arc_of own).place (arc_of own).weight own g.transition g.direction (spare_below own) g.place (whole own) like in
+      let e = own_is x x.small-p (arc_of w).direction dl q ql refl (few_flags x k).1 (arc_of own).transition (arc_of own).direction (spare own) (arc_of own).place (arc_of own).weight own g.transition g.direction (spare_below own) g.place (whole own) like in
       let t : (arc_of own).transition ≡ position (arc_of w).transition ts = e.0 ∙ less (position (arc_of w).transition ts) in
       let p : (arc_of own).place ≡ position (arc_of w).place ps = e.2 ∙ less (position (arc_of w).place ps) in
       λ i. record { transition = t i; direction = e.1 i; place = p i; weight = e.3 i }
@@ -199,45 +199,45 @@ module _ {N : Net} {ps ts Q : List ℕ} {w z : ℕ} (dl : (arc_of w).direction �
 
       spare_below : (v : ℕ) → spare v < 256
       spare_below v = omega arith
-  due_arc (at_place kp kt kq x) k own g like = absurd (omega (arith, (few-flags x k).0))
-  due_arc (at-asked kp kt kq x) k own g like = absurd (omega (arith, (few-flags x k).0))
-  due_arc (at-transition kp kt kc x) k own g like = absurd (omega (arith, (few-flags x k).0))
-  due_arc (at-capped kp kt x) k own g like = absurd (omega (arith, (few-flags x k).0))
-  due_arc (neither n l kp kt kq x) k own g like = absurd (omega (arith, (few-flags x k).0))
+  due_arc (at_place kp kt kq x) k own g like = absurd (omega (arith, (few_flags x k).0))
+  due_arc (at_asked kp kt kq x) k own g like = absurd (omega (arith, (few_flags x k).0))
+  due_arc (at_transition kp kt kc x) k own g like = absurd (omega (arith, (few_flags x k).0))
+  due_arc (at_capped kp kt x) k own g like = absurd (omega (arith, (few_flags x k).0))
+  due_arc (neither n l kp kt kq x) k own g like = absurd (omega (arith, (few_flags x k).0))
 
   -- an end is left out
   pub end_out : Ends N ps ts Q w z → spare w ≡ 0 → kept_of z ≡ false → (among (arc_of w).place ps && among (arc_of w).transition ts) ≡ false
   end_out (both q ql kp kt x) n k = absurd (omega (arith, many_flags x k n))
   end_out (at_place kp kt kq x) n k = rw (kp, kt)
-  end_out (at-asked kp kt kq x) n k = rw (kp, kt)
-  end_out (at-transition kp kt kc x) n k = rw kp
-  end_out (at-capped kp kt x) n k = rw kp
+  end_out (at_asked kp kt kq x) n k = rw (kp, kt)
+  end_out (at_transition kp kt kc x) n k = rw kp
+  end_out (at_capped kp kt x) n k = rw kp
   end_out (neither m l kp kt kq x) n k = rw kp
 
   -- nothing wants a closer look
   pub arc-fine : (d : ℕ) → Ends N ps ts Q w z → odd_of z ≡ false → Fine N ps ts Q d (arc_of w)
   arc-fine d (both q ql kp kt x) o = record { fed = λ g t n. kp; unchanged = λ g t q. apart kt t; unraised = λ g t p n. apart kt t; held = λ g t n c. kp }
   arc-fine d (at_place kp kt kq x) o = record { fed = λ g t n. kp; unchanged = λ g t q. apart q kq; unraised = λ g t p n. absurd (eight (arc_of w).direction n (even_flags x o)); held = λ g t n c. kp }
-  arc-fine d (at-asked kp kt kq x) o = absurd (omega (arith, even_flags x o))
-  arc-fine d (at-transition kp kt kc x) o = record { fed = λ g t n. absurd (fifteen (arc_of w).direction n (even_flags x o)); unchanged = λ g t q. apart kt t; unraised = λ g t p n. apart kt t; held = λ g t n c. apart c kc }
-  arc-fine d (at-capped kp kt x) o = absurd (omega (arith, even_flags x o))
+  arc-fine d (at_asked kp kt kq x) o = absurd (omega (arith, even_flags x o))
+  arc-fine d (at_transition kp kt kc x) o = record { fed = λ g t n. absurd (fifteen (arc_of w).direction n (even_flags x o)); unchanged = λ g t q. apart kt t; unraised = λ g t p n. apart kt t; held = λ g t n c. apart c kc }
+  arc-fine d (at_capped kp kt x) o = absurd (omega (arith, even_flags x o))
   arc-fine d (neither n l kp kt kq x) o = record { fed = λ g t n. apart t kt; unchanged = λ g t q. apart q kq; unraised = λ g t p n. apart p kp; held = λ g t n c. apart t kt }
 
   -- the flags of an arc that the effect decides
   pub raising : Ends N ps ts Q w z → z / 65536 % 65536 ≡ 8 → (among (arc_of w).transition ts ≡ false) × (among (arc_of w).place Q ≡ false)
   raising (both q ql kp kt x) e = absurd (omega (arith, flags_at x))
   raising (at_place kp kt kq x) e = (kt, kq)
-  raising (at-asked kp kt kq x) e = absurd (omega (arith, flags_at x))
-  raising (at-transition kp kt kc x) e = absurd (omega (arith, flags_at x))
-  raising (at-capped kp kt x) e = absurd (omega (arith, flags_at x))
+  raising (at_asked kp kt kq x) e = absurd (omega (arith, flags_at x))
+  raising (at_transition kp kt kc x) e = absurd (omega (arith, flags_at x))
+  raising (at_capped kp kt x) e = absurd (omega (arith, flags_at x))
   raising (neither n l kp kt kq x) e = absurd (omega (arith, flags_at x))
 
   pub changing : Ends N ps ts Q w z → 9 ≤ z / 65536 % 65536 → z / 65536 % 65536 ≤ 10 → among (arc_of w).transition ts ≡ false
   changing (both q ql kp kt x) e f = absurd (omega (arith, flags_at x))
   changing (at_place kp kt kq x) e f = kt
-  changing (at-asked kp kt kq x) e f = kt
-  changing (at-transition kp kt kc x) e f = absurd (omega (arith, flags_at x))
-  changing (at-capped kp kt x) e f = absurd (omega (arith, flags_at x))
+  changing (at_asked kp kt kq x) e f = kt
+  changing (at_transition kp kt kc x) e f = absurd (omega (arith, flags_at x))
+  changing (at_capped kp kt x) e f = absurd (omega (arith, flags_at x))
   changing (neither n l kp kt kq x) e f = kt
 
 -- ---- the arc due, as one word
@@ -259,20 +259,20 @@ module _ (t p g d q z : ℕ) (sum : z ≡ t + 65536 * (d + 2 * q) + 4294967296 *
 module _ {N : Net} {ps ts Q : List ℕ} {w z : ℕ} (dl : (arc_of w).direction ≤ 1) (plain : spare w ≡ 0) where
   pub due_fits : Ends N ps ts Q w z → kept_of z ≡ true → 4398046512128 + z / 131072 % 2 * 131072 ≤ z
   due_fits (both q ql kp kt x) k = due_low _ _ (arc_of w).weight (arc_of w).direction q z (omega (arith, x.sum, plain)) dl ql x.least-t x.small-t x.least-p x.small-p
-  due_fits (at_place kp kt kq x) k = absurd (omega (arith, (few-flags x k).0))
-  due_fits (at-asked kp kt kq x) k = absurd (omega (arith, (few-flags x k).0))
-  due_fits (at-transition kp kt kc x) k = absurd (omega (arith, (few-flags x k).0))
-  due_fits (at-capped kp kt x) k = absurd (omega (arith, (few-flags x k).0))
-  due_fits (neither n l kp kt kq x) k = absurd (omega (arith, (few-flags x k).0))
+  due_fits (at_place kp kt kq x) k = absurd (omega (arith, (few_flags x k).0))
+  due_fits (at_asked kp kt kq x) k = absurd (omega (arith, (few_flags x k).0))
+  due_fits (at_transition kp kt kc x) k = absurd (omega (arith, (few_flags x k).0))
+  due_fits (at_capped kp kt x) k = absurd (omega (arith, (few_flags x k).0))
+  due_fits (neither n l kp kt kq x) k = absurd (omega (arith, (few_flags x k).0))
 
   -- the word of the arc due
   pub due_word : Ends N ps ts Q w z → kept_of z ≡ true → due_of z ≡ position (arc_of w).transition ts + 65536 * (arc_of w).direction + 16777216 * 0 + 4294967296 * position (arc_of w).place ps + 281474976710656 * (arc_of w).weight
   due_word (both q ql kp kt x) k = omega (arith, due_parts _ _ (arc_of w).weight (arc_of w).direction q z (omega (arith, x.sum, plain)) dl ql x.least-t x.small-t x.least-p x.small-p)
-  due_word (at_place kp kt kq x) k = absurd (omega (arith, (few-flags x k).0))
-  due_word (at-asked kp kt kq x) k = absurd (omega (arith, (few-flags x k).0))
-  due_word (at-transition kp kt kc x) k = absurd (omega (arith, (few-flags x k).0))
-  due_word (at-capped kp kt x) k = absurd (omega (arith, (few-flags x k).0))
-  due_word (neither n l kp kt kq x) k = absurd (omega (arith, (few-flags x k).0))
+  due_word (at_place kp kt kq x) k = absurd (omega (arith, (few_flags x k).0))
+  due_word (at_asked kp kt kq x) k = absurd (omega (arith, (few_flags x k).0))
+  due_word (at_transition kp kt kc x) k = absurd (omega (arith, (few_flags x k).0))
+  due_word (at_capped kp kt x) k = absurd (omega (arith, (few_flags x k).0))
+  due_word (neither n l kp kt kq x) k = absurd (omega (arith, (few_flags x k).0))
 
   module _ (z-ends : Ends N ps ts Q w z) (k : kept_of z ≡ true) (tl : position (arc_of w).transition ts < 65536) (pl : position (arc_of w).place ps < 65536) (wl : (arc_of w).weight < 65536) (v : ℕ) where
     -- equal words, equal arcs

@@ -34,9 +34,9 @@ module _ (plan : List ℕ) (hp : Header) (slice : List ℕ) (hs : Header) (Q : L
   own rest = numbered 4294967296 (slice_from slice hs).place_origins rest x
 
   -- its cap
-  some-cap : capped (net_from plan hp) x ≡ true → eqb ((net_from plan hp).cap x) 0 ≡ false
+  some_cap : capped (net_from plan hp) x ≡ true → eqb ((net_from plan hp).cap x) 0 ≡ false
   unfolding capped
-  some-cap c = ne_eqb ((net_from plan hp).cap x) 0 (λ z. omega (arith, ltb-true 0 ((net_from plan hp).cap x) c))
+  some_cap c = ne_eqb ((net_from plan hp).cap x) 0 (λ z. omega (arith, ltb-true 0 ((net_from plan hp).cap x) c))
 
   no_cap : capped (net_from plan hp) x ≡ false → eqb ((net_from plan hp).cap x) 0 ≡ true
   unfolding capped
@@ -63,7 +63,7 @@ module _ (plan : List ℕ) (hp : Header) (slice : List ℕ) (hs : Header) (Q : L
   pub bound-entry : bound ((net_from plan hp).cap x) (marked Q (own left_place) x) ≡ marked (watched plan hp slice hs Q) (own (either (capped (net_from plan hp) x) left_capped left_place)) x
   bound-entry =
       by_cases (capped (net_from plan hp) x)
-      (λ c. rw (some-cap c, c) (by_cases (among x (slice_from slice hs).place_origins) (inside c) (outside c)))
+      (λ c. rw (some_cap c, c) (by_cases (among x (slice_from slice hs).place_origins) (inside c) (outside c)))
       (λ c. rw (no_cap c, c) (plain c))
     where
       inside : capped (net_from plan hp) x ≡ true → among x (slice_from slice hs).place_origins ≡ true
@@ -87,11 +87,11 @@ module _ (plan : List ℕ) (hp : Header) (slice : List ℕ) (hs : Header) (Q : L
 
 module _ (plan : List ℕ) (hp : Header) (slice : List ℕ) (hs : Header) (Q : List ℕ) (planned : Sound plan hp) (sliced : Sound slice hs) (kind : hs.kind ≡ 1) (asked : criterion_refusal hp.places Q ≡ 0) (places transitions : List ℕ) (b : Blank hp (slice_from slice hs) places transitions) (places₁ : List ℕ) (n : Numbered 4294967296 (slice_from slice hs).place_origins places places₁) where
   -- every place of the criterion has an entry
-  pub criterion-reached : Reached Q (length places₁)
-  criterion-reached = record { few = omega (arith, n.long, b.origins.few); at = λ i l. omega (arith, n.long, b.places_reached, (passed hp.places Q asked).known_at i l) }
+  pub criterion_reached : Reached Q (length places₁)
+  criterion_reached = record { few = omega (arith, n.long, b.origins.few); at = λ i l. omega (arith, n.long, b.places_reached, (passed hp.places Q asked).known_at i l) }
 
   entry₁ : (x : ℕ) → x < hp.places → get_or places₁ x 0 ≡ numbered 4294967296 (slice_from slice hs).place_origins left_place x
-  entry₁ x l = n.at x (omega (arith, b.places_reached)) ∙ ap (λ (v : ℕ). numbered 4294967296 (slice_from slice hs).place_origins v x) (b.place-entry x (omega (arith, b.places_reached)))
+  entry₁ x l = n.at x (omega (arith, b.places_reached)) ∙ ap (λ (v : ℕ). numbered 4294967296 (slice_from slice hs).place_origins v x) (b.place_entry x (omega (arith, b.places_reached)))
 
   -- an entry of the criterion that tells no place as left out
   pub all_there : ((i : ℕ) → i < length Q → get_or places₁ (get_or Q i 0) 0 ≡ left_place → ⊥) → (q : ℕ) → among q Q ≡ true → among q (slice_from slice hs).place_origins ≡ true
@@ -109,10 +109,10 @@ module _ (plan : List ℕ) (hp : Header) (slice : List ℕ) (hs : Header) (Q : L
     kind = kind;
     places_reached = omega (arith, b.places_reached, n.long, m.long, c.long);
     transitions_reached = omega (arith, b.transitions_reached, t.long);
-    place-entry = λ x l.
+    place_entry = λ x l.
         c.at x l
         ∙ ap (bound ((net_from plan hp).cap x)) (m.at x (omega (arith, b.places_reached, n.long)) ∙ ap (λ (v : ℕ). marked Q v x) (entry₁ x l))
         ∙ bound-entry plan hp slice hs Q (all_there h) x l;
-    transition-entry = λ x l. t.at x (omega (arith, b.transitions_reached)) ∙ ap (λ (v : ℕ). numbered 1 (slice_from slice hs).transition_origins v x) (b.transition-entry x (omega (arith, b.transitions_reached)));
+    transition_entry = λ x l. t.at x (omega (arith, b.transitions_reached)) ∙ ap (λ (v : ℕ). numbered 1 (slice_from slice hs).transition_origins v x) (b.transition_entry x (omega (arith, b.transitions_reached)));
     watches = watched-kept plan hp slice hs Q (all_there h);
   }

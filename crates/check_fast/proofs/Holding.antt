@@ -12,7 +12,7 @@ use Rattle.net.specs.Slice.{Slice, arcs_of, restrict, slice_run, plan_run}
 use Rattle.net.specs.Checker.{breaks, rule4, rule5, rule6, rule7, rule8, rule9, rule10, lacks_input, lacks_output, same_arcs}
 use Rattle.net.proofs.Numbers.{by_cases, by_order, holds, is_true, is_false, fails, not-not, and_left, and_right, any-finds}
 use Rattle.net.proofs.Weights.{run-restrict}
-use Rattle.net.proofs.Verdict.{same-arcs_refl}
+use Rattle.net.proofs.Verdict.{same_arcs_refl}
 use Rattle.file_arcs.specs.Layout.{arc_at, arcs_from}
 use Rattle.file.specs.Layout.{net_from, slice_from}
 use Rattle.file_header.specs.declared.Header.{Header}
@@ -69,7 +69,7 @@ module _ (plan : List ℕ) (hp : Header) (slice : List ℕ) (hs : Header) (Q : L
       (λ e.
       let same : arcs_of (position t ts) (net_from slice hs).arcs ≡ restrict ps ts (arcs_of t (net_from plan hp).arcs) = ap (arcs_of (position t ts)) x.same ∙ run-restrict ps ts t (holds _ e) (net_from plan hp).arcs in
       let run = restrict ps ts (arcs_of t (net_from plan hp).arcs) in
-      rw (e, same, is_true (same_arcs run run) (same-arcs_refl run)))
+      rw (e, same, is_true (same_arcs run run) (same_arcs_refl run)))
       (λ e. rw e)
 
   -- an arc that a weight comes from is fine
@@ -201,9 +201,9 @@ nothing_known N S Q d l = record {
 }
 
 -- the rules before the one that the pass leaves in doubt
-pub passed-agreed : (plan : List ℕ) (hp : Header) (slice : List ℕ) (hs : Header) (Q : List ℕ) (d : ℕ) → (4 < d → Passed plan hp slice hs Q d)
+pub passed_agreed : (plan : List ℕ) (hp : Header) (slice : List ℕ) (hs : Header) (Q : List ℕ) (d : ℕ) → (4 < d → Passed plan hp slice hs Q d)
     → ((q : ℕ) → among q Q ≡ true → q < hp.places) → ((q : ℕ) → among q Q ≡ true → among q (slice_from slice hs).place_origins ≡ true) → Agreed d (net_from plan hp) (slice_from slice hs) Q
-passed-agreed plan hp slice hs Q d x known kept =
+passed_agreed plan hp slice hs Q d x known kept =
     by_cases (ltb 4 d)
     (λ e. agreed plan hp slice hs Q d (x (ltb-true 4 d e)) known kept)
     (λ e. nothing_known _ _ _ d (ltb-false 4 d e))

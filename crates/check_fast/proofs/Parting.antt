@@ -11,27 +11,27 @@ use Rattle.net.specs.Numbers.{among, position, Rising}
 use Rattle.net.specs.Slice.{arcs_of, renumber, restrict, slice_run, plan_run}
 use Rattle.net.specs.Checker.{breaks, breaker, rule4, same_arc, same_arcs}
 use Rattle.net.specs.declared.Arc.{Arc}
-use Rattle.net.proofs.Numbers.{by_cases, by_order, holds, is_true, and_left, and_right, at_position, position-lt, position_at, rising-lt, rising-reflects, among-at}
+use Rattle.net.proofs.Numbers.{by_cases, by_order, holds, is_true, and_left, and_right, at_position, position-lt, position_at, rising_lt, rising_reflects, among-at}
 use Rattle.net.proofs.Weights.{run-restrict}
-use Rattle.net.proofs.Verdict.{same-arcs_refl}
+use Rattle.net.proofs.Verdict.{same_arcs_refl}
 use Rattle.file_arcs.specs.Layout.{arc_at, arcs_from}
 use Rattle.file.specs.Layout.{net_from, slice_from}
 use Rattle.file.specs.Facts.{Sound}
 use Rattle.file_header.specs.declared.Header.{Header}
 use Rattle.file_arcs.proofs.Rows.{first, later, range_at, key-le}
 use Rattle.file.proofs.Rows.{length-words}
-use Rattle.rules_tables.proofs.Rows.{row_cons, row-end, restrict-in, restrict-out, restrict-none}
+use Rattle.rules_tables.proofs.Rows.{row_cons, row_end, restrict-in, restrict-out, restrict-none}
 use Rattle.rules_tables.proofs.Lowest.{breaker-found}
 
 -- ---- the arcs of one transition
 
-arcs-head : (n : ℕ) (a : Arc) (l : List Arc) → a.transition ≡ n → arcs_of n (a ∷ l) ≡ a ∷ arcs_of n l
+arcs_head : (n : ℕ) (a : Arc) (l : List Arc) → a.transition ≡ n → arcs_of n (a ∷ l) ≡ a ∷ arcs_of n l
 unfolding arcs_of
-arcs-head n a l e = rw (eq-eqb a.transition n e, arcs_of)
+arcs_head n a l e = rw (eq-eqb a.transition n e, arcs_of)
 
-arcs-other : (n : ℕ) (a : Arc) (l : List Arc) → (a.transition ≡ n → ⊥) → arcs_of n (a ∷ l) ≡ arcs_of n l
+arcs_other : (n : ℕ) (a : Arc) (l : List Arc) → (a.transition ≡ n → ⊥) → arcs_of n (a ∷ l) ≡ arcs_of n l
 unfolding arcs_of
-arcs-other n a l e = rw (ne_eqb a.transition n e, arcs_of)
+arcs_other n a l e = rw (ne_eqb a.transition n e, arcs_of)
 
 none_of : (n : ℕ) → arcs_of n [] ≡ []
 unfolding arcs_of
@@ -39,7 +39,7 @@ none_of n = refl
 
 same_self : (a : Arc) → same_arc a a ≡ true
 unfolding same_arcs
-same_self a = is_true (same_arc a a) (and_left (same_arc a a) (same_arcs [] []) (same-arcs_refl (a ∷ [])))
+same_self a = is_true (same_arc a a) (and_left (same_arc a a) (same_arcs [] []) (same_arcs_refl (a ∷ [])))
 
 heads : (a b : Arc) (l m : List Arc) (v : Bool) → same_arc a b ≡ v → same_arcs (a ∷ l) (b ∷ m) ≡ (v && same_arcs l m)
 unfolding same_arcs
@@ -61,14 +61,14 @@ both_end = refl
 same_head : (n : ℕ) (a : Arc) (l m : List Arc) → same_arcs (arcs_of n (a ∷ l)) (arcs_of n (a ∷ m)) ≡ same_arcs (arcs_of n l) (arcs_of n m)
 same_head n a l m =
     by_cases (eqb a.transition n)
-    (λ e. let t = eqb-true a.transition n e in rw (arcs-head n a l t, arcs-head n a m t) (heads a a _ _ true (same_self a)))
-    (λ e. let t = eqb-false a.transition n e in rw (arcs-other n a l t, arcs-other n a m t))
+    (λ e. let t = eqb-true a.transition n e in rw (arcs_head n a l t, arcs_head n a m t) (heads a a _ _ true (same_self a)))
+    (λ e. let t = eqb-false a.transition n e in rw (arcs_other n a l t, arcs_other n a m t))
 
 none_before : (s : List ℕ) (at n t : ℕ) → ((i : ℕ) → i < n → t < (arc_at s (at + 8 * i)).transition) → arcs_of t (arcs_from s at n) ≡ []
 unfolding arcs_from
 none_before s at zero t h = none_of t
 none_before s at (suc n) t h =
-    arcs-other t (arc_at s at) (arcs_from s (at + 8) n) (λ e. omega (arith, h 0 (omega arith), ap (λ (a : Arc). a.transition) (first s at)))
+    arcs_other t (arc_at s at) (arcs_from s (at + 8) n) (λ e. omega (arith, h 0 (omega arith), ap (λ (a : Arc). a.transition) (first s at)))
     ∙ none_before s (at + 8) n t (λ i l. omega (arith, h (suc i) (omega arith), ap (λ (a : Arc). a.transition) (later s at i)))
 
 -- ---- what is left of a file's arcs
@@ -97,7 +97,7 @@ module _ (s : List ℕ) (h : Header) (w : Sound s h) where
       none_before s (h.arcstart + 8 * k) (h.arcs - k) t (λ i m.
       let at : h.arcstart + 8 * k + 8 * i ≡ h.arcstart + 8 * (k + i) = omega arith in
       omega (arith, b l, in_order k (k + i) (omega arith) (omega arith), ap (λ (n : ℕ). (arc_at s n).transition) at)))
-      (λ e. ap (arcs_of t) (row-end s h.arcstart h.arcs k (ltb-false k h.arcs e)) ∙ none_of t)
+      (λ e. ap (arcs_of t) (row_end s h.arcstart h.arcs k (ltb-false k h.arcs e)) ∙ none_of t)
 
 -- ---- the two files
 
@@ -109,8 +109,8 @@ pub record Level (plan : List ℕ) (hp : Header) (slice : List ℕ) (hs : Header
       ≡ same_arcs (arcs_of n (left slice hs k)) (arcs_of n (restrict (slice_from slice hs).place_origins (slice_from slice hs).transition_origins (left plan hp j)))
 
 module _ (plan : List ℕ) (hp : Header) (slice : List ℕ) (hs : Header) where
-  pub level-start : Level plan hp slice hs 0 0
-  level-start = record {
+  pub level_start : Level plan hp slice hs 0 0
+  level_start = record {
     within = omega arith;
     behind = omega arith;
     runs = λ n. ap (λ (l : List Arc). same_arcs (arcs_of n l) (arcs_of n (restrict (slice_from slice hs).place_origins (slice_from slice hs).transition_origins (net_from plan hp).arcs))) (whole slice hs)
@@ -134,9 +134,9 @@ module _ (plan : List ℕ) (hp : Header) (slice : List ℕ) (hs : Header) where
       due_first = ap (restrict (slice_from slice hs).place_origins (slice_from slice hs).transition_origins) (row_cons plan hp.arcstart hp.arcs j l) ∙ restrict-in _ _ _ _ kept
 
       -- one more of each
-      pub level-next : k < hs.arcs → arc_at slice (hs.arcstart + 8 * k) ≡ renumber (slice_from slice hs).place_origins (slice_from slice hs).transition_origins (arc_at plan (hp.arcstart + 8 * j))
+      pub level_next : k < hs.arcs → arc_at slice (hs.arcstart + 8 * k) ≡ renumber (slice_from slice hs).place_origins (slice_from slice hs).transition_origins (arc_at plan (hp.arcstart + 8 * j))
           → Level plan hp slice hs (j + 1) (k + 1)
-      level-next h e = record {
+      level_next h e = record {
         within = omega arith;
         behind = omega arith;
         runs = λ n. x.runs n
@@ -181,7 +181,7 @@ module _ (plan : List ℕ) (hp : Header) (slice : List ℕ) (hs : Header) (plann
   own-before : (t : ℕ) → among t (slice_from slice hs).transition_origins ≡ true → t < origin → position t (slice_from slice hs).transition_origins < (arc_at slice (hs.arcstart + 8 * k)).transition
   own-before t e l =
       let ts = (slice_from slice hs).transition_origins in
-      rising-reflects ts rising (position t ts) (arc_at slice (hs.arcstart + 8 * k)).transition (position-lt t ts (holds _ e)) (omega (arith, at_position t ts (holds _ e), l))
+      rising_reflects ts rising (position t ts) (arc_at slice (hs.arcstart + 8 * k)).transition (position-lt t ts (holds _ e)) (omega (arith, at_position t ts (holds _ e), l))
 
   -- a transition below both next ones
   below_both : (t : ℕ) → (j < hp.arcs → t < (arc_at plan (hp.arcstart + 8 * j)).transition) → (k < hs.arcs → t < origin) → breaks (rule4 (net_from plan hp) (slice_from slice hs)) t ≡ false
@@ -201,7 +201,7 @@ module _ (plan : List ℕ) (hp : Header) (slice : List ℕ) (hs : Header) (plann
       let n = (arc_at slice (hs.arcstart + 8 * k)).transition in
       let held : among origin ts ≡ true = is_true _ (among-at ts n (own-inside l)) in
       let own : position origin ts ≡ n = position_at ts rising n (own-inside l) in
-      let rest : arcs_of (position origin ts) (left slice hs k) ≡ arc_at slice (hs.arcstart + 8 * k) ∷ arcs_of (position origin ts) (left slice hs (k + 1)) = ap (arcs_of (position origin ts)) (row_cons slice hs.arcstart hs.arcs k l) ∙ arcs-head (position origin ts) _ _ (sym own) in
+      let rest : arcs_of (position origin ts) (left slice hs k) ≡ arc_at slice (hs.arcstart + 8 * k) ∷ arcs_of (position origin ts) (left slice hs (k + 1)) = ap (arcs_of (position origin ts)) (row_cons slice hs.arcstart hs.arcs k l) ∙ arcs_head (position origin ts) _ _ (sym own) in
       found origin r e (rule_at_lem origin held false (rw (rest, plan_none origin held b) (long _ _)))
       (λ u m. below_both u (λ h. omega (arith, b h)) (λ h. m))
 
@@ -216,7 +216,7 @@ module _ (plan : List ℕ) (hp : Header) (slice : List ℕ) (hs : Header) (plann
         ≡ renumber (slice_from slice hs).place_origins (slice_from slice hs).transition_origins (arc_at plan (hp.arcstart + 8 * j))
         ∷ arcs_of (position here (slice_from slice hs).transition_origins) (restrict (slice_from slice hs).place_origins (slice_from slice hs).transition_origins (left plan hp (j + 1)))
     unfolding renumber
-    due = ap (arcs_of (position here (slice_from slice hs).transition_origins)) (due_first plan hp slice hs j k x l kept) ∙ arcs-head _ _ _ refl
+    due = ap (arcs_of (position here (slice_from slice hs).transition_origins)) (due_first plan hp slice hs j k x l kept) ∙ arcs_head _ _ _ refl
 
     -- the slice has no arc of this transition left, or another one
     differs : (k < hs.arcs → here ≤ origin) → (k < hs.arcs → same_arc (arc_at slice (hs.arcstart + 8 * k)) (renumber (slice_from slice hs).place_origins (slice_from slice hs).transition_origins (arc_at plan (hp.arcstart + 8 * j))) ≡ false)
@@ -230,9 +230,9 @@ module _ (plan : List ℕ) (hp : Header) (slice : List ℕ) (hs : Header) (plann
         (λ h. let m = ltb-true k hs.arcs h in
         by_order n b
         (λ d. none (λ q. d))
-        (λ d. let rest : arcs_of n (left slice hs k) ≡ arc_at slice (hs.arcstart + 8 * k) ∷ arcs_of n (left slice hs (k + 1)) = ap (arcs_of n) (row_cons slice hs.arcstart hs.arcs k m) ∙ arcs-head n _ _ (sym d) in
+        (λ d. let rest : arcs_of n (left slice hs k) ≡ arc_at slice (hs.arcstart + 8 * k) ∷ arcs_of n (left slice hs (k + 1)) = ap (arcs_of n) (row_cons slice hs.arcstart hs.arcs k m) ∙ arcs_head n _ _ (sym d) in
         rule_at_lem here held-here false (rw (rest, due) (heads _ _ _ _ false (other m))))
-        (λ d. absurd (omega (arith, low m, at_position here ts (holds _ held-here), rising-lt ts rising b n d (position-lt here ts (holds _ held-here))))))
+        (λ d. absurd (omega (arith, low m, at_position here ts (holds _ held-here), rising_lt ts rising b n d (position-lt here ts (holds _ held-here))))))
         (λ h. none (λ q. absurd (omega (arith, ltb-false k hs.arcs h))))
 
     -- the plan's next arc is due, and not there

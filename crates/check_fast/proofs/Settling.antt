@@ -18,7 +18,7 @@ use Rattle.file_arcs.specs.Facts.{ArcWord, arc_of}
 use Rattle.file_header.specs.declared.Header.{Header}
 use Rattle.check_fast.specs.Pass.{Ready, joined_of, kept_of, Settled}
 use Rattle.check_fast.proofs.Ends.{apart, raising, changing}
-use Rattle.check_fast.proofs.Walking.{good-word, word-ends, left-out_here}
+use Rattle.check_fast.proofs.Walking.{good_word, word-ends, left-out_here}
 
 -- ---- the sign of a difference
 
@@ -26,9 +26,9 @@ low_by : {A : Type 0} (b : Bool) (m n : ℕ) → le_z (cond b (negsuc m) (pos n)
 low_by true m n e f g = f refl
 low_by false m n e f g = g refl (leb-true n 0 e)
 
-high-by : {A : Type 0} (b : Bool) (m n : ℕ) → le_z (pos 0) (cond b (negsuc m) (pos n)) ≡ true → (b ≡ false → A) → A
-high-by true m n e f = apart e refl
-high-by false m n e f = f refl
+high_by : {A : Type 0} (b : Bool) (m n : ℕ) → le_z (pos 0) (cond b (negsuc m) (pos n)) ≡ true → (b ≡ false → A) → A
+high_by true m n e f = apart e refl
+high_by false m n e f = f refl
 
 not-above : (a b : ℕ) → le_z (pos a -ℤ pos b) (pos 0) ≡ true → a ≤ b
 not-above a zero e = omega (arith, leb-true (a + 0) 0 e)
@@ -36,7 +36,7 @@ not-above a (suc b) e = low_by (ltb a (suc b)) (suc b - suc a) (a - suc b) e (λ
 
 not-below : (a b : ℕ) → le_z (pos 0) (pos a -ℤ pos b) ≡ true → b ≤ a
 not-below a zero e = omega arith
-not-below a (suc b) e = high-by (ltb a (suc b)) (suc b - suc a) (a - suc b) e (λ h. omega (arith, ltb-false a (suc b) h))
+not-below a (suc b) e = high_by (ltb a (suc b)) (suc b - suc a) (a - suc b) e (λ h. omega (arith, ltb-false a (suc b) h))
 
 -- ---- rules 6, 8 and 10
 
@@ -70,7 +70,7 @@ module _ (plan : List ℕ) (hp : Header) (slice : List ℕ) (hs : Header) (Q pla
 
   pub settled_raise : z / 65536 % 65536 ≡ 8 → le_z e (pos 0) ≡ true → Settled plan hp slice hs Q 11 (arc_at plan (hp.arcstart + 8 * j))
   settled_raise f h =
-      let k = raising (good-word plan hp slice hs Q places transitions r j l w is wl).direction (word-ends plan hp slice hs Q places transitions r j l w is wl z sum) f in
+      let k = raising (good_word plan hp slice hs Q places transitions r j l w is wl).direction (word-ends plan hp slice hs Q places transitions r j l w is wl z sum) f in
       there (record {
         fine = record {
           fed = λ g t d. apart t k.0;
@@ -83,7 +83,7 @@ module _ (plan : List ℕ) (hp : Header) (slice : List ℕ) (hs : Header) (Q pla
 
   pub settled_change : 9 ≤ z / 65536 % 65536 → z / 65536 % 65536 ≤ 10 → (le_z e (pos 0) && le_z (pos 0) e) ≡ true → Settled plan hp slice hs Q 11 (arc_at plan (hp.arcstart + 8 * j))
   settled_change f g h =
-      let k = changing (good-word plan hp slice hs Q places transitions r j l w is wl).direction (word-ends plan hp slice hs Q places transitions r j l w is wl z sum) f g in
+      let k = changing (good_word plan hp slice hs Q places transitions r j l w is wl).direction (word-ends plan hp slice hs Q places transitions r j l w is wl z sum) f g in
       there (record {
         fine = record {
           fed = λ g t d. apart t k;
@@ -96,16 +96,16 @@ module _ (plan : List ℕ) (hp : Header) (slice : List ℕ) (hs : Header) (Q pla
 
 -- a rule in doubt where nothing was looked up
 module _ (plan : List ℕ) (hp : Header) (slice : List ℕ) (hs : Header) (Q places transitions : List ℕ) (r : Ready plan hp slice hs Q places transitions) (j : ℕ) (l : j < hp.arcs) (w : ℕ) (is : ArcWord plan (hp.arcstart + 8 * j) w) (wl : w < 18446744073709551616) (z : ℕ) (sum : z ≡ joined_of w places transitions) where
-  pub eighth-in_doubt : z / 65536 % 65536 ≡ 8 → Settled plan hp slice hs Q 8 (arc_at plan (hp.arcstart + 8 * j))
-  eighth-in_doubt f =
-      let k = raising (good-word plan hp slice hs Q places transitions r j l w is wl).direction (word-ends plan hp slice hs Q places transitions r j l w is wl z sum) f in
+  pub eighth_in_doubt : z / 65536 % 65536 ≡ 8 → Settled plan hp slice hs Q 8 (arc_at plan (hp.arcstart + 8 * j))
+  eighth_in_doubt f =
+      let k = raising (good_word plan hp slice hs Q places transitions r j l w is wl).direction (word-ends plan hp slice hs Q places transitions r j l w is wl z sum) f in
       subst (Settled plan hp slice hs Q 8) is.arc (record {
         fine = record { fed = λ g t d. apart t k.0; unchanged = λ g t q. apart q k.1; unraised = λ g. absurd (omega arith); held = λ g. absurd (omega arith) };
         out = out_of (among (arc_of w).place (slice_from slice hs).place_origins) (among (arc_of w).transition (slice_from slice hs).transition_origins) k.0;
       })
 
-  pub sixth-in_doubt : kept_of z ≡ false → Settled plan hp slice hs Q 6 (arc_at plan (hp.arcstart + 8 * j))
-  sixth-in_doubt e = record {
+  pub sixth_in_doubt : kept_of z ≡ false → Settled plan hp slice hs Q 6 (arc_at plan (hp.arcstart + 8 * j))
+  sixth_in_doubt e = record {
     fine = record { fed = λ g. absurd (omega arith); unchanged = λ g. absurd (omega arith); unraised = λ g. absurd (omega arith); held = λ g. absurd (omega arith) };
     out = left-out_here plan hp slice hs Q places transitions r j l w is wl z sum e;
   }

@@ -8,13 +8,13 @@ use Rattle.check_fast.specs.Pass.{kept_of, odd_of}
 
 -- z has these own numbers, 1024 more each, and these flags beside the spare byte
 pub record Flags (t s p g f z : ℕ) : Type 0 where
-  pub least-t : 1024 ≤ t
-  pub small-t : t < 2048
-  pub small-f : f < 32
-  pub small-s : s < 256
-  pub least-p : 1024 ≤ p
-  pub small-p : p < 2048
-  pub small-g : g < 65536
+  pub least_t : 1024 ≤ t
+  pub small_t : t < 2048
+  pub small_f : f < 32
+  pub small_s : s < 256
+  pub least_p : 1024 ≤ p
+  pub small_p : p < 2048
+  pub small_g : g < 65536
   pub sum : z ≡ t + 65536 * f + 16777216 * s + 4294967296 * p + 281474976710656 * g
 
 module _ {t s p g f z : ℕ} (x : Flags t s p g f z) where
@@ -28,8 +28,8 @@ module _ {t s p g f z : ℕ} (x : Flags t s p g f z) where
   below = omega arith
 
   -- both ends are kept
-  pub few-flags : kept_of z ≡ true → (f < 4) × (s ≡ 0)
-  few-flags e = let h : z % 4294967296 < 262144 = ltb-true _ _ e in (omega (arith, low), omega (arith, low))
+  pub few_flags : kept_of z ≡ true → (f < 4) × (s ≡ 0)
+  few_flags e = let h : z % 4294967296 < 262144 = ltb-true _ _ e in (omega (arith, low), omega (arith, low))
 
   pub many_flags : kept_of z ≡ false → s ≡ 0 → 4 ≤ f
   many_flags e n = let h : 262144 ≤ z % 4294967296 = ltb-false _ _ e in omega (arith, low)

@@ -22,10 +22,10 @@ use Rattle.file_arcs.specs.Facts.{ArcGood, ArcWord, arc_of}
 use Rattle.file.specs.Facts.{Sound}
 use Rattle.file_header.specs.declared.Header.{Header}
 use Rattle.file_arcs.proofs.Rows.{range_at}
-use Rattle.rules_tables.proofs.Rows.{row_cons, row-end, restrict-in, restrict-out, restrict-none}
+use Rattle.rules_tables.proofs.Rows.{row_cons, row_end, restrict-in, restrict-out, restrict-none}
 use Rattle.check_fast.specs.Pass.{Ready, joined_of, kept_of, odd_of, quiet_of, watched, Fine, FineIn, Settled, Walked, Passed}
 use Rattle.check_fast.proofs.Sums.{Alike}
-use Rattle.check_fast.proofs.Ends.{Ends, spare, ends, sum_below, ends-kept, due_arc, end_out, arc-fine}
+use Rattle.check_fast.proofs.Ends.{Ends, spare, ends, sum_below, ends_kept, due_arc, end_out, arc-fine}
 
 -- ---- bits
 
@@ -58,8 +58,8 @@ quiet_is d e =
       fourth = eqb→eq _ _ (and_right (a && b && c) f four);
     }
 
-is-quiet : (d : ℕ) → Quiet d → quiet_of d ≡ true
-is-quiet d q = rw (q.first, q.second, q.third, q.fourth)
+is_quiet : (d : ℕ) → Quiet d → quiet_of d ≡ true
+is_quiet d q = rw (q.first, q.second, q.third, q.fourth)
 
 module _ (a b : ℕ) (q : Quiet (bit_or a b)) where
   or_1 : (a % 1024 ≡ 0) × (b % 1024 ≡ 0)
@@ -94,8 +94,8 @@ counted-one false = omega arith
 
 -- ---- rows of arcs
 
-row-whole : (s : List ℕ) (start n : ℕ) → arcs_from s (start + 8 * 0) (n - 0) ≡ arcs_from s start n
-row-whole s start n =
+row_whole : (s : List ℕ) (start n : ℕ) → arcs_from s (start + 8 * 0) (n - 0) ≡ arcs_from s start n
+row_whole s start n =
     let e : start + 8 * 0 ≡ start = omega arith in
     let f : n - 0 ≡ n = omega arith in
     ap (λ (at : ℕ). arcs_from s at (n - 0)) e ∙ ap (arcs_from s start) f
@@ -103,11 +103,11 @@ row-whole s start n =
 -- ---- the walk
 
 -- fewer rules come before a lower one
-pub fine-less : {N : Net} {ps ts Q : List ℕ} {a : Arc} (d d' : ℕ) → d' ≤ d → Fine N ps ts Q d a → Fine N ps ts Q d' a
-fine-less d d' l f = record { fed = λ g. f.fed (omega arith); unchanged = λ g. f.unchanged (omega arith); unraised = λ g. f.unraised (omega arith); held = λ g. f.held (omega arith) }
+pub fine_less : {N : Net} {ps ts Q : List ℕ} {a : Arc} (d d' : ℕ) → d' ≤ d → Fine N ps ts Q d a → Fine N ps ts Q d' a
+fine_less d d' l f = record { fed = λ g. f.fed (omega arith); unchanged = λ g. f.unchanged (omega arith); unraised = λ g. f.unraised (omega arith); held = λ g. f.held (omega arith) }
 
 pub settled_less : (plan : List ℕ) (hp : Header) (slice : List ℕ) (hs : Header) (Q : List ℕ) (a : Arc) (d d' : ℕ) → d' ≤ d → Settled plan hp slice hs Q d a → Settled plan hp slice hs Q d' a
-settled_less plan hp slice hs Q a d d' l s = record { fine = fine-less d d' l s.fine; out = s.out }
+settled_less plan hp slice hs Q a d d' l s = record { fine = fine_less d d' l s.fine; out = s.out }
 
 module _ (plan : List ℕ) (hp : Header) (slice : List ℕ) (hs : Header) (Q : List ℕ) where
   pub walked_start : Walked plan hp slice hs Q 0 0 0 11
@@ -115,7 +115,7 @@ module _ (plan : List ℕ) (hp : Header) (slice : List ℕ) (hs : Header) (Q : L
     within = omega arith;
     behind = omega arith;
     fine = λ i l. absurd (omega arith);
-    same = λ l d e. sym (row-whole slice hs.arcstart hs.arcs) ∙ e ∙ ap (restrict (slice_from slice hs).place_origins (slice_from slice hs).transition_origins) (row-whole plan hp.arcstart hp.arcs);
+    same = λ l d e. sym (row_whole slice hs.arcstart hs.arcs) ∙ e ∙ ap (restrict (slice_from slice hs).place_origins (slice_from slice hs).transition_origins) (row_whole plan hp.arcstart hp.arcs);
   }
 
   module _ (j k differs d : ℕ) (x : Walked plan hp slice hs Q j k differs d) where
@@ -123,14 +123,14 @@ module _ (plan : List ℕ) (hp : Header) (slice : List ℕ) (hs : Header) (Q : L
     pub walked_end : hp.arcs ≤ j → k ≡ hs.arcs → quiet_of differs ≡ true → Passed plan hp slice hs Q d
     walked_end l e q = record {
       same = x.same (omega arith) q
-          (row-end slice hs.arcstart hs.arcs k (omega arith)
-          ∙ sym (ap (restrict (slice_from slice hs).place_origins (slice_from slice hs).transition_origins) (row-end plan hp.arcstart hp.arcs j l) ∙ restrict-none _ _));
+          (row_end slice hs.arcstart hs.arcs k (omega arith)
+          ∙ sym (ap (restrict (slice_from slice hs).place_origins (slice_from slice hs).transition_origins) (row_end plan hp.arcstart hp.arcs j l) ∙ restrict-none _ _));
       fine = λ i h. x.fine i (omega (arith, x.within));
     }
 
     -- more is in doubt
     pub walked_doubt : (d' : ℕ) → d' ≤ d → Walked plan hp slice hs Q j k differs d'
-    walked_doubt d' l = record { within = x.within; behind = x.behind; fine = λ i h. fine-less d d' l (x.fine i h); same = x.same }
+    walked_doubt d' l = record { within = x.within; behind = x.behind; fine = λ i h. fine_less d d' l (x.fine i h); same = x.same }
 
     -- one more, left out
     pub walked_past : j < hp.arcs → Settled plan hp slice hs Q d (arc_at plan (hp.arcstart + 8 * j)) → Walked plan hp slice hs Q (j + 1) k differs d
@@ -170,8 +170,8 @@ module _ (plan : List ℕ) (hp : Header) (slice : List ℕ) (hs : Header) (Q : L
 -- ---- one arc of the plan
 
 -- direction and zero byte as one number
-zero-byte : (w b : ℕ) → w / 65536 % 65536 ≡ b → b < 256 → spare w ≡ 0
-zero-byte w b e l = let one : w / 65536 / 256 ≡ w / 16777216 = div-div-eq-div-mul w 65536 256 in low (w / 65536) (w / 16777216) b one e l
+zero_byte : (w b : ℕ) → w / 65536 % 65536 ≡ b → b < 256 → spare w ≡ 0
+zero_byte w b e l = let one : w / 65536 / 256 ≡ w / 16777216 = div-div-eq-div-mul w 65536 256 in low (w / 65536) (w / 16777216) b one e l
   where
     low : (a c b : ℕ) → a / 256 ≡ c → a % 65536 ≡ b → b < 256 → c % 256 ≡ 0
     low a c b e f l = omega arith
@@ -180,23 +180,23 @@ zero-byte w b e l = let one : w / 65536 / 256 ≡ w / 16777216 = div-div-eq-div-
 pub plain_word : (s : List ℕ) (h : Header) → Sound s h → (k : ℕ) → k < h.arcs → (v : ℕ) → ArcWord s (h.arcstart + 8 * k) v → spare v ≡ 0
 plain_word s h so k l v its =
     let g = range_at h.places h.transitions s h.arcstart h.arcs k so.arcs l in
-    zero-byte v (byte_at s (h.arcstart + 8 * k + 2)) (omega (arith, its.middle, so.zeros k l)) (omega (arith, g.direction))
+    zero_byte v (byte_at s (h.arcstart + 8 * k + 2)) (omega (arith, its.middle, so.zeros k l)) (omega (arith, g.direction))
 
 -- an arc of the slice has small numbers
-slice-word : (slice : List ℕ) (hs : Header) → Sound slice hs → (k : ℕ) → k < hs.arcs → (own : ℕ) → ArcWord slice (hs.arcstart + 8 * k) own → ArcGood 1024 1024 (arc_of own)
-slice-word slice hs so k l own its =
+slice_word : (slice : List ℕ) (hs : Header) → Sound slice hs → (k : ℕ) → k < hs.arcs → (own : ℕ) → ArcWord slice (hs.arcstart + 8 * k) own → ArcGood 1024 1024 (arc_of own)
+slice_word slice hs so k l own its =
     let g = subst (ArcGood hs.places hs.transitions) (sym its.arc) (range_at hs.places hs.transitions slice hs.arcstart hs.arcs k so.arcs l) in
     record { direction = g.direction; place = omega (arith, g.place, so.placed.places); transition = omega (arith, g.transition, so.placed.transitions); weight = g.weight }
 
 module _ (plan : List ℕ) (hp : Header) (slice : List ℕ) (hs : Header) (Q places transitions : List ℕ) (r : Ready plan hp slice hs Q places transitions) (j : ℕ) (l : j < hp.arcs) (w : ℕ) (is : ArcWord plan (hp.arcstart + 8 * j) w) (wl : w < 18446744073709551616) where
-  pub good-word : ArcGood hp.places hp.transitions (arc_of w)
-  good-word = subst (ArcGood hp.places hp.transitions) (sym is.arc) (range_at hp.places hp.transitions plan hp.arcstart hp.arcs j r.planned.arcs l)
+  pub good_word : ArcGood hp.places hp.transitions (arc_of w)
+  good_word = subst (ArcGood hp.places hp.transitions) (sym is.arc) (range_at hp.places hp.transitions plan hp.arcstart hp.arcs j r.planned.arcs l)
 
   pub word-ends : (z : ℕ) → z ≡ joined_of w places transitions → Ends (net_from plan hp) (slice_from slice hs).place_origins (slice_from slice hs).transition_origins (watched plan hp slice hs Q) w z
-  word-ends z e = ends plan hp slice hs Q places transitions r w wl good-word z e
+  word-ends z e = ends plan hp slice hs Q places transitions r w wl good_word z e
 
   pub joined-fits : ((arc_of w).place < length places) × ((arc_of w).transition < length transitions) × (joined_of w places transitions < 18446744073709551616)
-  joined-fits = (omega (arith, good-word.place, r.places_reached), omega (arith, good-word.transition, r.transitions_reached), sum_below good-word.direction (word-ends _ refl))
+  joined-fits = (omega (arith, good_word.place, r.places_reached), omega (arith, good_word.transition, r.transitions_reached), sum_below good_word.direction (word-ends _ refl))
 
   -- its zero byte
   pub plain : spare w ≡ 0
@@ -204,19 +204,19 @@ module _ (plan : List ℕ) (hp : Header) (slice : List ℕ) (hs : Header) (Q pla
 
   -- an end is left out
   pub left-out_here : (z : ℕ) → z ≡ joined_of w places transitions → kept_of z ≡ false → (among (arc_at plan (hp.arcstart + 8 * j)).place (slice_from slice hs).place_origins && among (arc_at plan (hp.arcstart + 8 * j)).transition (slice_from slice hs).transition_origins) ≡ false
-  left-out_here z sum e = subst (λ (a : Arc). (among a.place (slice_from slice hs).place_origins && among a.transition (slice_from slice hs).transition_origins) ≡ false) is.arc (end_out good-word.direction (word-ends z sum) plain e)
+  left-out_here z sum e = subst (λ (a : Arc). (among a.place (slice_from slice hs).place_origins && among a.transition (slice_from slice hs).transition_origins) ≡ false) is.arc (end_out good_word.direction (word-ends z sum) plain e)
 
   -- both are kept
   pub kept_here : (z : ℕ) → z ≡ joined_of w places transitions → kept_of z ≡ true → (among (arc_at plan (hp.arcstart + 8 * j)).place (slice_from slice hs).place_origins && among (arc_at plan (hp.arcstart + 8 * j)).transition (slice_from slice hs).transition_origins) ≡ true
-  kept_here z sum e = subst (λ (a : Arc). (among a.place (slice_from slice hs).place_origins && among a.transition (slice_from slice hs).transition_origins) ≡ true) is.arc (ends-kept good-word.direction (word-ends z sum) e)
+  kept_here z sum e = subst (λ (a : Arc). (among a.place (slice_from slice hs).place_origins && among a.transition (slice_from slice hs).transition_origins) ≡ true) is.arc (ends_kept good_word.direction (word-ends z sum) e)
 
   module _ (k differs d : ℕ) (x : Walked plan hp slice hs Q j k differs d) (z : ℕ) (sum : z ≡ joined_of w places transitions) (even : (odd_of z && ltb 6 d) ≡ false) where
-    fine-here : FineIn plan hp slice hs Q d (arc_at plan (hp.arcstart + 8 * j))
-    fine-here =
+    fine_here : FineIn plan hp slice hs Q d (arc_at plan (hp.arcstart + 8 * j))
+    fine_here =
         by_cases (odd_of z)
         (λ o. let low : d ≤ 6 = ltb-false 6 d (sym (ap (λ (b : Bool). b && ltb 6 d) o) ∙ even) in
         record { fed = λ g. absurd (omega arith); unchanged = λ g. absurd (omega arith); unraised = λ g. absurd (omega arith); held = λ g. absurd (omega arith) })
-        (λ o. subst (FineIn plan hp slice hs Q d) is.arc (arc-fine good-word.direction d (word-ends z sum) o))
+        (λ o. subst (FineIn plan hp slice hs Q d) is.arc (arc-fine good_word.direction d (word-ends z sum) o))
 
     pub walked_next : (own : ℕ) → ArcWord slice (hs.arcstart + 8 * k) own → (n : ℕ) → n ≡ bit_or differs (counted (kept_of z) (bit_xor z own)) → (m : ℕ) → m ≡ k + counted (kept_of z) 1 → Walked plan hp slice hs Q (j + 1) m n d
     walked_next own its n en m em = by_cases (kept_of z) kept left
@@ -226,7 +226,7 @@ module _ (plan : List ℕ) (hp : Header) (slice : List ℕ) (hs : Header) (Q pla
             let a : n ≡ differs = en ∙ ap (λ (b : Bool). bit_or differs (counted b (bit_xor z own))) e ∙ or_zero_r differs in
             let b : m ≡ k = em ∙ ap (λ (b : Bool). k + counted b 1) e ∙ (let c : k + 0 ≡ k = omega arith in c) in
             rw (a, b) (walked_past plan hp slice hs Q j k differs d x l (record {
-              fine = fine-here;
+              fine = fine_here;
               out = left-out_here z sum e;
             }))
 
@@ -236,10 +236,10 @@ module _ (plan : List ℕ) (hp : Header) (slice : List ℕ) (hs : Header) (Q pla
             let b : m ≡ k + 1 = em ∙ ap (λ (b : Bool). k + counted b 1) e in
             let calm : quiet_of n ≡ true → Quiet (bit_or differs (bit_xor z own)) = λ q. subst Quiet a (quiet_is n q) in
             rw b (by_cases (ltb k hs.arcs)
-            (λ h. walked_on plan hp slice hs Q j k differs d x l (ltb-true _ _ h) fine-here
+            (λ h. walked_on plan hp slice hs Q j k differs d x l (ltb-true _ _ h) fine_here
             (kept_here z sum e)
-            n (λ q. is-quiet differs (quiet_left differs _ (calm q)))
+            n (λ q. is_quiet differs (quiet_left differs _ (calm q)))
             (λ q. sym its.arc
-            ∙ due_arc good-word.direction (word-ends z sum) e own (slice-word slice hs r.sliced k (ltb-true _ _ h) own its) (like z own (quiet_right differs _ (calm q)))
+            ∙ due_arc good_word.direction (word-ends z sum) e own (slice_word slice hs r.sliced k (ltb-true _ _ h) own its) (like z own (quiet_right differs _ (calm q)))
             ∙ ap (renumber (slice_from slice hs).place_origins (slice_from slice hs).transition_origins) is.arc))
-            (λ h. walked_over plan hp slice hs Q j k differs d x l (ltb-false _ _ h) fine-here n))
+            (λ h. walked_over plan hp slice hs Q j k differs d x l (ltb-false _ _ h) fine_here n))

@@ -22,8 +22,8 @@ pub record Ready (plan : List ℕ) (hp : Header) (slice : List ℕ) (hs : Header
   pub kind : hs.kind ≡ 1
   pub places_reached : hp.places ≤ length places
   pub transitions_reached : hp.transitions ≤ length transitions
-  pub place-entry : (x : ℕ) → x < hp.places → get_or places x 0 ≡ marked (watched plan hp slice hs Q) (numbered 4294967296 (slice_from slice hs).place_origins (either (capped (net_from plan hp) x) left_capped left_place) x) x
-  pub transition-entry : (x : ℕ) → x < hp.transitions → get_or transitions x 0 ≡ numbered 1 (slice_from slice hs).transition_origins left_transition x
+  pub place_entry : (x : ℕ) → x < hp.places → get_or places x 0 ≡ marked (watched plan hp slice hs Q) (numbered 4294967296 (slice_from slice hs).place_origins (either (capped (net_from plan hp) x) left_capped left_place) x) x
+  pub transition_entry : (x : ℕ) → x < hp.transitions → get_or transitions x 0 ≡ numbered 1 (slice_from slice hs).transition_origins left_transition x
   pub watches : (q : ℕ) → among q (watched plan hp slice hs Q) ≡ true → among q (slice_from slice hs).place_origins ≡ true
 
 -- an arc's number with the entries of its place and its transition
@@ -91,6 +91,6 @@ pub record Blank (hp : Header) (S : Slice) (places transitions : List ℕ) : Typ
   pub places_reached : hp.places ≤ length places
   pub transitions_reached : hp.transitions ≤ length transitions
   pub origins : Reached S.place_origins (length places)
-  pub transition-origins : Reached S.transition_origins (length transitions)
-  pub place-entry : (x : ℕ) → x < length places → get_or places x 0 ≡ left_place
-  pub transition-entry : (x : ℕ) → x < length transitions → get_or transitions x 0 ≡ left_transition
+  pub origins_of_transitions : Reached S.transition_origins (length transitions)
+  pub place_entry : (x : ℕ) → x < length places → get_or places x 0 ≡ left_place
+  pub transition_entry : (x : ℕ) → x < length transitions → get_or transitions x 0 ≡ left_transition

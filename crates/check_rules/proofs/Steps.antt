@@ -9,7 +9,7 @@ use Rattle.net.specs.Net.{Net, Uncapped}
 use Rattle.net.specs.Slice.{Slice}
 use Rattle.net.specs.Checker.{Rule, breaks, breaker, verdict_from, verdict, rules, rule1, rule2, rule3, rule4, rule5, rule6, rule7, rule8, rule9, rule10}
 use Rattle.net.proofs.Verdict.{AllHold, verdict-holds}
-use Rattle.net.proofs.Uncapped.{uncapped-rule9, uncapped-rule10}
+use Rattle.net.proofs.Uncapped.{uncapped_rule9, uncapped_rule10}
 use Rattle.promise.specs.Calls.{told}
 use Rattle.net.proofs.Numbers.{first-none}
 use Rattle.rules_tables.specs.Agreed.{Unbroken}
@@ -22,9 +22,9 @@ past R u = first-none (breaks R) R.range u.at
 
 -- the rule is broken: its number and the number that breaks it
 module _ (k : ℕ) (R : Rule) (l : List Rule) (n r : ℕ) (range : R.range ≡ r) (found : n ≡ breaker R) where
-  pub broken-here : n < r → record { refused = false; code = 100 + k; number = n } ≡ told (verdict_from k (R ∷ l))
+  pub broken_here : n < r → record { refused = false; code = 100 + k; number = n } ≡ told (verdict_from k (R ∷ l))
   unfolding verdict_from
-  broken-here h =
+  broken_here h =
       let e : ltb (breaker R) R.range ≡ true = lt-ltb (breaker R) R.range (rw (← found, range) h) in
       rw (e, verdict_from) (ap (λ (m : ℕ). record { refused = false; code = 100 + k; number = m }) found)
 
@@ -36,9 +36,9 @@ module _ (k : ℕ) (R : Rule) (l : List Rule) (n r : ℕ) (range : R.range ≡ r
       rw (e, verdict_from)
 
 -- rules 9 and 10 are left, which hold of a net without caps: accepted
-pub caps-left : (N : Net) (S : Slice) → Uncapped N → record { refused = false; code = 0; number = 0 } ≡ told (verdict_from 9 (rule9 N S ∷ rule10 N S ∷ []))
+pub caps_left : (N : Net) (S : Slice) → Uncapped N → record { refused = false; code = 0; number = 0 } ≡ told (verdict_from 9 (rule9 N S ∷ rule10 N S ∷ []))
 unfolding AllHold
-caps-left N S none = ap told (sym ((verdict-holds 9 (rule9 N S ∷ rule10 N S ∷ [])).1 (uncapped-rule9 N none S, (uncapped-rule10 N none S, tt))))
+caps_left N S none = ap told (sym ((verdict-holds 9 (rule9 N S ∷ rule10 N S ∷ [])).1 (uncapped_rule9 N none S, (uncapped_rule10 N none S, tt))))
 
 -- no rule is left: accepted
 pub none_left : (k : ℕ) → record { refused = false; code = 0; number = 0 } ≡ told (verdict_from k [])

@@ -31,13 +31,13 @@ pub record Judged (plan : List ℕ) (hp : Header) (slice : List ℕ) (hs : Heade
 -- the tables are long enough: starts of the plan's and the slice's arcs, own places and transitions
 pub record Room (hp hs : Header) (table runs ownp ownt : ℕ) : Type 0 where
   pub starts : 2 * hp.transitions < table
-  pub runs-start : 2 * hs.transitions < runs
+  pub runs_start : 2 * hs.transitions < runs
   pub places : hp.places ≤ ownp
   pub transitions : hp.transitions ≤ ownt
 
 -- two tables, as long as they were, with the slice's own places and transitions
 pub record Filled (slice : List ℕ) (hs : Header) (ownp ownp' ownt ownt' : List ℕ) : Type 0 where
-  pub long-p : length ownp' ≡ length ownp
-  pub long-t : length ownt' ≡ length ownt
+  pub long_p : length ownp' ≡ length ownp
+  pub long_t : length ownt' ≡ length ownt
   pub places : Own (slice_from slice hs).place_origins ownp'
   pub transitions : Own (slice_from slice hs).transition_origins ownt'

@@ -14,7 +14,7 @@ blank hp S n few p t k = record {
   places_reached = omega (arith, length-replicate n left_place);
   transitions_reached = omega (arith, length-replicate n left_transition);
   origins = record { few = omega (arith, length-replicate n left_place); at = λ i l. omega (arith, length-replicate n left_place, k.places.at i l) };
-  transition-origins = record { few = omega (arith, length-replicate n left_transition); at = λ i l. omega (arith, length-replicate n left_transition, k.transitions.at i l) };
-  place-entry = λ x l. get_or-replicate n x left_place 0 (omega (arith, length-replicate n left_place));
-  transition-entry = λ x l. get_or-replicate n x left_transition 0 (omega (arith, length-replicate n left_transition));
+  origins_of_transitions = record { few = omega (arith, length-replicate n left_transition); at = λ i l. omega (arith, length-replicate n left_transition, k.transitions.at i l) };
+  place_entry = λ x l. get_or-replicate n x left_place 0 (omega (arith, length-replicate n left_place));
+  transition_entry = λ x l. get_or-replicate n x left_transition 0 (omega (arith, length-replicate n left_transition));
 }

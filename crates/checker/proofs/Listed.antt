@@ -15,10 +15,10 @@ module _ (P : ℕ) (q : List ℕ) (e : criterion_bytes_refusal P q ≡ 0) where
   unfolding criterion_of
   few_bytes = omega (arith, (passed P (criterion_of q) (bytes-passed P q e)).few, length-words q 0 (length q / 2))
 
-  pub list-passed : (l : List ℕ) → l ≡ words_from q 0 (length q / 2) → criterion_refusal P l ≡ 0
+  pub list_passed : (l : List ℕ) → l ≡ words_from q 0 (length q / 2) → criterion_refusal P l ≡ 0
   unfolding criterion_of
-  list-passed l f = ap (criterion_refusal P) f ∙ bytes-passed P q e
+  list_passed l f = ap (criterion_refusal P) f ∙ bytes-passed P q e
 
-  pub list-is : (l : List ℕ) → l ≡ words_from q 0 (length q / 2) → l ≡ criterion_of q
+  pub list_is : (l : List ℕ) → l ≡ words_from q 0 (length q / 2) → l ≡ criterion_of q
   unfolding criterion_of
-  list-is l f = f
+  list_is l f = f

@@ -22,21 +22,21 @@ use Rattle.promise.proofs.Uses.{uses}
 
 -- the check of the bytes up to a length is the check of the bytes up to the same length
 module _ (plan Q exit : List ℕ) {end n code : ℕ} {v : Checked} (same : end ≡ n) (told : v ≡ checked plan (take end exit) Q) (read : code ≡ v.code) where
-  answers-0 : Accepts plan (take n exit) Q → code ≡ 0
-  answers-0 a = read ∙ ap (λ (x : Checked). x.code) told ∙ ap (λ (k : ℕ). (checked plan (take k exit) Q).code) same ∙ a
+  answers_0 : Accepts plan (take n exit) Q → code ≡ 0
+  answers_0 a = read ∙ ap (λ (x : Checked). x.code) told ∙ ap (λ (k : ℕ). (checked plan (take k exit) Q).code) same ∙ a
 
 pub safety-accepted : (plan Q exit : List ℕ) (room : ℕ) {a : CutAnswer} {refusal end code : ℕ} {v : Checked} → a ≡ safety_answer plan Q room → WritesSmallest (λ S. Accepts plan S Q) a exit
     → refusal ≡ a.refusal → refusal ≡ 0 → end ≡ a.length → v ≡ checked plan (take end exit) Q → code ≡ v.code → code ≡ (safety_answer plan Q room).refusal
 safety-accepted plan Q exit room {a} e w r z same told read =
     let none : a.refusal ≡ 0 = sym r ∙ z in
-    answers-0 plan Q exit same told read ((uses promise).counted plan Q a exit w none).own ∙ sym none ∙ ap (λ (x : CutAnswer). x.refusal) e
+    answers_0 plan Q exit same told read ((uses promise).counted plan Q a exit w none).own ∙ sym none ∙ ap (λ (x : CutAnswer). x.refusal) e
 
 pub branching-accepted : (plan Q entry exit : List ℕ) {a : CutAnswer} {refusal end code : ℕ} {v : Checked} → Bytes plan → a ≡ branching_answer plan Q (length entry) → exit ≡ branching_buffer plan Q entry
     → refusal ≡ a.refusal → refusal ≡ 0 → end ≡ a.length → v ≡ checked plan (take end exit) Q → code ≡ v.code → code ≡ (branching_answer plan Q (length entry)).refusal
 branching-accepted plan Q entry exit {a} b e f r z same told read =
     let none : (branching_answer plan Q (length entry)).refusal ≡ 0 = ap (λ (x : CutAnswer). x.refusal) (sym e) ∙ sym r ∙ z in
     let ours = ((promise.writes_exact plan Q entry b).exact none).accepted in
-    answers-0 plan Q exit (same ∙ ap (λ (x : CutAnswer). x.length) e) told read (subst⁻¹ (λ (l : List ℕ). Accepts plan (take (branching_answer plan Q (length entry)).length l) Q) f ours) ∙ sym none
+    answers_0 plan Q exit (same ∙ ap (λ (x : CutAnswer). x.length) e) told read (subst⁻¹ (λ (l : List ℕ). Accepts plan (take (branching_answer plan Q (length entry)).length l) Q) f ours) ∙ sym none
 
 -- a cut that is refused counts nothing
 counts_some : (n len : ℕ) (S : Slice) → (0 < (cut_answer n len S).places → (cut_answer n len S).refusal ≡ 0) × (0 < (cut_answer n len S).transitions → (cut_answer n len S).refusal ≡ 0)
@@ -44,24 +44,24 @@ counts_some zero len S = (λ h. refl, λ h. refl)
 counts_some (suc k) len S = (λ h. absurd (omega arith), λ h. absurd (omega arith))
 
 module _ (plan Q : List ℕ) (room : ℕ) where
-  pub some-places : 0 < (safety_answer plan Q room).places → (safety_answer plan Q room).refusal ≡ 0
+  pub some_places : 0 < (safety_answer plan Q room).places → (safety_answer plan Q room).refusal ≡ 0
   unfolding safety_answer
-  some-places = (counts_some (write_refusal plan Q room (safety_file plan Q)) (length (safety_file plan Q)) (cut_of safety plan Q)).0
+  some_places = (counts_some (write_refusal plan Q room (safety_file plan Q)) (length (safety_file plan Q)) (cut_of safety plan Q)).0
 
-  pub some-transitions : 0 < (safety_answer plan Q room).transitions → (safety_answer plan Q room).refusal ≡ 0
+  pub some_transitions : 0 < (safety_answer plan Q room).transitions → (safety_answer plan Q room).refusal ≡ 0
   unfolding safety_answer
-  some-transitions = (counts_some (write_refusal plan Q room (safety_file plan Q)) (length (safety_file plan Q)) (cut_of safety plan Q)).1
+  some_transitions = (counts_some (write_refusal plan Q room (safety_file plan Q)) (length (safety_file plan Q)) (cut_of safety plan Q)).1
 
 -- a slice with fewer is not accepted
 module _ (plan Q exit slice : List ℕ) (room : ℕ) {a : CutAnswer} (e : a ≡ safety_answer plan Q room) (w : WritesSmallest (λ S. Accepts plan S Q) a exit) where
   pub fewer-places : (slice_of slice).net.places < a.places → ¬ Accepts plan slice Q
   fewer-places l ok =
-      let none : a.refusal ≡ 0 = ap (λ (x : CutAnswer). x.refusal) e ∙ some-places plan Q room (omega (arith, l, ap (λ (x : CutAnswer). x.places) e)) in
+      let none : a.refusal ≡ 0 = ap (λ (x : CutAnswer). x.refusal) e ∙ some_places plan Q room (omega (arith, l, ap (λ (x : CutAnswer). x.places) e)) in
       omega (arith, ((uses promise).counted plan Q a exit w none).places slice ok, l)
 
   pub fewer-transitions : (slice_of slice).net.transitions < a.transitions → ¬ Accepts plan slice Q
   fewer-transitions l ok =
-      let none : a.refusal ≡ 0 = ap (λ (x : CutAnswer). x.refusal) e ∙ some-transitions plan Q room (omega (arith, l, ap (λ (x : CutAnswer). x.transitions) e)) in
+      let none : a.refusal ≡ 0 = ap (λ (x : CutAnswer). x.refusal) e ∙ some_transitions plan Q room (omega (arith, l, ap (λ (x : CutAnswer). x.transitions) e)) in
       omega (arith, ((uses promise).counted plan Q a exit w none).transitions slice ok, l)
 
 -- an answer no, and an answer by the check's number
@@ -77,18 +77,18 @@ module _ (plan q buffer Q : List ℕ) (b : Bytes plan) (even : length q % 2 ≡ 
   abbrev a : CutAnswer
   a = safety_answer plan Q (length buffer)
 
-  none-smaller : NoneSmaller (λ S. checked_bytes plan S q ≡ 0) a (our_cut plan Q buffer)
-  none-smaller =
+  none_smaller : NoneSmaller (λ S. checked_bytes plan S q ≡ 0) a (our_cut plan Q buffer)
+  none_smaller =
       subst⁻¹ (λ (X : List ℕ). NoneSmaller (λ S. checked_bytes plan S q ≡ 0) (safety_answer plan X (length buffer)) (our_cut plan X buffer)) same
       ((uses promise).two_calls plan q buffer b even (subst (λ (X : List ℕ). (safety_answer plan X (length buffer)).refusal ≡ 0) same z))
 
   pub own-checked : (exit : List ℕ) {end code : ℕ} → exit ≡ safety_buffer plan Q buffer → end ≡ a.length → code ≡ checked_bytes plan (take end exit) q → code ≡ a.refusal
   unfolding our_cut
   own-checked exit f n told =
-      told ∙ ap (λ (k : ℕ). checked_bytes plan (take k exit) q) n ∙ ap (λ (l : List ℕ). checked_bytes plan (take a.length l) q) f ∙ none-smaller.own ∙ sym z
+      told ∙ ap (λ (k : ℕ). checked_bytes plan (take k exit) q) n ∙ ap (λ (l : List ℕ). checked_bytes plan (take a.length l) q) f ∙ none_smaller.own ∙ sym z
 
   pub fewer-places_bytes : (slice : List ℕ) → (slice_of slice).net.places < a.places → ¬ (checked_bytes plan slice q ≡ 0)
-  fewer-places_bytes slice l ok = omega (arith, none-smaller.places slice ok, l)
+  fewer-places_bytes slice l ok = omega (arith, none_smaller.places slice ok, l)
 
   pub fewer-transitions_bytes : (slice : List ℕ) → (slice_of slice).net.transitions < a.transitions → ¬ (checked_bytes plan slice q ≡ 0)
-  fewer-transitions_bytes slice l ok = omega (arith, none-smaller.transitions slice ok, l)
+  fewer-transitions_bytes slice l ok = omega (arith, none_smaller.transitions slice ok, l)

@@ -16,7 +16,7 @@ use Rattle.promise.specs.Shadow.{ShadowAnswer, shadow_answer, FollowedIn}
 use Rattle.promise.specs.Together.{standing}
 use Rattle.promise.specs.Uses.{EqualOn}
 use Rattle.promise.proofs.Replays.{differ}
-use Rattle.promise.proofs.Rooms.{shadow-short}
+use Rattle.promise.proofs.Rooms.{shadow_short}
 use Rattle.promise.proofs.Theorem.{promise}
 use Rattle.promise.proofs.Uses.{uses}
 use Rattle.clients.specs.Ended.{all_fired, Led, EndedWith}
@@ -38,7 +38,7 @@ yes_fired file list room = yes_or (replay_refusal file list room) (replay (net_o
 pub led : (file list entry exit : List ℕ) {a : ReplayAnswer} {yes : Bool} → replay_refusal file list (length entry) ≡ 0 → a ≡ replay_answer file list (length entry) → exit ≡ replay_marking file list entry
     → yes ≡ all_fired a → Led file list entry yes exit
 led file list entry exit z e f y =
-    let x = (uses promise).leads-on file list entry z in
+    let x = (uses promise).leads_on file list entry z in
     let same = y ∙ ap all_fired e in
     record {
       leads = (
@@ -57,8 +57,8 @@ ended slice Q own lent exit marking marking' x e f m = record {
 }
 
 -- a check that does not answer 0 did not accept
-pub not-accepted : (plan slice Q : List ℕ) {A : Type 0} {v : Checked} {code : ℕ} → v ≡ checked plan slice Q → code ≡ v.code → (code ≡ 0 → ⊥) → Accepts plan slice Q → A
-not-accepted plan slice Q e r n a = absurd (n (r ∙ ap (λ (x : Checked). x.code) e ∙ a))
+pub not_accepted : (plan slice Q : List ℕ) {A : Type 0} {v : Checked} {code : ℕ} → v ≡ checked plan slice Q → code ≡ v.code → (code ≡ 0 → ⊥) → Accepts plan slice Q → A
+not_accepted plan slice Q e r n a = absurd (n (r ∙ ap (λ (x : Checked). x.code) e ∙ a))
 
 -- a replay that is not answered yes is not answered fired
 pub not-fired : (plan list : List ℕ) (room : ℕ) {A : Type 0} {a : ReplayAnswer} {yes : Bool} → a ≡ replay_answer plan list room → yes ≡ all_fired a → yes ≡ false → replay_answer plan list room ≡ replay_told fired → A
@@ -74,11 +74,11 @@ on_slice plan slice Q list marking own lent exit marking' v g m e f acc t p h =
     ((uses promise).projected plan slice Q list lent marking (g (ap (λ (x : Checked). x.code) v ∙ acc)) acc t h)) e f m
 
 -- the shadow, by the count that was told
-pub shadow-ended : (plan slice list : List ℕ) (room space : ℕ) (out marking lent exit Q : List ℕ) {s : ShadowAnswer} {a : ReplayAnswer} {end : ℕ} → s ≡ shadow_answer plan slice list room space
+pub shadow_ended : (plan slice list : List ℕ) (room space : ℕ) (out marking lent exit Q : List ℕ) {s : ShadowAnswer} {a : ReplayAnswer} {end : ℕ} → s ≡ shadow_answer plan slice list room space
     → (s.run.refused ≡ false → FollowedIn plan slice (take s.count out) marking) → end ≡ s.count
     → Accepts plan slice Q → (shadow_answer plan slice list room space).run.refused ≡ false → (net_of slice).places ≤ length lent
     → a ≡ replay_answer slice (take end out) (length lent) → exit ≡ replay_marking slice (take end out) lent → EndedWith slice Q a exit (standing marking)
-shadow-ended plan slice list room space out marking lent exit Q {s} {a} {end} e x n acc z h r f =
+shadow_ended plan slice list room space out marking lent exit Q {s} {a} {end} e x n acc z h r f =
     let x' = subst⁻¹ (λ (k : ℕ). FollowedIn plan slice (take k out) marking) n (x (ap (λ (y : ShadowAnswer). y.run.refused) e ∙ z)) in
-    let few : length (take end out) ≤ 65535 = omega (arith, length-take end out, n, ap (λ (y : ShadowAnswer). y.count) e, shadow-short plan slice list room space) in
+    let few : length (take end out) ≤ 65535 = omega (arith, length-take end out, n, ap (λ (y : ShadowAnswer). y.count) e, shadow_short plan slice list room space) in
     ended slice Q (take end out) lent exit marking marking ((uses promise).followed plan slice (take end out) marking lent Q x' acc few h) r f refl

@@ -26,7 +26,7 @@ module _ (plan Q list : List ℕ) (room entries : ℕ) where
         → (net_of (take a.length exit)).places ≤ length lent → EnoughOn (take a.length exit) chosen lent Q (plan_tokens (net_of plan) list)
     above chosen lent z c h =
         subst⁻¹ (λ (l : List ℕ). EnoughOn (take a.length exit) l lent Q (plan_tokens (net_of plan) list)) c
-        ((uses promise).fed-on plan Q list (take a.length exit) (take a.count positions) lent (x.feeds z) (run_short plan Q list room entries z) h)
+        ((uses promise).fed_on plan Q list (take a.length exit) (take a.count positions) lent (x.feeds z) (run_short plan Q list room entries z) h)
 
     pub ended-above : (chosen lent last : List ℕ) {r : ReplayAnswer} {end : ℕ} → end ≡ a.length → r ≡ replay_answer (take end exit) chosen (length lent) → last ≡ replay_marking (take end exit) chosen lent
         → a.refusal ≡ 0 → chosen ≡ own (slice_of (take a.length exit)).transition_origins (fired_at list (take a.count positions))
@@ -41,7 +41,7 @@ module _ (plan Q list : List ℕ) (room entries : ℕ) where
 
     pub stuck_there : {r : ReplayAnswer} (entries' : ℕ) → r ≡ replay_answer plan list entries' → a.refusal ≡ 14 → replay_refusal plan list entries' ≡ 0
         → r ≡ record { refused = false; refusal = 0; stuck = true; full = false; index = a.index; place = a.place; amount = a.amount }
-    stuck_there entries' e w z = e ∙ (uses promise).stuck-alike plan Q list a exit positions entries' x w z
+    stuck_there entries' e w z = e ∙ (uses promise).stuck_alike plan Q list a exit positions entries' x w z
 
 -- at the call, by its own numbers
 pub told_back : (plan Q list : List ℕ) (room entries : ℕ) (exit positions : List ℕ) {r : RunAnswer} → r ≡ run_answer plan Q list room entries → RunsBack plan Q list r exit positions

@@ -30,10 +30,10 @@ told-passes zero (times k) e = refl
 told-passes zero unlimited e = refl
 told-passes (suc n) x e = absurd (omega (arith, e))
 
-second-passes : (plan : List ℕ) (t : ℕ) (marking marking' : List ℕ) (room space : ℕ) → (together_answer plan t marking room).refused ≡ false → length marking' ≡ (net_of plan).places → (net_of plan).places ≤ space
+second_passes : (plan : List ℕ) (t : ℕ) (marking marking' : List ℕ) (room space : ℕ) → (together_answer plan t marking room).refused ≡ false → length marking' ≡ (net_of plan).places → (net_of plan).places ≤ space
     → (together_answer plan t marking' space).refused ≡ false
 unfolding together_answer together_refusal
-second-passes plan t marking marking' room space e n h =
+second_passes plan t marking marking' room space e n h =
     let z = not-refused (together_refusal plan t (length marking) room) (together (net_of plan) t (standing marking)) e in
     let p = or_else_0 (file_refusal due.Plan plan) _ z in
     let k = refuse-0 (leb (net_of plan).transitions t) 11 _ p.1 in
@@ -73,13 +73,13 @@ module _ (plan : List ℕ) (t : ℕ) (marking exit : List ℕ) (room : ℕ) {a :
         let fit = together-fits plan t marking room (not-true A.refused both.0) in
         omega (arith, fit.0, fit.1)
 
-  pub again-0 : (last : List ℕ) (space : ℕ) {b : TogetherAnswer} → length marking ≤ length exit → b ≡ together_answer plan t (take (length marking) exit) space
+  pub again_0 : (last : List ℕ) (space : ℕ) {b : TogetherAnswer} → length marking ≤ length exit → b ≡ together_answer plan t (take (length marking) exit) space
       → TakesLargest plan t (take (length marking) exit) b last → A.refused ≡ false → A.unlimited ≡ false → (net_of plan).places ≤ space
       → b ≡ record { refused = false; refusal = 0; unlimited = false; times = 0 }
-  again-0 last space {b} l f y ra ua h =
+  again_0 last space {b} l f y ra ua h =
       let n : length (take (length marking) exit) ≡ length marking = omega (arith, length-take (length marking) exit, l) in
       let fit = together-fits plan t marking room ra in
-      let passed = second-passes plan t marking (take (length marking) exit) room space ra (n ∙ fit.0) h in
+      let passed = second_passes plan t marking (take (length marking) exit) room space ra (n ∙ fit.0) h in
       let rb : b.refused ≡ false = ap (λ (z : TogetherAnswer). z.refused) f ∙ passed in
-      let none = (uses promise).taken-again plan t marking A b exit last taken ra ua (omega (arith, fit.0)) y rb in
+      let none = (uses promise).taken_again plan t marking A b exit last taken ra ua (omega (arith, fit.0)) y rb in
       f ∙ told_none plan t (take (length marking) exit) space passed (ap (λ (z : TogetherAnswer). z.unlimited) (sym f) ∙ none.0) (ap (λ (z : TogetherAnswer). z.times) (sym f) ∙ none.1)

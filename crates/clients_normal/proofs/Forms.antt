@@ -42,14 +42,14 @@ alike n a b e = (λ x. e, λ x. refl)
 
 -- ---- a call that wrote
 
-passed-by : (n k : ℕ) → (file_answer n k).refusal ≡ 0 → (file_answer n k).refused ≡ false
-passed-by zero k e = refl
-passed-by (suc n) k e = absurd (omega (arith, e))
+passed_by : (n k : ℕ) → (file_answer n k).refusal ≡ 0 → (file_answer n k).refused ≡ false
+passed_by zero k e = refl
+passed_by (suc n) k e = absurd (omega (arith, e))
 
 module _ (plan exit : List ℕ) (room : ℕ) {a : FileAnswer} (e : a ≡ normal_answer plan room) (w : WritesNormal plan a exit) (none : a.refusal ≡ 0) where
   pub passed : a.refused ≡ false
   unfolding normal_answer
-  passed = ap (λ (x : FileAnswer). x.refused) e ∙ passed-by (normal_write_refusal plan room) (length (normal_file plan)) (ap (λ (x : FileAnswer). x.refusal) (sym e) ∙ none)
+  passed = ap (λ (x : FileAnswer). x.refused) e ∙ passed_by (normal_write_refusal plan room) (length (normal_file plan)) (ap (λ (x : FileAnswer). x.refusal) (sym e) ∙ none)
 
   pub fits : a.length ≤ length exit
   fits = omega (arith, w.long passed, length-take a.length exit)
@@ -60,24 +60,24 @@ module _ (plan exit : List ℕ) (room : ℕ) {a : FileAnswer} (e : a ≡ normal_
     pub same_answer : (list : List ℕ) (room' : ℕ) → replay_answer (take n exit) list room' ≡ replay_answer plan list room'
     same_answer list room' = ap (λ (k : ℕ). replay_answer (take k exit) list room') read ∙ sym ((w.form passed).replayed list room')
 
-    pub same-marking : (list marking : List ℕ) → replay_marking (take n exit) list marking ≡ replay_marking plan list marking
-    same-marking list marking = ap (λ (k : ℕ). replay_marking (take k exit) list marking) read ∙ sym ((w.form passed).marked list marking)
+    pub same_marking : (list marking : List ℕ) → replay_marking (take n exit) list marking ≡ replay_marking plan list marking
+    same_marking list marking = ap (λ (k : ℕ). replay_marking (take k exit) list marking) read ∙ sym ((w.form passed).marked list marking)
 
   -- ---- a second call, on what was written
 
   module _ (entry : List ℕ) {n : ℕ} {b : FileAnswer} (read : n ≡ a.length) (long : n ≤ length entry)
       (e' : b ≡ normal_answer (take n exit) (length entry)) where
-    pub again-same : b ≡ a
-    again-same = e' ∙ ap (λ (k : ℕ). normal_answer (take k exit) (length entry)) read ∙ (w.again passed entry (omega (arith, read, long))).0
+    pub again_same : b ≡ a
+    again_same = e' ∙ ap (λ (k : ℕ). normal_answer (take k exit) (length entry)) read ∙ (w.again passed entry (omega (arith, read, long))).0
 
-    pub again-none : b.refusal ≡ 0
-    again-none = ap (λ (x : FileAnswer). x.refusal) again-same ∙ none
+    pub again_none : b.refusal ≡ 0
+    again_none = ap (λ (x : FileAnswer). x.refusal) again_same ∙ none
 
-    pub again-long : b.length ≡ n
-    again-long = ap (λ (x : FileAnswer). x.length) again-same ∙ sym read
+    pub again_long : b.length ≡ n
+    again_long = ap (λ (x : FileAnswer). x.length) again_same ∙ sym read
 
-    pub again-bytes : {exit' : List ℕ} → exit' ≡ normal_buffer (take n exit) entry → take n exit ≡ take n exit'
-    again-bytes {exit'} f' =
+    pub again_bytes : {exit' : List ℕ} → exit' ≡ normal_buffer (take n exit) entry → take n exit ≡ take n exit'
+    again_bytes {exit'} f' =
         sym (ap (λ (k : ℕ). take k exit') read ∙ ap (take a.length) (f' ∙ ap (λ (k : ℕ). normal_buffer (take k exit) entry) read) ∙ (w.again passed entry (omega (arith, read, long))).1 ∙ ap (λ (k : ℕ). take k exit) (sym read))
 
 -- ---- two plans
@@ -90,8 +90,8 @@ first-refused plan plan' room room' {a} {n} e r h = let z : (normal_answer plan 
 module _ (plan plan' exit exit' entry' : List ℕ) (room : ℕ) {a b : FileAnswer} (e : a ≡ normal_answer plan room) (w : WritesNormal plan a exit)
     (e' : b ≡ normal_answer plan' (length entry')) (f' : exit' ≡ normal_buffer plan' entry') (w' : WritesNormal plan' b exit') (bytes' : Bytes plan') where
   module _ (none : a.refusal ≡ 0) where
-    pub second-refused : {n : ℕ} → n ≡ b.refusal → or_else (normal_answer plan room).refusal (normal_answer plan' (length entry')).refusal ≡ n
-    second-refused r = let z : (normal_answer plan room).refusal ≡ 0 = ap (λ (x : FileAnswer). x.refusal) (sym e) ∙ none in rw z (ap (λ (x : FileAnswer). x.refusal) (sym e') ∙ sym r)
+    pub second_refused : {n : ℕ} → n ≡ b.refusal → or_else (normal_answer plan room).refusal (normal_answer plan' (length entry')).refusal ≡ n
+    second_refused r = let z : (normal_answer plan room).refusal ≡ 0 = ap (λ (x : FileAnswer). x.refusal) (sym e) ∙ none in rw z (ap (λ (x : FileAnswer). x.refusal) (sym e') ∙ sym r)
 
     module _ (none' : b.refusal ≡ 0) where
       one : (take b.length exit' ≡ take a.length exit) ↔ SameNet (net_of plan') (net_of plan)
@@ -101,13 +101,13 @@ module _ (plan plan' exit exit' entry' : List ℕ) (room : ℕ) {a b : FileAnswe
           (w.one (passed plan exit room e w none) plan' entry' bytes' (ap (λ (x : FileAnswer). x.refused) (sym e') ∙ passed plan' exit' (length entry') e' w' none')))
 
       -- other lengths
-      pub other-lengths : {n m : ℕ} → n ≡ a.length → m ≡ b.length → n ≢ m → SameNet (net_of plan) (net_of plan') → ⊥
-      other-lengths r s d same =
+      pub other_lengths : {n m : ℕ} → n ≡ a.length → m ≡ b.length → n ≢ m → SameNet (net_of plan) (net_of plan') → ⊥
+      other_lengths r s d same =
           d (r ∙ sym (w.long (passed plan exit room e w none)) ∙ sym (ap length (one.1 (same_back same))) ∙ w'.long (passed plan' exit' (length entry') e' w' none') ∙ sym s)
 
       module _ {n m : ℕ} (r : n ≡ a.length) (s : m ≡ b.length) (t : n ≡ m) where
         pub same_bytes : take n exit ≡ take n exit' → SameNet (net_of plan) (net_of plan')
         same_bytes x = same_back (one.0 (ap (λ (k : ℕ). take k exit') (sym s ∙ sym t) ∙ sym x ∙ ap (λ (k : ℕ). take k exit) r))
 
-        pub other-bytes : (take n exit ≡ take n exit' → ⊥) → SameNet (net_of plan) (net_of plan') → ⊥
-        other-bytes x same = x (ap (λ (k : ℕ). take k exit) r ∙ sym (one.1 (same_back same)) ∙ ap (λ (k : ℕ). take k exit') (sym s ∙ sym t))
+        pub other_bytes : (take n exit ≡ take n exit' → ⊥) → SameNet (net_of plan) (net_of plan') → ⊥
+        other_bytes x same = x (ap (λ (k : ℕ). take k exit) r ∙ sym (one.1 (same_back same)) ∙ ap (λ (k : ℕ). take k exit') (sym s ∙ sym t))

@@ -23,7 +23,7 @@ use Rattle.promise.specs.Together.{standing}
 use Rattle.promise.specs.Firing.{list_refusal, replay_refusal, ReplayAnswer, replay_or, replay_answer}
 use Rattle.promise.specs.Range.{upper_wrong, range_refusal, RangeAnswer, range_or, range_answer, range_need, TellsRange}
 use Rattle.promise.proofs.Replays.{differ, replays}
-use Rattle.promise.proofs.Range.{more-is_enough, same-range}
+use Rattle.promise.proofs.Range.{more_is_enough, same_range}
 use Rattle.clients_range.specs.Cases.{case_by, case_of, agreeing}
 
 -- ---- what is known where `range` is not refused
@@ -62,9 +62,9 @@ module _ (plan list upper : List ℕ) (room : ℕ) {a : RangeAnswer} (told : a �
     all-or_least : (a.every ≡ true) ↔ Fires N N.marking list
     unfolding Between Covers
     all-or_least =
-        let law = tells.from-every goes in (
+        let law = tells.from_every goes in (
           λ e. law.0 e N.marking lowest,
-          λ f. law.1 (λ M b. (more-is_enough plan list upper a exit goes tells).more N.marking M (λ p l. (b p l).0) f),
+          λ f. law.1 (λ M b. (more_is_enough plan list upper a exit goes tells).more N.marking M (λ p l. (b p l).0) f),
         )
 
     -- the entries written are enough, and nothing less is
@@ -126,5 +126,5 @@ none_apart false false m n h = eq-eqb m n (h refl refl)
 pub one-case : (plan list upper : List ℕ) {a b : RangeAnswer} {exit exit' : List ℕ} → a.refused ≡ false → b.refused ≡ false
     → TellsRange plan list upper a exit → TellsRange plan list upper b exit' → case_of a ≡ case_of b
 one-case plan list upper {a} {b} {exit} {exit'} goes goes' tells tells' =
-    let s = same-range plan list upper a b exit exit' goes goes' tells tells' in
-    λ i. case_by (s.same-every i) (s.same-partly i) (s.same-never i)
+    let s = same_range plan list upper a b exit exit' goes goes' tells tells' in
+    λ i. case_by (s.same_every i) (s.same_partly i) (s.same_never i)

@@ -107,8 +107,8 @@ module _ (plan start Q entry : List ℕ) where
         let l = ap (λ (x : List ℕ). length x) g ∙ safety-long in
         omega (arith, z, l, safety-fits plan start Q (length entry))
 
-    pub branching-room : cut_numbers r ≡ branching_from_answer plan start Q (length entry) → exit ≡ branching_from_buffer plan start Q entry → r ≡ Written n p t → n ≤ length exit
-    branching-room e g f =
+    pub branching_room : cut_numbers r ≡ branching_from_answer plan start Q (length entry) → exit ≡ branching_from_buffer plan start Q entry → r ≡ Written n p t → n ≤ length exit
+    branching_room e g f =
         let z = ap (λ (c : Cut). (cut_numbers c).length) (sym f) ∙ ap (λ (a : CutAnswer). a.length) e in
         let l = ap (λ (x : List ℕ). length x) g ∙ branching-long in
         omega (arith, z, l, branching-fits plan start Q (length entry))
@@ -140,8 +140,8 @@ module _ (plan start Q : List ℕ) {r : Cut} {exit : List ℕ} {c : Checked} {k 
       let z : ours.refusal ≡ 0 = ap (λ (x : CutAnswer). x.refusal) (sym ea) ∙ no_refusal told in
       record {
         wrote = z;
-        own-places = d.own-places z;
-        own-transitions = d.own-transitions z;
+        own_places = d.own_places z;
+        own_transitions = d.own_transitions z;
         contains = d.smallest z other agreed;
         places = d.places z other agreed;
         transitions = d.transitions z other agreed;

@@ -23,9 +23,9 @@ use Rattle.promise.specs.Promise.{Replays}
 use Rattle.promise.specs.Together.{standing}
 use Rattle.promise.specs.Starts.{net_at, started, start_refusal, from_refusal, replay_from_answer, replay_from_marking, OtherMarking}
 use Rattle.promise.specs.Transfer.{carried_to, transfer_answer, transfer_marking, total, Carried}
-use Rattle.promise.proofs.Ranges.{refuse-le, or_else_le, file-le}
+use Rattle.promise.proofs.Ranges.{refuse-le, or_else_le, file_le}
 use Rattle.promise.proofs.Replays.{differ}
-use Rattle.promise.proofs.Starts.{other-marking, replays-from}
+use Rattle.promise.proofs.Starts.{other_marking, replays_from}
 use Rattle.clients_starts.specs.Continued.{Continues}
 use Rattle.clients_starts.proofs.Reading.{plan_either}
 
@@ -46,17 +46,17 @@ goes_on_lem : (n : ℕ) (a : Answer) → (replay_or n a).refused ≡ false → n
 goes_on_lem zero a z = refl
 goes_on_lem (suc k) a z = differ (sym z)
 
-list-le : (T : ℕ) (list : List ℕ) → list_refusal T list ≤ 16
+list_le : (T : ℕ) (list : List ℕ) → list_refusal T list ≤ 16
 unfolding list_refusal
-list-le T list = refuse-le (ltb 65535 (length list)) 11 _ 16 (omega arith) (refuse-le (any (λ t. leb T t) list) 12 0 16 (omega arith) (omega arith))
+list_le T list = refuse-le (ltb 65535 (length list)) 11 _ 16 (omega arith) (refuse-le (any (λ t. leb T t) list) 12 0 16 (omega arith) (omega arith))
 
-refusal-le : (file list : List ℕ) (room : ℕ) → (replay_answer file list room).refusal ≤ 16
+refusal_le : (file list : List ℕ) (room : ℕ) → (replay_answer file list room).refusal ≤ 16
 unfolding replay_answer
-refusal-le file list room = omega (arith, number_is (replay_refusal file list room) (replay (net_of file) list).answer, least)
+refusal_le file list room = omega (arith, number_is (replay_refusal file list room) (replay (net_of file) list).answer, least)
   where
     least : replay_refusal file list room ≤ 16
-    least = unfold replay_refusal in or_else_le (file_refusal due.Either file) _ 16 (file-le due.Either file)
-        (or_else_le (list_refusal (net_of file).transitions list) _ 16 (list-le (net_of file).transitions list) (refuse-le (ltb room (net_of file).places) 13 0 16 (omega arith) (omega arith)))
+    least = unfold replay_refusal in or_else_le (file_refusal due.Either file) _ 16 (file_le due.Either file)
+        (or_else_le (list_refusal (net_of file).transitions list) _ 16 (list_le (net_of file).transitions list) (refuse-le (ltb room (net_of file).places) 13 0 16 (omega arith) (omega arith)))
 
 -- a start that the transfer made
 module _ (new running table start list marking : List ℕ) (b : Bytes new) (r : file_refusal due.Plan new ≡ 0) (long : length start ≡ (net_of new).places) (c : Carried new running table start) where
@@ -68,25 +68,25 @@ module _ (new running table start list marking : List ℕ) (b : Bytes new) (r : 
   passes = rw (plan_either new r) (ap (start_refusal (net_of new)) (sym whole) ∙ c.ready)
 
   o : OtherMarking new start
-  o = other-marking due.Either new start b passes
+  o = other_marking due.Either new start b passes
 
   answer-is : replay_from_answer new start list (length marking) ≡ replay_answer (started new start) list (length marking)
   unfolding replay_from_answer
   answer-is = rw passes
 
-  marking-is : replay_from_marking new start list marking ≡ replay_marking (started new start) list marking
+  marking_is : replay_from_marking new start list marking ≡ replay_marking (started new start) list marking
   unfolding replay_from_marking
-  marking-is = rw passes
+  marking_is = rw passes
 
   small : (replay_from_answer new start list (length marking)).refusal ≤ 16
-  small = let e = ap (λ (a : ReplayAnswer). a.refusal) answer-is in omega (arith, e, refusal-le (started new start) list (length marking))
+  small = let e = ap (λ (a : ReplayAnswer). a.refusal) answer-is in omega (arith, e, refusal_le (started new start) list (length marking))
 
   module _ (z : (replay_from_answer new start list (length marking)).refused ≡ false) where
     replayed : Replays (started new start) list (length marking)
-    replayed = (replays-from new start list (length marking) z).1
+    replayed = (replays_from new start list (length marking) z).1
 
-    fires-there : ((replay_from_answer new start list (length marking)).stuck ≡ false) ↔ PlanFires (net_at new start) list
-    fires-there =
+    fires_there : ((replay_from_answer new start list (length marking)).stuck ≡ false) ↔ PlanFires (net_at new start) list
+    fires_there =
         subst (λ (N : Net). ((replay_from_answer new start list (length marking)).stuck ≡ false) ↔ PlanFires N list) o.net
         (subst⁻¹ (λ (a : ReplayAnswer). (a.stuck ≡ false) ↔ PlanFires (net_of (started new start)) list) answer-is replayed.fires)
 
@@ -95,10 +95,10 @@ module _ (new running table start list marking : List ℕ) (b : Bytes new) (r : 
     not-refused = goes_on_lem _ (replay (net_of (started new start)) list).answer (sym (ap (λ (a : ReplayAnswer). a.refused) answer-is) ∙ z)
 
     -- by the net of the file that has the start
-    ends-started : (replay_from_answer new start list (length marking)).stuck ≡ false
+    ends_started : (replay_from_answer new start list (length marking)).stuck ≡ false
         → replay_marking (started new start) list marking ≡ tokens (net_of (started new start)) (after (net_of (started new start)) (net_of (started new start)).marking list) ++ drop (net_of (started new start)).places marking
     unfolding replay_marking
-    ends-started s =
+    ends_started s =
         let N = net_of (started new start) in
         let f = replayed.fires.0 (sym (ap (λ (a : ReplayAnswer). a.stuck) answer-is) ∙ s) in
         let m = replayed.ends f in
@@ -107,22 +107,22 @@ module _ (new running table start list marking : List ℕ) (b : Bytes new) (r : 
     ends_there : (replay_from_answer new start list (length marking)).stuck ≡ false
         → replay_from_marking new start list marking ≡ tokens (net_of new) (after (net_at new start) (standing start) list) ++ drop (net_of new).places marking
     unfolding tokens
-    ends_there s = marking-is ∙ ends-started s ∙ ap (λ (N : Net). tokens N (after N N.marking list) ++ drop N.places marking) o.net
+    ends_there s = marking_is ∙ ends_started s ∙ ap (λ (N : Net). tokens N (after N N.marking list) ++ drop N.places marking) o.net
 
   continued : Continues new running table start list marking (replay_from_marking new start list marking) (replay_from_answer new start list (length marking))
   continued = record {
     all = ap total (sym whole) ∙ c.total;
     sums = c.sums;
-    not-22 = λ z. omega (arith, z, small);
-    not-24 = λ z. omega (arith, z, small);
-    fires = fires-there;
+    not_22 = λ z. omega (arith, z, small);
+    not_24 = λ z. omega (arith, z, small);
+    fires = fires_there;
     ends = ends_there;
   }
 
 module _ (old new running table entry : List ℕ) (e : transfer_answer old new running table (length entry) ≡ 0) (long : length entry ≡ (net_of new).places) where
-  new-read : file_refusal due.Plan new ≡ 0
+  new_read : file_refusal due.Plan new ≡ 0
   unfolding transfer_answer
-  new-read = (or_else_0 (file_refusal due.Plan new) _ (or_else_0 (file_refusal due.Plan old) _ e).1).0
+  new_read = (or_else_0 (file_refusal due.Plan new) _ (or_else_0 (file_refusal due.Plan old) _ e).1).0
 
   as_long : length (transfer_marking old new running table entry) ≡ (net_of new).places
   unfolding transfer_marking
@@ -137,4 +137,4 @@ module _ (old new running table entry : List ℕ) (e : transfer_answer old new r
   continues list marking {start} {exit} b s c ea em =
       subst⁻¹ (λ (x : ReplayAnswer). Continues new running table start list marking exit x) ea
       (subst⁻¹ (λ (x : List ℕ). Continues new running table start list marking x (replay_from_answer new start list (length marking))) em
-      (continued new running table start list marking b new-read (ap (λ (l : List ℕ). length l) s ∙ as_long) c))
+      (continued new running table start list marking b new_read (ap (λ (l : List ℕ). length l) s ∙ as_long) c))

@@ -21,13 +21,13 @@ use Rattle.file.specs.Layout.{net_of}
 use Rattle.file.specs.Refusal.{file_refusal}
 use Rattle.file.specs.Facts.{Sound}
 use Rattle.file.proofs.Opening.{sound}
-use Rattle.arcs_column.proofs.Arcs.{none-past}
+use Rattle.arcs_column.proofs.Arcs.{none_past}
 use Rattle.promise.specs.Calls.{written}
 use Rattle.promise.specs.Firing.{ReplayAnswer, replay_told, replay_or, list_refusal, replay_refusal, replay_answer, replay_marking}
 use Rattle.promise.specs.Together.{standing}
 use Rattle.promise.specs.Starts.{net_at, started, too_many, start_refusal, from_refusal, replay_from_answer, replay_from_marking, OtherMarking}
 use Rattle.promise.proofs.Started.{over_none}
-use Rattle.promise.proofs.Starts.{other-marking}
+use Rattle.promise.proofs.Starts.{other_marking}
 use Rattle.promise.proofs.Replays.{differ}
 use Rattle.starting.proofs.Replayed.{from_start}
 use Rattle.clients_starts.specs.Whole.{all_fired, Fits, later, AsWhole}
@@ -98,16 +98,16 @@ unfolding any
 any-joined f [] b e = refl
 any-joined f (x ∷ a) b e = by_cases (f x) (λ k. let no : true ≡ false = rw k at e in differ (sym no)) (λ k. rw k (any-joined f a b (rw k at e)))
 
-few-tokens : (m c : ℕ) → m ≤ 4294967295 → (0 < c → m ≤ c) → too_many m c ≡ false
-few-tokens m zero l f = rw (le-ltb 4294967295 m l)
-few-tokens m (suc c) l f = rw (le-ltb 4294967295 m l, ne_eqb (suc c) 0 (λ z. omega (arith, z)), le-ltb (suc c) m (f (omega arith)))
+few_tokens : (m c : ℕ) → m ≤ 4294967295 → (0 < c → m ≤ c) → too_many m c ≡ false
+few_tokens m zero l f = rw (le-ltb 4294967295 m l)
+few_tokens m (suc c) l f = rw (le-ltb 4294967295 m l, ne_eqb (suc c) 0 (λ z. omega (arith, z)), le-ltb (suc c) m (f (omega arith)))
 
 -- an answer that says that all fired
-none-refused : (n : ℕ) (a : Answer) → all_fired (replay_or n a) ≡ true → (n ≡ 0) × (a ≡ fired)
-none-refused zero fired e = (refl, refl)
-none-refused zero (short i p n) e = differ e
-none-refused zero (full i p n) e = differ e
-none-refused (suc n) a e = differ e
+none_refused : (n : ℕ) (a : Answer) → all_fired (replay_or n a) ≡ true → (n ≡ 0) × (a ≡ fired)
+none_refused zero fired e = (refl, refl)
+none_refused zero (short i p n) e = differ e
+none_refused zero (full i p n) e = differ e
+none_refused (suc n) a e = differ e
 
 module _ (file first second middle marking : List ℕ) (b : Bytes file) (f : all_fired (replay_answer file first (length middle)) ≡ true)
     (fits : Fits (net_of file) (replay_marking file first middle)) (few : length first + length second ≤ 65535) where
@@ -122,7 +122,7 @@ module _ (file first second middle marking : List ℕ) (b : Bytes file) (f : all
 
   both : (replay_refusal file first (length middle) ≡ 0) × ((replay N first).answer ≡ fired)
   unfolding replay_answer
-  both = none-refused (replay_refusal file first (length middle)) (replay N first).answer f
+  both = none_refused (replay_refusal file first (length middle)) (replay N first).answer f
 
   parts : (file_refusal due.Either file ≡ 0) × (list_refusal N.transitions first ≡ 0)
   unfolding replay_refusal
@@ -142,9 +142,9 @@ module _ (file first second middle marking : List ℕ) (b : Bytes file) (f : all
       is : replay_marking file first middle ≡ tokens N R ++ drop (length (tokens N R)) middle
       is = unfold replay_marking in rw both.0
 
-  none-off : (p t : ℕ) → N.places ≤ p → (input N p t ≡ 0) × (output N p t ≡ 0)
+  none_off : (p t : ℕ) → N.places ≤ p → (input N p t ≡ 0) × (output N p t ≡ 0)
   unfolding input output
-  none-off p t l = (none-past file (header_of file) read 0 p t l, none-past file (header_of file) read 1 p t l)
+  none_off p t l = (none_past file (header_of file) read 0 p t l, none_past file (header_of file) read 1 p t l)
 
   beyond : (p : ℕ) → N.places ≤ p → standing m p ≡ 0
   beyond p l = get_or-eq_default m 0 {n = p} (omega (arith, fits.long))
@@ -156,27 +156,27 @@ module _ (file first second middle marking : List ℕ) (b : Bytes file) (f : all
       at : (p : ℕ) → standing m p ≡ R p
       at p = by_cases (ltb p N.places)
           (λ e. ap (λ (x : List ℕ). get_or x p 0) left ∙ get_d_tokens N R p (ltb-true p N.places e))
-          (λ e. let l = ltb-false p N.places e in beyond p l ∙ sym (unfold replay in off N none-off first 0 N.marking (λ q k. below-off N.places _ q k) p l))
+          (λ e. let l = ltb-false p N.places e in beyond p l ∙ sym (unfold replay in off N none_off first 0 N.marking (λ q k. below-off N.places _ q k) p l))
 
-  passes-start : from_refusal due.Either file m ≡ 0
+  passes_start : from_refusal due.Either file m ≡ 0
   unfolding from_refusal start_refusal
-  passes-start = rw (parts.0, eq-eqb (length m) N.places fits.long, over_none N (standing m) fit)
+  passes_start = rw (parts.0, eq-eqb (length m) N.places fits.long, over_none N (standing m) fit)
     where
       caps : WithinCaps N R
       caps = unfold replay in within N first 0 N.marking read.caps
 
       fit : (p : ℕ) → p < N.places → too_many (standing m p) (N.cap p) ≡ false
-      fit p l = few-tokens (standing m p) (N.cap p) (fits.low p l) (λ some.
+      fit p l = few_tokens (standing m p) (N.cap p) (fits.low p l) (λ some.
           let here = ap (λ (x : Marking). x p) stands in
           let c : R p ≤ N.cap p = unfold WithinCaps in caps p l (unfold capped in holds (ltb 0 (N.cap p)) (lt-ltb 0 (N.cap p) some)) in
           omega (arith, here, c))
 
   o : OtherMarking file m
-  o = other-marking due.Either file m b passes-start
+  o = other_marking due.Either file m b passes_start
 
   -- the second part from there
-  rest-is : replay (net_of (started file m)) second ≡ replay_from N 0 R second
-  rest-is = ap (λ (X : Net). replay X second) o.net ∙ from_start (standing m) N second ∙ ap (λ (X : Marking). replay_from N 0 X second) stands
+  rest_is : replay (net_of (started file m)) second ≡ replay_from N 0 R second
+  rest_is = ap (λ (X : Net). replay X second) o.net ∙ from_start (standing m) N second ∙ ap (λ (X : Marking). replay_from N 0 X second) stands
 
   -- the whole list
   whole_is : replay N (first ++ second) ≡ replay_from N (length first + 0) R second
@@ -188,40 +188,40 @@ module _ (file first second middle marking : List ℕ) (b : Bytes file) (f : all
   joined_is : replay N (first ++ second) ≡ record { answer = later_by (length first) (replay (net_of (started file m)) second).answer; marking = (replay (net_of (started file m)) second).marking }
   joined_is =
       whole_is ∙ counted-on N (length first) second 0 R
-      ∙ ap (λ (X : Replay). record { answer = later_by (length first) X.answer; marking = X.marking }) (sym rest-is)
+      ∙ ap (λ (X : Replay). record { answer = later_by (length first) X.answer; marking = X.marking }) (sym rest_is)
 
-  list-is : list_refusal N.transitions second ≡ list_refusal N.transitions (first ++ second)
+  list_is : list_refusal N.transitions second ≡ list_refusal N.transitions (first ++ second)
   unfolding list_refusal
-  list-is =
+  list_is =
       let k = (refuse-0 (any (λ t. leb N.transitions t) first) 11 0 (refuse-0 (ltb 65535 (length first)) 10 (refuse (any (λ t. leb N.transitions t) first) 12 0) parts.1).1).0 in
       rw (le-ltb 65535 (length second) (omega (arith, few)), le-ltb 65535 (length (first ++ second)) (omega (arith, few, length-append first second)), any-joined (λ t. leb N.transitions t) first second k)
 
-  refused-alike : (room : ℕ) → replay_refusal (started file m) second room ≡ replay_refusal file (first ++ second) room
+  refused_alike : (room : ℕ) → replay_refusal (started file m) second room ≡ replay_refusal file (first ++ second) room
   unfolding replay_refusal
-  refused-alike room =
+  refused_alike room =
       rw (o.read due.Either parts.0, parts.0)
       (ap (λ (X : Net). or_else (list_refusal X.transitions second) (refuse (ltb room X.places) 13 0)) o.net
-      ∙ ap (λ (n : ℕ). or_else n (refuse (ltb room N.places) 13 0)) list-is)
+      ∙ ap (λ (n : ℕ). or_else n (refuse (ltb room N.places) 13 0)) list_is)
 
   begun-answer : (room : ℕ) → replay_from_answer file m second room ≡ replay_answer (started file m) second room
   unfolding replay_from_answer
-  begun-answer room = rw passes-start
+  begun-answer room = rw passes_start
 
   begun-marking : replay_from_marking file m second marking ≡ replay_marking (started file m) second marking
   unfolding replay_from_marking
-  begun-marking = rw passes-start
+  begun-marking = rw passes_start
 
   answer-alike : (room : ℕ) → replay_answer file (first ++ second) room ≡ later (length first) (replay_answer (started file m) second room)
   unfolding replay_answer
   answer-alike room =
       ap (λ (X : Replay). replay_or (replay_refusal file (first ++ second) room) X.answer) joined_is
       ∙ told-later (length first) (replay_refusal file (first ++ second) room) (replay (net_of (started file m)) second).answer
-      ∙ ap (λ (n : ℕ). later (length first) (replay_or n (replay (net_of (started file m)) second).answer)) (sym (refused-alike room))
+      ∙ ap (λ (n : ℕ). later (length first) (replay_or n (replay (net_of (started file m)) second).answer)) (sym (refused_alike room))
 
-  marking-alike : replay_marking (started file m) second marking ≡ replay_marking file (first ++ second) marking
+  marking_alike : replay_marking (started file m) second marking ≡ replay_marking file (first ++ second) marking
   unfolding replay_marking tokens
-  marking-alike =
-      ap (λ (n : ℕ). written n (tokens (net_of (started file m)) (replay (net_of (started file m)) second).marking) marking) (refused-alike (length marking))
+  marking_alike =
+      ap (λ (n : ℕ). written n (tokens (net_of (started file m)) (replay (net_of (started file m)) second).marking) marking) (refused_alike (length marking))
       ∙ ap (λ (X : Net). written (replay_refusal file (first ++ second) (length marking)) (tokens X (replay (net_of (started file m)) second).marking) marking) o.net
       ∙ ap (λ (X : Replay). written (replay_refusal file (first ++ second) (length marking)) (tokens N X.marking) marking) (sym joined_is)
 
@@ -229,7 +229,7 @@ module _ (file first second middle marking : List ℕ) (b : Bytes file) (f : all
       → AsWhole file first second marking exit a
   as_whole e g = record {
     answer = answer-alike (length marking) ∙ ap (later (length first)) (sym (begun-answer (length marking)) ∙ sym e);
-    ends = g ∙ begun-marking ∙ marking-alike;
+    ends = g ∙ begun-marking ∙ marking_alike;
   }
 
 -- at the calls: m is what the first part left

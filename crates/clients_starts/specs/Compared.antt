@@ -8,8 +8,8 @@ use Rattle.promise.specs.Starts.{net_at, safety_from_answer}
 pub record NoSmaller (plan start Q other buffer exit : List ℕ) : Type 0 where
   -- our cut was written, with these counts
   pub wrote : (safety_from_answer plan start Q (length buffer)).refusal ≡ 0
-  pub own-places : (safety_from_answer plan start Q (length buffer)).places ≡ (slice_of (take (safety_from_answer plan start Q (length buffer)).length exit)).net.places
-  pub own-transitions : (safety_from_answer plan start Q (length buffer)).transitions ≡ (slice_of (take (safety_from_answer plan start Q (length buffer)).length exit)).net.transitions
+  pub own_places : (safety_from_answer plan start Q (length buffer)).places ≡ (slice_of (take (safety_from_answer plan start Q (length buffer)).length exit)).net.places
+  pub own_transitions : (safety_from_answer plan start Q (length buffer)).transitions ≡ (slice_of (take (safety_from_answer plan start Q (length buffer)).length exit)).net.transitions
   -- the other has all of it, so at least as many
   pub contains : Contains (slice_of other) (slice_of (take (safety_from_answer plan start Q (length buffer)).length exit))
   pub places : (safety_from_answer plan start Q (length buffer)).places ≤ (slice_of other).net.places

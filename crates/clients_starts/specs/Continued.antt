@@ -14,8 +14,8 @@ pub record Continues (new running table start list marking exit : List ℕ) (a :
   pub all : total start ≡ total running
   pub sums : (q : ℕ) → q < (net_of new).places → get_or start q 0 ≡ carried_to q table running
   -- the start is not why the replay is refused
-  pub not-22 : a.refusal ≢ 22
-  pub not-24 : a.refusal ≢ 24
+  pub not_22 : a.refusal ≢ 22
+  pub not_24 : a.refusal ≢ 24
   -- the list fires from there exactly if the answer says so, and then the marking is the one after it
   pub fires : a.refused ≡ false → (a.stuck ≡ false) ↔ PlanFires (net_at new start) list
   pub ends : a.refused ≡ false → a.stuck ≡ false → exit ≡ tokens (net_of new) (after (net_at new start) (standing start) list) ++ drop (net_of new).places marking

@@ -7,9 +7,9 @@ use Rattle.file_words.specs.Word.{byte_at, le16, le32}
 use Rattle.arcs_groups.specs.Groups.{Parallel}
 
 -- parallel arcs have the same four bytes
-pub same-middle : (s : List ℕ) (start i : ℕ) → byte_at s (start + 8 * i + 3) ≡ 0 → byte_at s (start + 8 * (i + 1) + 3) ≡ 0 → Parallel s start i (i + 1) → le32 s (start + 8 * i + 10) ≡ le32 s (start + 8 * i + 2)
+pub same_middle : (s : List ℕ) (start i : ℕ) → byte_at s (start + 8 * i + 3) ≡ 0 → byte_at s (start + 8 * (i + 1) + 3) ≡ 0 → Parallel s start i (i + 1) → le32 s (start + 8 * i + 10) ≡ le32 s (start + 8 * i + 2)
 unfolding le32 le16
-same-middle s start i z z' y =
+same_middle s start i z z' y =
     let b = start + 8 * i in
     let c = start + 8 * (i + 1) in
     omega (

@@ -21,13 +21,13 @@ entry_start j from l = omega arith
 
 module _ (s : List ℕ) (h : Header) where
   -- of no arcs there is none
-  pub ends-none : (passes : ℕ → Bool) (d p e : ℕ) → e ≡ 0 → Ends s h passes 0 d p e
-  ends-none passes d p e z = rw z (record {
+  pub ends_none : (passes : ℕ → Bool) (d p e : ℕ) → e ≡ 0 → Ends s h passes 0 d p e
+  ends_none passes d p e z = rw z (record {
     within = omega arith;
     ends = λ q. refl;
     at = λ j q. absurd (omega arith);
     goes = λ j q. absurd (omega arith);
-    passes-it = λ j q. absurd (omega arith);
+    passes_it = λ j q. absurd (omega arith);
     begun = λ j q. absurd (omega arith);
     first = λ j q. absurd (omega arith);
     opens = λ j q. absurd (omega arith);
@@ -35,15 +35,15 @@ module _ (s : List ℕ) (h : Header) where
   })
 
   -- the arcs from j to n are the last group of the first n
-  pub ends-own : (passes : ℕ → Bool) (j n from : ℕ) → j < 4096 → j < n → ((k : ℕ) → j ≤ k → k < n → transition_at s h.arcstart k ≡ transition_at s h.arcstart j) → Opens s h.arcstart j
+  pub ends_own : (passes : ℕ → Bool) (j n from : ℕ) → j < 4096 → j < n → ((k : ℕ) → j ≤ k → k < n → transition_at s h.arcstart k ≡ transition_at s h.arcstart j) → Opens s h.arcstart j
       → T (passes (transition_at s h.arcstart j)) → Split s h.arcstart h.arcs (2 * transition_at s h.arcstart j) from
       → Ends s h passes n (direction_at s h.arcstart j) (place_at s h.arcstart j) (entry_of j from)
-  ends-own passes j n from l more alike opens m split = record {
+  ends_own passes j n from l more alike opens m split = record {
     within = omega (arith, entry_arc j from l);
     ends = λ q. absurd (omega (arith, entry_arc j from l, q));
     at = λ i q. ap (place_at s h.arcstart) (is i q);
     goes = λ i q. ap (direction_at s h.arcstart) (is i q);
-    passes-it = λ i q. subst (λ (k : ℕ). T (passes (transition_at s h.arcstart k))) (sym (is i q)) m;
+    passes_it = λ i q. subst (λ (k : ℕ). T (passes (transition_at s h.arcstart k))) (sym (is i q)) m;
     begun = λ i q. omega (arith, entry_start j from l);
     first = λ i q.
         let e : from ≡ entry_of j from / 65536 - 1 = omega (arith, entry_start j from l) in
@@ -69,7 +69,7 @@ module _ (s : List ℕ) (h : Header) where
     ends = x.ends;
     at = x.at;
     goes = x.goes;
-    passes-it = λ k q. subst T (same k (omega (arith, x.within)) (x.at k q) (x.goes k q)) (x.passes-it k q);
+    passes_it = λ k q. subst T (same k (omega (arith, x.within)) (x.at k q) (x.goes k q)) (x.passes_it k q);
     begun = x.begun;
     first = x.first;
     opens = x.opens;
@@ -82,8 +82,8 @@ module _ (s : List ℕ) (h : Header) where
       older k a b at goes m (no q) = later k (omega arith) b at goes m
 
   -- more arcs, of which none passes
-  pub ends-keep : (f g : ℕ → Bool) (i n d p e : ℕ) → i ≤ n
+  pub ends_keep : (f g : ℕ → Bool) (i n d p e : ℕ) → i ≤ n
       → ((k : ℕ) → k < i → place_at s h.arcstart k ≡ p → direction_at s h.arcstart k ≡ d → f (transition_at s h.arcstart k) ≡ g (transition_at s h.arcstart k))
       → ((k : ℕ) → i ≤ k → k < n → place_at s h.arcstart k ≡ p → direction_at s h.arcstart k ≡ d → T (g (transition_at s h.arcstart k)) → ⊥)
       → Ends s h f i d p e → Ends s h g n d p e
-  ends-keep f g i n d p e l same none x = ends_more f g i n d p e l same (λ k a b at goes m. absurd (none k a b at goes m)) x
+  ends_keep f g i n d p e l same none x = ends_more f g i n d p e l same (λ k a b at goes m. absurd (none k a b at goes m)) x

@@ -14,17 +14,17 @@ use Rattle.net.proofs.Numbers.{by_cases, holds, fails, is_true}
 use Rattle.file.specs.Facts.{Sound}
 use Rattle.file_arcs.specs.Layout.{arc_at}
 use Rattle.file_header.specs.declared.Header.{Header}
-use Rattle.file_arcs.proofs.Rows.{weight-none}
-use Rattle.file.proofs.Rows.{good-at}
+use Rattle.file_arcs.proofs.Rows.{weight_none}
+use Rattle.file.proofs.Rows.{good_at}
 use Rattle.arcs_starts.specs.Table.{slot_at, choose, Split}
-use Rattle.arcs_starts.proofs.Reached.{number-below}
+use Rattle.arcs_starts.proofs.Reached.{number_below_lem}
 use Rattle.arcs_column.specs.Ways.{transition_at, direction_at, place_at, Joins}
 use Rattle.cut_rows.specs.Rows.{entry_of, Ends, Rows}
 use Rattle.arcs_groups.specs.Groups.{Alike, Opens, Parallel, GroupEnd, run_weight}
-use Rattle.arcs_groups.proofs.Groups.{alike, alone, between, opens-next}
+use Rattle.arcs_groups.proofs.Groups.{alike, alone, between, opens_next}
 use Rattle.cut_index.specs.Steps.{arc_in, Fronted, Returned, Linked, Room}
 use Rattle.cut_index.proofs.Weights
-use Rattle.cut_index.proofs.Ends.{ends-none, ends-own, ends_more, ends-keep}
+use Rattle.cut_index.proofs.Ends.{ends_none, ends_own, ends_more, ends_keep}
 
 -- the first j arcs are linked, by what they tell
 pub record Rowed (s : List ℕ) (h : Header) (j : ℕ) (head next : List ℕ) : Type 0 where
@@ -40,27 +40,27 @@ one-transition s h sound i j from l m x y = go (dec_lt i from)
   where
     go : Dec (i < from) → transition_at s h.arcstart i ≡ transition_at s h.arcstart j
     go (yes q) = absurd (omega (arith, x.below i q))
-    go (no q) = omega (arith, y.above i (omega arith) (omega arith), (good-at s h sound i (omega arith)).direction, Weights.rises s h sound i j (omega arith) m)
+    go (no q) = omega (arith, y.above i (omega arith) (omega arith), (good_at s h sound i (omega arith)).direction, Weights.rises s h sound i j (omega arith) m)
 
 one-start : (s : List ℕ) (h : Header) (k a b : ℕ) → Split s h.arcstart h.arcs k a → Split s h.arcstart h.arcs k b → a ≡ b
-one-start s h k a b x y = sym (number-below s h.arcstart h.arcs k a x) ∙ number-below s h.arcstart h.arcs k b y
+one-start s h k a b x y = sym (number_below_lem s h.arcstart h.arcs k a x) ∙ number_below_lem s h.arcstart h.arcs k b y
 
 -- the arcs of a new transition start with arc j
-new-start : (s : List ℕ) (h : Header) (sound : Sound s h) (j : ℕ) → j < h.arcs → ((i : ℕ) → i < j → transition_at s h.arcstart i < transition_at s h.arcstart j)
+new_start : (s : List ℕ) (h : Header) (sound : Sound s h) (j : ℕ) → j < h.arcs → ((i : ℕ) → i < j → transition_at s h.arcstart i < transition_at s h.arcstart j)
     → Split s h.arcstart h.arcs (2 * transition_at s h.arcstart j) j
 unfolding slot_at
-new-start s h sound j l lower = record {
+new_start s h sound j l lower = record {
   within = omega arith;
-  below = λ i m. omega (arith, lower i m, (good-at s h sound i (omega arith)).direction);
+  below = λ i m. omega (arith, lower i m, (good_at s h sound i (omega arith)).direction);
   above = λ i a b. omega (arith, Weights.rises s h sound j i a b);
 }
 
 -- rows of different places or directions are different
-row-place : (p q d e : ℕ) → d ≤ 1 → e ≤ 1 → 2 * q + d ≡ 2 * p + e → q ≡ p
-row-place p q d e l m x = omega arith
+row_place : (p q d e : ℕ) → d ≤ 1 → e ≤ 1 → 2 * q + d ≡ 2 * p + e → q ≡ p
+row_place p q d e l m x = omega arith
 
-row-direction : (p d e : ℕ) → 2 * p + d ≡ 2 * p + e → d ≡ e
-row-direction p d e x = omega arith
+row_direction : (p d e : ℕ) → 2 * p + d ≡ 2 * p + e → d ≡ e
+row_direction p d e x = omega arith
 
 entry_of_none : (e from : ℕ) → e ≡ 0 → e / 65536 ≡ from + 1 → ⊥
 entry_of_none e from z q = omega arith
@@ -132,10 +132,10 @@ module _ (s : List ℕ) (h : Header) (sound : Sound s h) (j from : ℕ) (l : j <
     ej = get_or head (2 * pj + dj) 0
 
     pj_in : pj < h.places
-    pj_in = (good-at s h sound j l).place
+    pj_in = (good_at s h sound j l).place
 
     dj_in : dj ≤ 1
-    dj_in = (good-at s h sound j l).direction
+    dj_in = (good_at s h sound j l).direction
 
     row : Ends s h (Weights.told s h j dj pj) j dj pj ej
     row = x.heads dj pj dj_in pj_in
@@ -155,7 +155,7 @@ module _ (s : List ℕ) (h : Header) (sound : Sound s h) (j from : ℕ) (l : j <
         one-transition s h sound (arc_in ej) j from before l (subst (Split s h.arcstart h.arcs (2 * transition_at s h.arcstart (arc_in ej))) f (row.first (arc_in ej) is)) split
 
     counted : T (Weights.told s h j dj pj tj)
-    counted = subst (λ (u : ℕ). T (Weights.told s h j dj pj u)) mine (row.passes-it (arc_in ej) is)
+    counted = subst (λ (u : ℕ). T (Weights.told s h j dj pj u)) mine (row.passes_it (arc_in ej) is)
 
     pub counts_again : T (Weights.told s h (j + 1) dj pj tj)
     counts_again = Weights.grows s h sound j dj pj tj dj_in refl counted
@@ -167,8 +167,8 @@ module _ (s : List ℕ) (h : Header) (sound : Sound s h) (j from : ℕ) (l : j <
     other_way : (m g : ℕ) → g ≤ 1 → (g ≡ dj → ⊥) → T (Weights.told s h m dj pj tj) → Weights.told s h m g pj tj ≡ false
     other_way m g a n c = by_cases (Weights.told s h m g pj tj) (λ q. absurd (Weights.one_way s h sound m dj g pj tj dj_in a n c (holds _ q))) (λ q. q)
 
-    rows-again : (g q : ℕ) → g ≤ 1 → q < h.places → Dec (q ≡ pj) → Dec (g ≡ dj) → Ends s h (Weights.told s h (j + 1) g q) (j + 1) g q (get_or head (2 * q + g) 0)
-    rows-again g q a b (yes z) (yes o) = rw (z, o) (ends_more s h (Weights.told s h j dj pj) (Weights.told s h (j + 1) dj pj) j (j + 1) dj pj _ (omega arith)
+    rows_again : (g q : ℕ) → g ≤ 1 → q < h.places → Dec (q ≡ pj) → Dec (g ≡ dj) → Ends s h (Weights.told s h (j + 1) g q) (j + 1) g q (get_or head (2 * q + g) 0)
+    rows_again g q a b (yes z) (yes o) = rw (z, o) (ends_more s h (Weights.told s h j dj pj) (Weights.told s h (j + 1) dj pj) j (j + 1) dj pj _ (omega arith)
         (λ k m at goes. tests k (ℕ_discrete (transition_at s h.arcstart k) tj))
         (λ k m u at goes y. let i : k ≡ j = omega arith in (filled, ap (transition_at s h.arcstart) i ∙ sym mine))
         row)
@@ -176,7 +176,7 @@ module _ (s : List ℕ) (h : Header) (sound : Sound s h) (j from : ℕ) (l : j <
         tests : (k : ℕ) → Dec (transition_at s h.arcstart k ≡ tj) → Weights.told s h j dj pj (transition_at s h.arcstart k) ≡ Weights.told s h (j + 1) dj pj (transition_at s h.arcstart k)
         tests k (yes u) = rw u (is_true _ counted ∙ sym (is_true _ counts_again))
         tests k (no u) = same dj pj _ (λ v w. u w)
-    rows-again g q a b (yes z) (no o) = rw z (ends-keep s h (Weights.told s h j g pj) (Weights.told s h (j + 1) g pj) j (j + 1) g pj _ (omega arith)
+    rows_again g q a b (yes z) (no o) = rw z (ends_keep s h (Weights.told s h j g pj) (Weights.told s h (j + 1) g pj) j (j + 1) g pj _ (omega arith)
         (λ k m at goes. tests k (ℕ_discrete (transition_at s h.arcstart k) tj))
         (λ k m u at goes y. let i : k ≡ j = omega arith in o (sym goes ∙ ap (direction_at s h.arcstart) i))
         (x.heads g pj a pj_in))
@@ -184,14 +184,14 @@ module _ (s : List ℕ) (h : Header) (sound : Sound s h) (j from : ℕ) (l : j <
         tests : (k : ℕ) → Dec (transition_at s h.arcstart k ≡ tj) → Weights.told s h j g pj (transition_at s h.arcstart k) ≡ Weights.told s h (j + 1) g pj (transition_at s h.arcstart k)
         tests k (yes u) = rw u (other_way j g a o counted ∙ sym (other_way (j + 1) g a o counts_again))
         tests k (no u) = same g pj _ (λ v w. u w)
-    rows-again g q a b (no z) o = ends-keep s h (Weights.told s h j g q) (Weights.told s h (j + 1) g q) j (j + 1) g q _ (omega arith)
+    rows_again g q a b (no z) o = ends_keep s h (Weights.told s h j g q) (Weights.told s h (j + 1) g q) j (j + 1) g q _ (omega arith)
         (λ k m at goes. same g q _ (λ v w. z v))
         (λ k m u at goes y. let i : k ≡ j = omega arith in z (sym at ∙ ap (place_at s h.arcstart) i))
         (x.heads g q a b)
 
     pub linked_again : Rowed s h (j + 1) head next
     linked_again = record {
-      heads = λ g q a b. rows-again g q a b (ℕ_discrete q pj) (ℕ_discrete g dj);
+      heads = λ g q a b. rows_again g q a b (ℕ_discrete q pj) (ℕ_discrete g dj);
       nexts = λ k a o m. after k a o m (dec_lt k j);
     }
       where
@@ -199,7 +199,7 @@ module _ (s : List ℕ) (h : Header) (sound : Sound s h) (j from : ℕ) (l : j <
             → Dec (place_at s h.arcstart k ≡ pj) → Dec (transition_at s h.arcstart k ≡ tj) → Dec (direction_at s h.arcstart k ≡ dj)
             → T (Weights.told s h j (direction_at s h.arcstart k) (place_at s h.arcstart k) (transition_at s h.arcstart k))
         earlier k q m (yes u) (yes v) (yes w) = rw (u, v, w) counted
-        earlier k q m (yes u) (yes v) (no w) = absurd (fails _ (other_way (j + 1) _ (good-at s h sound k (omega arith)).direction w counts_again) (rw (u, v) at m))
+        earlier k q m (yes u) (yes v) (no w) = absurd (fails _ (other_way (j + 1) _ (good_at s h sound k (omega arith)).direction w counts_again) (rw (u, v) at m))
         earlier k q m (yes u) (no v) w = subst T (sym (same _ _ _ (λ f g. v g))) m
         earlier k q m (no u) v w = subst T (sym (same _ _ _ (λ f g. u f))) m
 
@@ -253,10 +253,10 @@ module _ (s : List ℕ) (h : Header) (sound : Sound s h) (j stop from : ℕ) (gr
   more = group.after
 
   p_in : p < h.places
-  p_in = (good-at s h sound j l).place
+  p_in = (good_at s h sound j l).place
 
   d_in : d ≤ 1
-  d_in = (good-at s h sound j l).direction
+  d_in = (good_at s h sound j l).direction
 
   -- an arc before it at the same place and in the same direction is of a lower transition
   lower : (k : ℕ) → k < j → pl k ≡ p → dr k ≡ d → tr k < t
@@ -270,7 +270,7 @@ module _ (s : List ℕ) (h : Header) (sound : Sound s h) (j stop from : ℕ) (gr
 
   -- of another place
   far : (q g : ℕ) → g ≤ 1 → q < h.places → (q ≡ p → ⊥) → Ends s h (told stop g q) stop g q (get_or head (2 * q + g) 0)
-  far q g a b n = ends-keep s h (told j g q) (told stop g q) j stop g q _ (omega (arith, more))
+  far q g a b n = ends_keep s h (told j g q) (told stop g q) j stop g q _ (omega (arith, more))
       (λ k m at goes. Weights.elsewhere s h sound j stop group fits g q (tr k) (λ z y. n z))
       (λ k m o at goes y. n (sym at ∙ (group.same k m o).place))
       (x.heads g q a b)
@@ -278,14 +278,14 @@ module _ (s : List ℕ) (h : Header) (sound : Sound s h) (j stop from : ℕ) (gr
   -- of the other direction, without an arc of this transition
   other : (g : ℕ) → g ≤ 1 → (g ≡ d → ⊥) → ((k : ℕ) → k < j → pl k ≡ p → dr k ≡ g → tr k ≡ t → ⊥)
       → Ends s h (told stop g p) stop g p (get_or head (2 * p + g) 0)
-  other g a n none = ends-keep s h (told j g p) (told stop g p) j stop g p _ (omega (arith, more))
+  other g a n none = ends_keep s h (told j g p) (told stop g p) j stop g p _ (omega (arith, more))
       (λ k m at goes. Weights.elsewhere s h sound j stop group fits g p (tr k) (λ z y. none k m at goes y))
       (λ k m o at goes y. n (sym goes ∙ (group.same k m o).direction))
       (x.heads g p a p_in)
 
   -- its own row, where it does not count
   own : (T (told stop d p t) → ⊥) → Ends s h (told stop d p) stop d p (get_or head (2 * p + d) 0)
-  own n = ends-keep s h (told j d p) (told stop d p) j stop d p _ (omega (arith, more))
+  own n = ends_keep s h (told j d p) (told stop d p) j stop d p _ (omega (arith, more))
       (λ k m at goes. Weights.elsewhere s h sound j stop group fits d p (tr k) (λ z y. omega (arith, y, lower k m at goes)))
       (λ k m o at goes y. n (subst (λ (a : ℕ). T (told stop d p a)) (group.same k m o).transition y))
       (x.heads d p d_in p_in)
@@ -344,7 +344,7 @@ module _ (s : List ℕ) (h : Header) (sound : Sound s h) (j stop from : ℕ) (gr
 
   -- what stood in front of its row is settled
   behind : Ends s h (told h.arcs d p) j d p (get_or head (2 * p + d) 0)
-  behind = ends-keep s h (told j d p) (told h.arcs d p) j j d p _ (omega arith)
+  behind = ends_keep s h (told j d p) (told h.arcs d p) j j d p _ (omega arith)
       (λ k m at goes. Weights.settled s h sound j stop group fits d p (tr k) (lower k m at goes))
       (λ k a b. absurd (omega arith))
       (x.heads d p d_in p_in)
@@ -366,7 +366,7 @@ module _ (s : List ℕ) (h : Header) (sound : Sound s h) (j stop from : ℕ) (gr
     fronted : 2 * p + d < length head₁ → j < length next
         → ((g : ℕ) → g ≤ 1 → (g ≡ d → ⊥) → Ends s h (told stop g p) stop g p (get_or head₁ (2 * p + g) 0))
         → get_or head₁ (2 * p + d) 0 ≡ get_or head (2 * p + d) 0 → T (told stop d p t) → Fronted (2 * p + d) j from head₁ next head' next' → Rowed s h stop head' next'
-    fronted hl nl others here counts y = rw (y.head-is, y.next-is) (record {
+    fronted hl nl others here counts y = rw (y.head_is, y.next_is) (record {
       heads = λ g q a b. row g q a b (ℕ_discrete q p) (ℕ_discrete g d);
       nexts = λ k a o m. after k a o m (ℕ_discrete k j);
     })
@@ -374,10 +374,10 @@ module _ (s : List ℕ) (h : Header) (sound : Sound s h) (j stop from : ℕ) (gr
         row : (g q : ℕ) → g ≤ 1 → q < h.places → Dec (q ≡ p) → Dec (g ≡ d) → Ends s h (told stop g q) stop g q (get_or (set head₁ (2 * p + d) (entry_of j from)) (2 * q + g) 0)
         row g q a b (yes z) (yes o) =
             rw (z, o) (rw (get_or-set_same head₁ (2 * p + d) (entry_of j from) 0 hl)
-            (ends-own s h (told stop d p) j stop from (omega (arith, l, sound.placed.arcs)) more (λ k u v. (group.same k u v).transition) opens counts split))
-        row g q a b (yes z) (no o) = rw z (rw (get_or-set_other head₁ (2 * p + d) (2 * p + g) (entry_of j from) 0 (λ r. o (row-direction p g d r))) (others g a o))
+            (ends_own s h (told stop d p) j stop from (omega (arith, l, sound.placed.arcs)) more (λ k u v. (group.same k u v).transition) opens counts split))
+        row g q a b (yes z) (no o) = rw z (rw (get_or-set_other head₁ (2 * p + d) (2 * p + g) (entry_of j from) 0 (λ r. o (row_direction p g d r))) (others g a o))
         row g q a b (no z) o =
-            rw (get_or-set_other head₁ (2 * p + d) (2 * q + g) (entry_of j from) 0 (λ r. z (row-place p q g d a d_in r)), same q g a z) (far q g a b z)
+            rw (get_or-set_other head₁ (2 * p + d) (2 * q + g) (entry_of j from) 0 (λ r. z (row_place p q g d a d_in r)), same q g a z) (far q g a b z)
 
         after : (k : ℕ) → k < stop → Opens s h.arcstart k → T (told stop (dr k) (pl k) (tr k)) → Dec (k ≡ j)
             → Ends s h (told h.arcs (dr k) (pl k)) k (dr k) (pl k)
@@ -409,7 +409,7 @@ module _ (s : List ℕ) (h : Header) (sound : Sound s h) (j stop from : ℕ) (gr
   counts_new n (no o) =
       let u = d_in in
       let v : d ≡ 1 = omega arith in
-      let none : Weights.sum_of s h j 0 p t ≡ 0 = Weights.still s h 0 j 0 p t (omega arith) (λ k a b y. no_taker n v k b y.place y.direction y.transition) ∙ weight-none 0 p t s h.arcstart in
+      let none : Weights.sum_of s h j 0 p t ≡ 0 = Weights.still s h 0 j 0 p t (omega arith) (λ k a b y. no_taker n v k b y.place y.direction y.transition) ∙ weight_none 0 p t s h.arcstart in
       let less : Weights.sum_of s h j 0 p t < w = omega (arith, none, Weights.weight-some s h sound j stop group fits opens) in
       subst (λ (g : ℕ). T (told stop g p t)) (sym v) (holds _ (Weights.output-raises s h sound j stop group fits opens v ∙ lt-ltb _ _ less))
 
@@ -450,7 +450,7 @@ module _ (s : List ℕ) (h : Header) (sound : Sound s h) (j stop from : ℕ) (gr
 
     -- it stays in its row
     stays : w < v → Ends s h (told stop 0 p) stop 0 p (get_or head (2 * p + 0) 0)
-    stays a = ends-keep s h (told j 0 p) (told stop 0 p) j stop 0 p _ (omega (arith, more))
+    stays a = ends_keep s h (told j 0 p) (told stop 0 p) j stop 0 p _ (omega (arith, more))
         (λ k b at goes. alike k (ℕ_discrete (tr k) t))
         (λ k b c at goes y. omega (arith, output-arc, goes, (group.same k b c).direction))
         (x.heads 0 p (omega arith) p_in)
@@ -461,7 +461,7 @@ module _ (s : List ℕ) (h : Header) (sound : Sound s h) (j stop from : ℕ) (gr
 
     -- it leaves it
     leaves : v ≤ w → Ends s h (told stop 0 p) stop 0 p (get_or next i 0)
-    leaves a = ends-keep s h (told h.arcs 0 p) (told stop 0 p) i stop 0 p _ (omega (arith, more))
+    leaves a = ends_keep s h (told h.arcs 0 p) (told stop 0 p) i stop 0 p _ (omega (arith, more))
         (λ k b at goes. let z = before k b at goes in
         sym (Weights.settled s h sound j stop group fits 0 p (tr k) z) ∙ Weights.elsewhere s h sound j stop group fits 0 p (tr k) (λ f g. omega (arith, g, z)))
         (λ k b c at goes y.
@@ -543,8 +543,8 @@ linked_on {s} {start} {arcs} {j} {from} {p} {d} {head} {next} {head'} {next'} {r
 -- the first j arcs are linked; where arc j is parallel to one of them, these count; the arcs of the last of their transitions start with arc `from`
 pub record Linking (s : List ℕ) (h : Header) (before after head next : List ℕ) (last from j : ℕ) : Type 0 where
   pub within : j ≤ h.arcs
-  pub head-long : length head ≡ length before
-  pub next-long : length next ≡ length after
+  pub head_long : length head ≡ length before
+  pub next_long : length next ≡ length after
   pub fresh : j ≡ 0 → last ≡ 65536
   pub run : (k : ℕ) → j ≡ suc k → (last ≡ transition_at s h.arcstart k) × Split s h.arcstart h.arcs (2 * last) from
   pub linked : j < h.arcs → (i : ℕ) → i < j → Parallel s h.arcstart j i → T (Weights.told s h j (direction_at s h.arcstart j) (place_at s h.arcstart j) (transition_at s h.arcstart j))
@@ -553,12 +553,12 @@ pub record Linking (s : List ℕ) (h : Header) (before after head next : List �
 pub linking_none : (s : List ℕ) (h : Header) (head next : List ℕ) → ((k : ℕ) → get_or head k 0 ≡ 0) → Linking s h head next head next 65536 0 0
 linking_none s h head next z = record {
   within = omega arith;
-  head-long = refl;
-  next-long = refl;
+  head_long = refl;
+  next_long = refl;
   fresh = λ q. refl;
   run = λ k q. absurd (omega arith);
   linked = λ l i m. absurd (omega arith);
-  rows = record { heads = λ d p a b. ends-none s h _ d p _ (z (2 * p + d)); nexts = λ k a. absurd (omega arith) };
+  rows = record { heads = λ d p a b. ends_none s h _ d p _ (z (2 * p + d)); nexts = λ k a. absurd (omega arith) };
 }
 
 module _ (s : List ℕ) (h : Header) (sound : Sound s h) (before after head next : List ℕ) (last from j : ℕ) (x : Linking s h before after head next last from j) (l : j < h.arcs) where
@@ -568,14 +568,14 @@ module _ (s : List ℕ) (h : Header) (sound : Sound s h) (before after head next
     where
       go : Dec (j ≡ 0) → Split s h.arcstart h.arcs (2 * transition_at s h.arcstart j) (choose (eqb (transition_at s h.arcstart j) last) from j)
       go (yes z) =
-          let f : eqb (transition_at s h.arcstart j) last ≡ false = ne_eqb (transition_at s h.arcstart j) last (λ q. omega (arith, q, x.fresh z, (good-at s h sound j l).transition, sound.placed.transitions)) in
-          rw f (new-start s h sound j l (λ i m. absurd (omega arith)))
+          let f : eqb (transition_at s h.arcstart j) last ≡ false = ne_eqb (transition_at s h.arcstart j) last (λ q. omega (arith, q, x.fresh z, (good_at s h sound j l).transition, sound.placed.transitions)) in
+          rw f (new_start s h sound j l (λ i m. absurd (omega arith)))
       go (no z) =
           let e : j ≡ suc (j - 1) = omega arith in
           let r = x.run (j - 1) e in
           by_cases (eqb (transition_at s h.arcstart j) last)
           (λ q. rw (q, eqb-true (transition_at s h.arcstart j) last q) r.1)
-          (λ q. rw q (new-start s h sound j l (λ i m.
+          (λ q. rw q (new_start s h sound j l (λ i m.
           let n = eqb-false (transition_at s h.arcstart j) last q in
           omega (arith, n, r.0, Weights.rises s h sound i (j - 1) (omega arith) (omega arith), Weights.rises s h sound (j - 1) j (omega arith) l))))
 
@@ -583,7 +583,7 @@ module _ (s : List ℕ) (h : Header) (sound : Sound s h) (before after head next
   room : 2 * h.places ≤ length before → h.arcs ≤ length after → (from' : ℕ) → from' ≡ choose (eqb (transition_at s h.arcstart j) last) from j
       → Room s h.arcstart h.arcs j from' (place_at s h.arcstart j) head next
   room hl nl from' f =
-      let p = (good-at s h sound j l).place in
+      let p = (good_at s h sound j l).place in
       let z : 2 * place_at s h.arcstart j + 0 ≡ 2 * place_at s h.arcstart j = omega arith in
       let first = subst (λ (k : ℕ). Ends s h (Weights.told s h j 0 (place_at s h.arcstart j)) j 0 (place_at s h.arcstart j) (get_or head k 0)) z (x.rows.heads 0 (place_at s h.arcstart j) (omega arith) p) in
       let most' : (d : ℕ) → d ≤ 1 → get_or head (2 * place_at s h.arcstart j + d) 0 / 65536 ≤ from' + 1 = λ d a. most s h sound j from' l (rw f start_is) head next x.rows d (place_at s h.arcstart j) a p in
@@ -592,11 +592,11 @@ module _ (s : List ℕ) (h : Header) (sound : Sound s h) (before after head next
         behind = omega (arith, sound.placed.arcs_fit, sound.placed.origins_fit);
         zeros = sound.zeros;
         begun = omega (arith, sound.placed.arcs, f, start_is.within);
-        head-long = omega (arith, x.head-long);
-        next-long = omega (arith, x.next-long);
+        head_long = omega (arith, x.head_long);
+        next_long = omega (arith, x.next_long);
         within = first.within;
-        own-most = most';
-        begun-most = subst (λ (k : ℕ). get_or head k 0 / 65536 ≤ from' + 1) z (most' 0 (omega arith));
+        own_most = most';
+        begun_most = subst (λ (k : ℕ). get_or head k 0 / 65536 ≤ from' + 1) z (most' 0 (omega arith));
         some = λ q. some (get_or head (2 * place_at s h.arcstart j) 0) from' first.ends q;
       }
 
@@ -606,18 +606,18 @@ module _ (s : List ℕ) (h : Header) (sound : Sound s h) (before after head next
     split = rw f start_is
 
     p_long : 2 * place_at s h.arcstart j + 1 < length head
-    p_long = let p = (good-at s h sound j l).place in omega (arith, x.head-long)
+    p_long = let p = (good_at s h sound j l).place in omega (arith, x.head_long)
 
     j_long : j < length next
-    j_long = omega (arith, x.next-long)
+    j_long = omega (arith, x.next_long)
 
     -- arc j alone is linked
     one_more : T (Weights.told s h (j + 1) (direction_at s h.arcstart j) (place_at s h.arcstart j) (transition_at s h.arcstart j)) → Rowed s h (j + 1) head' next'
         → Linking s h before after head' next' (transition_at s h.arcstart j) from' (j + 1)
     one_more counts rows = record {
       within = omega arith;
-      head-long = a ∙ x.head-long;
-      next-long = b ∙ x.next-long;
+      head_long = a ∙ x.head_long;
+      next_long = b ∙ x.next_long;
       fresh = λ q. absurd (omega arith);
       run = λ k q. let e : j ≡ k = omega arith in (ap (transition_at s h.arcstart) e, split);
       linked = λ m i u y.
@@ -627,14 +627,14 @@ module _ (s : List ℕ) (h : Header) (sound : Sound s h) (before after head next
     }
 
     -- a group is linked
-    group-more : (stop : ℕ) → GroupEnd s h.arcstart j h.arcs stop → Rowed s h stop head' next' → Linking s h before after head' next' (transition_at s h.arcstart j) from' stop
-    group-more stop group rows = record {
+    group_more : (stop : ℕ) → GroupEnd s h.arcstart j h.arcs stop → Rowed s h stop head' next' → Linking s h before after head' next' (transition_at s h.arcstart j) from' stop
+    group_more stop group rows = record {
       within = group.within;
-      head-long = a ∙ x.head-long;
-      next-long = b ∙ x.next-long;
+      head_long = a ∙ x.head_long;
+      next_long = b ∙ x.next_long;
       fresh = λ q. absurd (omega (arith, q, group.after));
       run = λ k q. (sym (group.same k (omega (arith, q, group.after)) (omega (arith, q))).transition, split);
-      linked = λ m i u y. absurd (opens-next s h sound j h.arcs stop (omega arith) group m i u y);
+      linked = λ m i u y. absurd (opens_next s h sound j h.arcs stop (omega arith) group m i u y);
       rows = rows;
     }
 
@@ -646,7 +646,7 @@ module _ (s : List ℕ) (h : Header) (sound : Sound s h) (before after head next
         -- no parallel arc stands before arc j
         opens : (get_or head (2 * place_at s h.arcstart j + direction_at s h.arcstart j) 0 / 65536 ≡ from' + 1 → ⊥) → Opens s h.arcstart j
         opens n i m z =
-            n (leads s h sound j from' l split head next x.rows (direction_at s h.arcstart j) (place_at s h.arcstart j) (good-at s h sound j l).direction (good-at s h sound j l).place i m z (x.linked l i m z))
+            n (leads s h sound j from' l split head next x.rows (direction_at s h.arcstart j) (place_at s h.arcstart j) (good_at s h sound j l).direction (good_at s h sound j l).place i m z (x.linked l i m z))
 
         go : Dec (get_or head (2 * place_at s h.arcstart j + direction_at s h.arcstart j) 0 / 65536 ≡ from' + 1) → Dec (get_or head (2 * place_at s h.arcstart j) 0 / 65536 ≡ from' + 1)
             → Linking s h before after head' next' (transition_at s h.arcstart j) from' r
@@ -657,7 +657,7 @@ module _ (s : List ℕ) (h : Header) (sound : Sound s h) (before after head next
             let z = y.back q o in
             let g = alike s h.arcstart j h.arcs r z.own in
             let t = takes s h sound j r from' g z.own.within (opens q) split head next x.rows o in
-            group-more r z.own (linked_back s h sound j r from' g z.own.within (opens q) split head next x.rows _ t.0 t.1 t.2 head' next' p_long j_long z)
+            group_more r z.own (linked_back s h sound j r from' g z.own.within (opens q) split head next x.rows _ t.0 t.1 t.2 head' next' p_long j_long z)
         go (no q) (no o) =
             let z = y.new q o in
             let g = alone s h.arcstart j in
@@ -678,7 +678,7 @@ pub next-arc : {s : List ℕ} {h : Header} {before after head next : List ℕ} {
 next-arc {s} {h} {before} {after} {head} {next} {last} {from} {j} sound x l hl nl a e from' =
     subst (λ (b : Arc). from' ≡ choose (eqb b.transition last) from j → Next s h before after head next from' j b) (sym e) (λ f. record {
       room = room s h sound before after head next last from j x l hl nl from' f;
-      way = (good-at s h sound j l).direction;
+      way = (good_at s h sound j l).direction;
       more = λ head' next' hs ns. linking_more s h sound before after head next last from j x l hl nl from' f head' next' hs ns;
     })
 
@@ -689,8 +689,8 @@ linking_end s h before after head next last from j x l hl nl =
     let e : j ≡ h.arcs = omega arith in
     let r : Rowed s h h.arcs head next = subst (λ (k : ℕ). Rowed s h k head next) e x.rows in
     record {
-      head-long = omega (arith, x.head-long);
-      next-long = omega (arith, x.next-long);
+      head_long = omega (arith, x.head_long);
+      next_long = omega (arith, x.next_long);
       heads = r.heads;
       nexts = r.nexts;
     }

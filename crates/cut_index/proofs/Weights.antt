@@ -13,14 +13,14 @@ use Rattle.file_arcs.specs.Layout.{arc_at, arcs_from}
 use Rattle.file.specs.Layout.{net_from}
 use Rattle.file.specs.Facts.{Sound}
 use Rattle.file_header.specs.declared.Header.{Header}
-use Rattle.file_arcs.proofs.Rows.{key-le, weight-none}
-use Rattle.file.proofs.Rows.{good-at}
+use Rattle.file_arcs.proofs.Rows.{key-le, weight_none}
+use Rattle.file.proofs.Rows.{good_at}
 use Rattle.arcs_column.specs.Ways.{transition_at, direction_at, place_at, Joins}
 use Rattle.cut_rows.specs.Rows.{moves}
 use Rattle.arcs_column.proofs.Shares.{share-unless, sum_same, sum_more}
 use Rattle.arcs_column.proofs.Arcs.{arc-has}
 use Rattle.arcs_groups.specs.Groups.{Alike, Opens, GroupEnd, run_weight}
-use Rattle.arcs_groups.proofs.Groups.{alike-sum, group-sum}
+use Rattle.arcs_groups.proofs.Groups.{alike_sum, group_sum}
 
 -- the weight between p and t in direction d, of the first m arcs
 abbrev pub sum_of : List ℕ → Header → ℕ → ℕ → ℕ → ℕ → ℕ
@@ -75,21 +75,21 @@ module _ (s : List ℕ) (h : Header) (sound : Sound s h) where
   -- arcs are in order by transition, then by direction
   pub rises : (i j : ℕ) → i ≤ j → j < h.arcs → tr i ≤ tr j
   rises i j l m =
-      let a = good-at s h sound i (omega arith) in
-      let b = good-at s h sound j m in
+      let a = good_at s h sound i (omega arith) in
+      let b = good_at s h sound j m in
       let c = sound.placed.places in
       by_transition _ _ _ _ _ _ (key-le s h.arcstart 0 h.arcs i j sound.order l m) a.direction b.direction (omega (arith, a.place)) (omega (arith, b.place))
 
-  pub inputs-first : (i j : ℕ) → i < j → j < h.arcs → tr i ≡ tr j → dr i ≤ dr j
-  inputs-first i j l m e =
-      let a = good-at s h sound i (omega arith) in
-      let b = good-at s h sound j m in
+  pub inputs_first : (i j : ℕ) → i < j → j < h.arcs → tr i ≡ tr j → dr i ≤ dr j
+  inputs_first i j l m e =
+      let a = good_at s h sound i (omega arith) in
+      let b = good_at s h sound j m in
       let c = sound.placed.places in
       by_direction _ _ _ _ _ _ (key-le s h.arcstart 0 h.arcs i j sound.order (omega arith) m) e (omega (arith, a.place)) (omega (arith, b.place))
 
   -- an arc that joins p and t adds to their weight
   pub weighs : (d p t i m : ℕ) → Joins d p t s h.arcstart i → i < m → m ≤ h.arcs → 0 < sum m d p t
-  weighs d p t i m x l n = omega (arith, arc-has d p t s h.arcstart m i l x, (good-at s h sound i (omega arith)).weight)
+  weighs d p t i m x l n = omega (arith, arc-has d p t s h.arcstart m i l x, (good_at s h sound i (omega arith)).weight)
 
   -- t moves p one way at most
   pub one_way : (m d e p t : ℕ) → d ≤ 1 → e ≤ 1 → (e ≡ d → ⊥) → T (told s h m d p t) → T (told s h m e p t) → ⊥
@@ -149,10 +149,10 @@ module _ (s : List ℕ) (h : Header) (sound : Sound s h) where
       wt = run_weight s h.arcstart j (n - j)
 
       own-sum : sum n (dr j) (pl j) (tr j) ≡ wt
-      own-sum = alike-sum s h.arcstart j n g opens
+      own-sum = alike_sum s h.arcstart j n g opens
 
-      pub weight-some : 0 < wt
-      weight-some = omega (arith, own-sum, weighs (dr j) (pl j) (tr j) j n (record { transition = refl; direction = refl; place = refl }) g.after fits)
+      pub weight_some : 0 < wt
+      weight_some = omega (arith, own-sum, weighs (dr j) (pl j) (tr j) j n (record { transition = refl; direction = refl; place = refl }) g.after fits)
 
       -- input arcs: their place is lowered
       pub input-lowers : dr j ≡ 0 → T (told s h n 0 (pl j) (tr j))
@@ -160,13 +160,13 @@ module _ (s : List ℕ) (h : Header) (sound : Sound s h) where
         arith,
         ap (λ (d : ℕ). sum n d (pl j) (tr j)) e,
         own-sum,
-        weight-some,
+        weight_some,
         still s h 0 n 1 (pl j) (tr j) (omega arith) (λ k a b x. no_output k b x.transition x.direction (dec_lt k j)),
-        weight-none 1 (pl j) (tr j) s h.arcstart,
+        weight_none 1 (pl j) (tr j) s h.arcstart,
       ))
         where
           no_output : (k : ℕ) → k < n → tr k ≡ tr j → dr k ≡ 1 → Dec (k < j) → ⊥
-          no_output k a x y (yes z) = omega (arith, e, y, inputs-first k j z inside x)
+          no_output k a x y (yes z) = omega (arith, e, y, inputs_first k j z inside x)
           no_output k a x y (no z) = omega (arith, e, y, (g.same k (omega arith) a).direction)
 
       -- output arcs, by what the transition takes
@@ -190,10 +190,10 @@ module _ (s : List ℕ) (h : Header) (sound : Sound s h) where
           m,
           ap (λ (d : ℕ). sum j d (pl j) (tr j)) e,
           still s h 0 j (dr j) (pl j) (tr j) (omega arith) (λ k a b x. opens k b x),
-          weight-none (dr j) (pl j) (tr j) s h.arcstart,
+          weight_none (dr j) (pl j) (tr j) s h.arcstart,
         ))
 
   -- what the group of arc i takes, of the first m arcs
   pub sum_is : (d p t i m until : ℕ) → Joins d p t s h.arcstart i → m ≤ h.arcs → GroupEnd s h.arcstart i m until → Opens s h.arcstart i
       → sum m d p t ≡ run_weight s h.arcstart i (until - i)
-  sum_is d p t i m until x l g opens = rw (← x.direction, ← x.place, ← x.transition) (group-sum s h sound i m until l g opens m g.within (omega arith))
+  sum_is d p t i m until x l g opens = rw (← x.direction, ← x.place, ← x.transition) (group_sum s h sound i m until l g opens m g.within (omega arith))

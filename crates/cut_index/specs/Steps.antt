@@ -10,8 +10,8 @@ arc_in e = e % 65536 - 1
 
 -- the group that starts with arc j is put in front of the row
 pub record Fronted (row j from : ℕ) (head next head' next' : List ℕ) : Type 0 where
-  pub head-is : head' ≡ set head row (entry_of j from)
-  pub next-is : next' ≡ set next j (get_or head row 0)
+  pub head_is : head' ≡ set head row (entry_of j from)
+  pub next_is : next' ≡ set next j (get_or head row 0)
 
 -- the group of arc j, which ends before arc r, gives back to p, from which the group of arc i takes: i stays in its row if it takes more, and j enters its own if it gives more
 pub record Returned (s : List ℕ) (start arcs j from p i : ℕ) (head next head' next' : List ℕ) (r : ℕ) : Type 0 where
@@ -38,9 +38,9 @@ pub record Room (s : List ℕ) (start arcs j from p : ℕ) (head next : List ℕ
   pub behind : start + 8 * arcs + 8 ≤ length s
   pub zeros : ZeroBytes s start arcs
   pub begun : from ≤ 4096
-  pub head-long : 2 * p + 1 < length head
-  pub next-long : j < length next
+  pub head_long : 2 * p + 1 < length head
+  pub next_long : j < length next
   pub within : get_or head (2 * p) 0 % 65536 ≤ j
-  pub own-most : (d : ℕ) → d ≤ 1 → get_or head (2 * p + d) 0 / 65536 ≤ from + 1
-  pub begun-most : get_or head (2 * p) 0 / 65536 ≤ from + 1
+  pub own_most : (d : ℕ) → d ≤ 1 → get_or head (2 * p + d) 0 / 65536 ≤ from + 1
+  pub begun_most : get_or head (2 * p) 0 / 65536 ≤ from + 1
   pub some : get_or head (2 * p) 0 / 65536 ≡ from + 1 → 0 < get_or head (2 * p) 0 % 65536

@@ -22,7 +22,7 @@ pub record Ends (s : List ℕ) (h : Header) (passes : ℕ → Bool) (i d p e : �
   pub ends : e % 65536 ≡ 0 → e ≡ 0
   pub at : (j : ℕ) → e % 65536 ≡ suc j → place_at s h.arcstart j ≡ p
   pub goes : (j : ℕ) → e % 65536 ≡ suc j → direction_at s h.arcstart j ≡ d
-  pub passes-it : (j : ℕ) → e % 65536 ≡ suc j → T (passes (transition_at s h.arcstart j))
+  pub passes_it : (j : ℕ) → e % 65536 ≡ suc j → T (passes (transition_at s h.arcstart j))
   pub begun : (j : ℕ) → e % 65536 ≡ suc j → 0 < e / 65536
   pub first : (j : ℕ) → e % 65536 ≡ suc j → Split s h.arcstart h.arcs (2 * transition_at s h.arcstart j) (e / 65536 - 1)
   pub opens : (j : ℕ) → e % 65536 ≡ suc j → Opens s h.arcstart j
@@ -35,8 +35,8 @@ Last s h i d p e = Ends s h (moves (net_from s h) d p) i d p e
 
 -- head leads to the last group of each place and direction, next from a group to the one before it
 pub record Rows (s : List ℕ) (h : Header) (head next : List ℕ) : Type 0 where
-  pub head-long : 2 * h.places ≤ length head
-  pub next-long : h.arcs ≤ length next
+  pub head_long : 2 * h.places ≤ length head
+  pub next_long : h.arcs ≤ length next
   pub heads : (d p : ℕ) → d ≤ 1 → p < h.places → Last s h h.arcs d p (get_or head (2 * p + d) 0)
   pub nexts : (j : ℕ) → j < h.arcs → Opens s h.arcstart j → T (moves (net_from s h) (direction_at s h.arcstart j) (place_at s h.arcstart j) (transition_at s h.arcstart j))
       → Last s h j (direction_at s h.arcstart j) (place_at s h.arcstart j) (get_or next j 0)

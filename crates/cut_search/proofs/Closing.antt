@@ -11,7 +11,7 @@ use lib.ListN.{replicate}
 use borrow.Author.Tests.{eq-eqb, ne_eqb}
 use Rattle.net.specs.Cut.{Growth}
 use Rattle.net.proofs.Numbers.{by_or, holds, fails, is_true, is_false, and_left, and_right, and_both, or_left, or_right}
-use Rattle.net.proofs.Worklist.{Searching, search-take}
+use Rattle.net.proofs.Worklist.{Searching, search_take}
 use Rattle.file.specs.Facts.{Sound}
 use Rattle.file_header.specs.declared.Header.{Header}
 use Rattle.sets.specs.Member.{bit, member, Inserted}
@@ -28,24 +28,24 @@ use Rattle.cut_search.specs.Search
 
 module _ (G : Growth) (K D R : ℕ → Bool) where
   -- the same places are pending
-  search-as : (D' : ℕ → Bool) (f i : ℕ) → ((k : ℕ) → D k ≡ D' k) → Searching G K D R f i → Searching G K D' R f i
-  search-as D' f i same s = record {
+  search_as : (D' : ℕ → Bool) (f i : ℕ) → ((k : ℕ) → D k ≡ D' k) → Searching G K D R f i → Searching G K D' R f i
+  search_as D' f i same s = record {
     K-kept = s.K-kept;
     R-kept = s.R-kept;
     pending_kept = λ p h. s.pending_kept p (subst T (sym (same p)) h);
-    criterion-in = s.criterion-in;
-    needed-in = s.needed-in;
+    criterion_in = s.criterion-in;
+    needed_in = s.needed-in;
     drawn-in = λ p t h o. s.drawn-in p t h (λ d. o (subst T (same p) d));
   }
 
   -- a place that is gone through does not matter any more
-  search-between : (f g : ℕ) → Searching G K D R f G.transitions → Searching G K D R g G.transitions
-  search-between f g s = record {
+  search_between : (f g : ℕ) → Searching G K D R f G.transitions → Searching G K D R g G.transitions
+  search_between f g s = record {
     K-kept = s.K-kept;
     R-kept = s.R-kept;
     pending_kept = s.pending_kept;
-    criterion-in = s.criterion-in;
-    needed-in = s.needed-in;
+    criterion_in = s.criterion-in;
+    needed_in = s.needed-in;
     drawn-in = λ p t h o a l d. s.drawn-in p t h o (λ e. l) l d;
   }
 
@@ -61,8 +61,8 @@ unmarked m z i b = fails _ (bit-zero i) (subst (λ (n : ℕ). T (bit n i)) z b)
 
 module _ (s : List ℕ) (h : Header) (sound : Sound s h) (all : Bool) (both : List ℕ) where
   -- at first: nothing is gone through
-  pub ready-none : {places transitions : List ℕ} → Search.Sets places transitions → ((k : ℕ) → T (member places k) → k < h.places) → {marks : ℕ} → MarksBelow h.places marks → Search.Ready h marks places transitions (replicate 16 0)
-  ready-none {places} w inside {marks} m = record {
+  pub ready_none : {places transitions : List ℕ} → Search.Sets places transitions → ((k : ℕ) → T (member places k) → k < h.places) → {marks : ℕ} → MarksBelow h.places marks → Search.Ready h marks places transitions (replicate 16 0)
+  ready_none {places} w inside {marks} m = record {
     sets = w;
     long = refl;
     inside = inside;
@@ -70,13 +70,13 @@ module _ (s : List ℕ) (h : Header) (sound : Sound s h) (all : Bool) (both : Li
     marked = all-marked h.places marks m places (member (replicate 16 0)) inside;
   }
 
-  pub search-none : (G : Growth) (places transitions : List ℕ) → Searching G (member places) (member places) (member transitions) 0 G.transitions → Search.At G places (member (replicate 16 0)) transitions 0 G.transitions
-  search-none G places transitions at = search-as G (member places) (member places) (member transitions) _ 0 G.transitions (λ k. not-gone (member places k) (member (replicate 16 0) k) (none k)) at
+  pub search_none : (G : Growth) (places transitions : List ℕ) → Searching G (member places) (member places) (member transitions) 0 G.transitions → Search.At G places (member (replicate 16 0)) transitions 0 G.transitions
+  search_none G places transitions at = search_as G (member places) (member places) (member transitions) _ 0 G.transitions (λ k. not-gone (member places k) (member (replicate 16 0) k) (none k)) at
 
   module _ (marks : ℕ) (P R gone : List ℕ) (x : Search.Ready h marks P R gone) where
     -- at last: nothing is marked, so nothing is pending
-    pub search-end : marks ≡ 0 → (G : Growth) → Search.At G P (member gone) R 0 G.transitions → Searching G (member P) (λ k. false) (member R) 0 G.transitions
-    search-end z G at = search-as G (member P) (waits P (member gone)) (member R) (λ k. false) 0 G.transitions (λ k. is_false _ (λ u. unmarked _ z _ (x.marked.marked k u))) at
+    pub search_end : marks ≡ 0 → (G : Growth) → Search.At G P (member gone) R 0 G.transitions → Searching G (member P) (λ k. false) (member R) 0 G.transitions
+    search_end z G at = search_as G (member P) (waits P (member gone)) (member R) (λ k. false) 0 G.transitions (λ k. is_false _ (λ u. unmarked _ z _ (x.marked.marked k u))) at
 
     -- no place is pending
     pub stepped_none : IsLowest 1024 (waits P (member gone)) Nothing → Search.Stepped s h all both 0 P R gone P R gone
@@ -129,7 +129,7 @@ module _ (s : List ℕ) (h : Header) (sound : Sound s h) (all : Bool) (both : Li
             sets = y.grown.sets;
             long = put.long;
             inside = y.grown.inside x.inside;
-            part = λ k u. y.grown.more-places k (part' k u);
+            part = λ k u. y.grown.more_places k (part' k u);
             marked = y.grown.marked (member gone') (record {
               words = marked.words;
               marked = λ k u. marked.marked k (and_both (member P k) (not (member gone k)) (and_left (member P k) (not (member gone' k)) u) (fewer k (and_right (member P k) (not (member gone' k)) u)));
@@ -137,9 +137,9 @@ module _ (s : List ℕ) (h : Header) (sound : Sound s h) (all : Bool) (both : Li
           };
           lowest = (At p, lowest, put);
           search = λ G g at.
-              search-between G (member P') (waits P' (member gone')) (member R') p 0
+              search_between G (member P') (waits P' (member gone')) (member R') p 0
               (y.search G g (member gone') part' p_kept
-              (search-take G (member P) (waits P (member gone)) (member R) 0 G.transitions at (omega arith) (waits P (member gone')) p
+              (search_take G (member P) (waits P (member gone)) (member R) 0 G.transitions at (omega arith) (waits P (member gone')) p
               (λ q n. ap (λ (b : Bool). member P q && not b) (other q n)) (λ u. T_not (member gone' p) (and_right (member P p) (not (member gone' p)) u) has_it)));
           less = inl less;
         }
@@ -165,7 +165,7 @@ module _ (s : List ℕ) (h : Header) (all : Bool) (both places transitions gone 
     going_more m P' R' gone'' y = record { ready = y.ready; search = λ G g at. y.search G g (x.search G g at) }
 
     pub going_end : Sound s h → marks ≡ 0 → Search.Finished s h all both places transitions gone P R
-    going_end sound z = record { sets = x.ready.sets; search = λ G g at. search-end s h sound all both marks P R gone' x.ready z G (x.search G g at) }
+    going_end sound z = record { sets = x.ready.sets; search = λ G g at. search_end s h sound all both marks P R gone' x.ready z G (x.search G g at) }
 
 pub left_less : (s : List ℕ) (h : Header) (all : Bool) (both : List ℕ) (marks m : ℕ) (P R gone P' R' gone' : List ℕ) → marks ≢ 0 → Search.Stepped s h all both m P R gone P' R' gone' → left m gone' < left marks gone
 left_less s h all both zero m P R gone P' R' gone' n y = absurd (n refl)
@@ -180,4 +180,4 @@ left_less s h all both (suc k) m P R gone P' R' gone' n y = ⊎_elim (λ l. fewe
 
 -- from the first step to the last
 pub closed : (s : List ℕ) (h : Header) → Sound s h → (all : Bool) (both places transitions P R : List ℕ) → Search.Finished s h all both places transitions (replicate 16 0) P R → Search.Closed s h all both places transitions P R
-closed s h sound all both places transitions P R y = record { sets = y.sets; search = λ G g at. y.search G g (search-none s h sound all both G places transitions at) }
+closed s h sound all both places transitions P R y = record { sets = y.sets; search = λ G g at. y.search G g (search_none s h sound all both G places transitions at) }

@@ -17,16 +17,16 @@ use Rattle.file_arcs.specs.Layout.{arc_at}
 use Rattle.file.specs.Layout.{cap_at, net_from}
 use Rattle.file.specs.Facts.{Sound}
 use Rattle.file_header.specs.declared.Header.{Header}
-use Rattle.file.proofs.Caps.{no_cap-by}
-use Rattle.file.proofs.Rows.{good-at}
+use Rattle.file.proofs.Caps.{no_cap_by}
+use Rattle.file.proofs.Rows.{good_at}
 use Rattle.arcs_starts.specs.Table.{slot_at, Split}
 use Rattle.arcs_starts.proofs.Reached.{ordered}
 use Rattle.sets_pending.specs.Growing.{PlacesKept}
 use Rattle.arcs_column.specs.Ways.{Joins, transition_at, direction_at, place_at}
 use Rattle.arcs_column.proofs.Arcs.{has_arc, arc-has}
-use Rattle.cut_rows.proofs.Inputs.{takes-inside}
+use Rattle.cut_rows.proofs.Inputs.{takes_inside}
 use Rattle.cut_search.specs.Search.{needs_of, needs_place}
-use Rattle.cut_search.proofs.Steps.{places-none, places-as, places-join}
+use Rattle.cut_search.proofs.Steps.{places_none, places_as, places_join}
 
 -- a place with a cap is a place of the file
 capped-inside : (s : List ℕ) (h : Header) (p : ℕ) → T (capped (net_from s h) p) → p < h.places
@@ -38,28 +38,28 @@ capped-inside s h p c = go (dec_lt p h.places)
     go (no l) = absurd (omega (arith, below-off h.places (cap_at s h) p (omega arith), ltb-true 0 ((net_from s h).cap p) (is_true _ c)))
 
 -- so is one that a transition needs
-pub needs-inside : (s : List ℕ) (h : Header) → Sound s h → (t p : ℕ) → T (needs_of (net_from s h) t p) → p < h.places
-needs-inside s h sound t p x =
+pub needs_inside : (s : List ℕ) (h : Header) → Sound s h → (t p : ℕ) → T (needs_of (net_from s h) t p) → p < h.places
+needs_inside s h sound t p x =
     let N = net_from s h in
-    by_or (takes_from N t p) (capped N p && adds_to N t p) x (takes-inside s h sound t p) (λ y. capped-inside s h p (and_left (capped N p) (adds_to N t p) y))
+    by_or (takes_from N t p) (capped N p && adds_to N t p) x (takes_inside s h sound t p) (λ y. capped-inside s h p (and_left (capped N p) (adds_to N t p) y))
 
 -- in a file of another edition than 2 a transition needs its inputs
-pub needs-inputs : (s : List ℕ) (h : Header) → eqb h.edition 2 ≡ false → (t p : ℕ) → takes_from (net_from s h) t p ≡ needs_of (net_from s h) t p
+pub needs_inputs : (s : List ℕ) (h : Header) → eqb h.edition 2 ≡ false → (t p : ℕ) → takes_from (net_from s h) t p ≡ needs_of (net_from s h) t p
 unfolding Uncapped
-needs-inputs s h e t p =
+needs_inputs s h e t p =
     let N = net_from s h in
-    sym (ap (λ (b : Bool). takes_from N t p || b && adds_to N t p) (no_cap N (no_cap-by s h e) p) ∙ or-false (takes_from N t p))
+    sym (ap (λ (b : Bool). takes_from N t p || b && adds_to N t p) (no_cap N (no_cap_by s h e) p) ∙ or-false (takes_from N t p))
 
 -- ---- the place of one arc
 
 -- is it needed?
 module _ (N : Net) (a : Arc) where
-  pub needed-input : a.direction ≡ 0 → needs_place N a ≡ true
-  needed-input e = ap (λ (b : Bool). b || capped N a.place) (eq-eqb a.direction 0 e)
+  pub needed_input : a.direction ≡ 0 → needs_place N a ≡ true
+  needed_input e = ap (λ (b : Bool). b || capped N a.place) (eq-eqb a.direction 0 e)
 
-  pub needed-capped : 0 < N.cap a.place → needs_place N a ≡ true
+  pub needed_capped : 0 < N.cap a.place → needs_place N a ≡ true
   unfolding capped
-  needed-capped l = ap (λ (b : Bool). eqb a.direction 0 || b) (lt-ltb 0 (N.cap a.place) l) ∙ or-true (eqb a.direction 0)
+  needed_capped l = ap (λ (b : Bool). eqb a.direction 0 || b) (lt-ltb 0 (N.cap a.place) l) ∙ or-true (eqb a.direction 0)
 
   pub not-needed : (a.direction ≡ 0 → ⊥) → N.cap a.place ≡ 0 → needs_place N a ≡ false
   unfolding capped
@@ -68,10 +68,10 @@ module _ (N : Net) (a : Arc) where
 -- it is kept by that test
 module _ (p : ℕ) (test : Bool) (m : ℕ) (P : List ℕ) where
   pub place_kept : test ≡ true → (m' : ℕ) (P' : List ℕ) → PlacesKept (λ k. eqb k p) m m' P P' → PlacesKept (λ k. eqb k p && test) m m' P P'
-  place_kept e m' P' x = places-as _ _ m m' P P' x (λ k. sym (ap (λ (b : Bool). eqb k p && b) e ∙ and-true (eqb k p)))
+  place_kept e m' P' x = places_as _ _ m m' P P' x (λ k. sym (ap (λ (b : Bool). eqb k p && b) e ∙ and-true (eqb k p)))
 
   pub place-left : test ≡ false → length P ≡ 16 → PlacesKept (λ k. eqb k p && test) m m P P
-  place-left e w = places-none _ m P w (λ k. ap (λ (b : Bool). eqb k p && b) e ∙ and-false (eqb k p))
+  place-left e w = places_none _ m P w (λ k. ap (λ (b : Bool). eqb k p && b) e ∙ and-false (eqb k p))
 
 -- ---- arc after arc
 
@@ -94,13 +94,13 @@ pub record Needed (s : List ℕ) (h : Header) (from t j marks marks' : ℕ) (pla
   pub has : (i : ℕ) → from ≤ i → i < j → T (needs_place (net_from s h) (arc_at s (h.arcstart + 8 * i))) → T (new (place_at s h.arcstart i))
 
 module _ (s : List ℕ) (h : Header) (sound : Sound s h) (from t : ℕ) (low : Split s h.arcstart h.arcs (2 * t) from) (marks : ℕ) (places : List ℕ) where
-  pub needed-none : length places ≡ 16 → Needed s h from t from marks marks places places
-  needed-none w = record {
+  pub needed_none : length places ≡ 16 → Needed s h from t from marks marks places places
+  needed_none w = record {
     after = omega arith;
     within = low.within;
     upto = λ i l. omega (arith, low.below i l);
     new = λ k. false;
-    kept = places-none (λ k. false) marks places w (λ k. refl);
+    kept = places_none (λ k. false) marks places w (λ k. refl);
     finds = λ k x. absurd x;
     has = λ i a b. absurd (omega arith);
   }
@@ -112,14 +112,14 @@ module _ (s : List ℕ) (h : Header) (sound : Sound s h) (from t : ℕ) (low : S
       slot = refl
 
       -- arc j is one of t
-      pub needed-more : transition_at s h.arcstart j ≡ t → (a : Arc) → a ≡ arc_at s (h.arcstart + 8 * j) → (m' : ℕ) (P' : List ℕ)
+      pub needed_more : transition_at s h.arcstart j ≡ t → (a : Arc) → a ≡ arc_at s (h.arcstart + 8 * j) → (m' : ℕ) (P' : List ℕ)
           → PlacesKept (λ k. eqb k a.place && needs_place (net_from s h) a) m m' P P' → Needed s h from t (j + 1) marks m' places P'
-      needed-more e a is m' P' y = record {
+      needed_more e a is m' P' y = record {
         after = let q = x.after in omega arith;
         within = omega arith;
         upto = λ i q. upto i q (dec_lt i j);
         new = λ k. x.new k || here k;
-        kept = places-join x.new here marks m m' places P P' x.kept y;
+        kept = places_join x.new here marks m m' places P P' x.kept y;
         finds = λ k u. by_or (x.new k) (here k) u
             (λ v. let f = x.finds k v in let q = f.before in record { at = f.at; after = f.after; before = omega arith; place = f.place; needs = f.needs })
             (λ v. record {
@@ -137,7 +137,7 @@ module _ (s : List ℕ) (h : Header) (sound : Sound s h) (from t : ℕ) (low : S
 
           upto : (i : ℕ) → i < j + 1 → Dec (i < j) → slot_at s h.arcstart i < 2 * t + 2
           upto i q (yes b) = x.upto i b
-          upto i q (no b) = let f : i ≡ j = omega arith in omega (arith, ap (slot_at s h.arcstart) f, slot, e, (good-at s h sound j l).direction)
+          upto i q (no b) = let f : i ≡ j = omega arith in omega (arith, ap (slot_at s h.arcstart) f, slot, e, (good_at s h sound j l).direction)
 
           has : (i : ℕ) → from ≤ i → i < j + 1 → T (needs_place (net_from s h) (arc_at s (h.arcstart + 8 * i))) → Dec (i < j) → T (x.new (place_at s h.arcstart i) || here (place_at s h.arcstart i))
           has i b c u (yes q) = or_left (x.new (place_at s h.arcstart i)) (here (place_at s h.arcstart i)) (x.has i b q u)
@@ -154,7 +154,7 @@ module _ (s : List ℕ) (h : Header) (sound : Sound s h) (from t : ℕ) (low : S
       unfolding slot_at
       adds f d e =
           let inside : f.at < h.arcs = omega (arith, f.before, x.within) in
-          let good = good-at s h sound f.at inside in
+          let good = good_at s h sound f.at inside in
           let same : transition_at s h.arcstart f.at ≡ t = omega (arith, low.above f.at f.after inside, high.below f.at f.before, good.direction) in
           let weight = arc-has d k t s h.arcstart h.arcs f.at inside (record { transition = same; direction = e; place = f.place }) in
           holds _ (lt-ltb 0 (weight_on d k t (net_from s h).arcs) (omega (arith, weight, good.weight)))
@@ -170,7 +170,7 @@ module _ (s : List ℕ) (h : Header) (sound : Sound s h) (from t : ℕ) (low : S
 
           before : Dec (i < j) → i < j
           before (yes q) = q
-          before (no q) = absurd (omega (arith, high.above i (omega arith) l, (good-at s h sound i l).direction))
+          before (no q) = absurd (omega (arith, high.above i (omega arith) l, (good_at s h sound i l).direction))
 
       -- a weight of t at k has an arc
       found : (d : ℕ) → T (ltb 0 (weight_on d k t (net_from s h).arcs)) → T (eqb d 0 || capped (net_from s h) k) → T (x.new k)
@@ -182,9 +182,9 @@ module _ (s : List ℕ) (h : Header) (sound : Sound s h) (from t : ℕ) (low : S
           (subst (λ (c : ℕ). T (eqb c 0 || capped (net_from s h) k)) (sym arc.joins-it.direction) needs) in
           subst (λ (p : ℕ). T (x.new p)) arc.joins-it.place (x.has arc.at inside.0 inside.1 here)
 
-      needed-are : x.new k ≡ needs_of (net_from s h) t k
+      needed_are : x.new k ≡ needs_of (net_from s h) t k
       unfolding takes_from adds_to input output
-      needed-are = same_test (x.new k) (needs_of (net_from s h) t k) to of
+      needed_are = same_test (x.new k) (needs_of (net_from s h) t k) to of
         where
           takes : Bool
           takes = takes_from (net_from s h) t k
@@ -199,7 +199,7 @@ module _ (s : List ℕ) (h : Header) (sound : Sound s h) (from t : ℕ) (low : S
           to u =
               let f = x.finds k u in
               let d = direction_at s h.arcstart f.at in
-              let one = (good-at s h sound f.at (omega (arith, f.before, x.within))).direction in
+              let one = (good_at s h sound f.at (omega (arith, f.before, x.within))).direction in
               by_cases (eqb d 0)
               (λ e. or_left takes (cap && puts) (adds f 0 (eqb-true d 0 e)))
               (λ e. or_right takes (cap && puts) (and_both cap puts (subst (λ (p : ℕ). T (capped (net_from s h) p)) f.place (rw e at f.needs)) (adds f 1 (omega (arith, eqb-false d 0 e)))))
@@ -211,20 +211,20 @@ module _ (s : List ℕ) (h : Header) (sound : Sound s h) (from t : ℕ) (low : S
               (λ v. found 1 (and_right cap puts v) (and_left cap puts v))
 
     -- arc j is none of t
-    pub needed-stop : j < h.arcs → (transition_at s h.arcstart j ≡ t → ⊥) → PlacesKept (needs_of (net_from s h) t) marks m places P
+    pub needed_stop : j < h.arcs → (transition_at s h.arcstart j ≡ t → ⊥) → PlacesKept (needs_of (net_from s h) t) marks m places P
     unfolding slot_at
-    needed-stop l n = places-as x.new (needs_of (net_from s h) t) marks m places P x.kept (needed-are (record { within = x.within; below = x.upto; above = above }))
+    needed_stop l n = places_as x.new (needs_of (net_from s h) t) marks m places P x.kept (needed_are (record { within = x.within; below = x.upto; above = above }))
       where
         here : 2 * t + 2 ≤ slot_at s h.arcstart j
         here = go (dec_lt (slot_at s h.arcstart j) (2 * t + 2))
           where
             go : Dec (slot_at s h.arcstart j < 2 * t + 2) → 2 * t + 2 ≤ slot_at s h.arcstart j
-            go (yes q) = absurd (n (omega (arith, low.above j x.after l, (good-at s h sound j l).direction)))
+            go (yes q) = absurd (n (omega (arith, low.above j x.after l, (good_at s h sound j l).direction)))
             go (no q) = omega arith
 
         above : (i : ℕ) → j ≤ i → i < h.arcs → 2 * t + 2 ≤ slot_at s h.arcstart i
         above i a b = omega (arith, here, (ordered s h sound).order j i a b)
 
     -- there are no more arcs
-    pub needed-all : h.arcs ≤ j → PlacesKept (needs_of (net_from s h) t) marks m places P
-    needed-all l = places-as x.new (needs_of (net_from s h) t) marks m places P x.kept (needed-are (record { within = x.within; below = x.upto; above = λ i a b. absurd (omega arith) }))
+    pub needed_all : h.arcs ≤ j → PlacesKept (needs_of (net_from s h) t) marks m places P
+    needed_all l = places_as x.new (needs_of (net_from s h) t) marks m places P x.kept (needed_are (record { within = x.within; below = x.upto; above = λ i a b. absurd (omega arith) }))

@@ -16,26 +16,26 @@ use Rattle.file.specs.Facts.{Sound}
 use Rattle.file_header.specs.declared.Header.{Header}
 use Rattle.sets.specs.Member.{member}
 use Rattle.arcs_starts.specs.Table.{Split}
-use Rattle.file.proofs.Rows.{good-at}
+use Rattle.file.proofs.Rows.{good_at}
 use Rattle.sets_pending.specs.Growing.{waits}
 use Rattle.arcs_column.specs.Ways.{transition_at, direction_at, place_at}
 use Rattle.cut_rows.specs.Rows.{moves, Last, Rows}
 use Rattle.cut_rows.proofs.Row
-use Rattle.cut_rows.proofs.Row.{first_below, first-same, first-split, row-ended}
+use Rattle.cut_rows.proofs.Row.{first_below, first-same, first-split, row_ended}
 use Rattle.cut_search.specs.Search
-use Rattle.cut_search.proofs.Needed.{needs-inside}
+use Rattle.cut_search.proofs.Needed.{needs_inside}
 
 -- ---- the search, while the rows of the place f are followed in any order
 
 module _ (G : Growth) (K D R : ℕ → Bool) (f : ℕ) (s : Searching G K D R f 0) where
   -- a transition that f draws in is kept, and if it is new the places that it needs are
-  pub search-draw : (t : ℕ) → t < G.transitions → T (K f) → T (G.draws f t) → ((p : ℕ) → T (G.needs t p) → p < G.places) → (K' D' R' new : ℕ → Bool)
+  pub search_draw : (t : ℕ) → t < G.transitions → T (K f) → T (G.draws f t) → ((p : ℕ) → T (G.needs t p) → p < G.places) → (K' D' R' new : ℕ → Bool)
       → ((p : ℕ) → new p ≡ not (R t) && G.needs t p)
       → ((k : ℕ) → R' k ≡ R k || eqb k t)
       → ((p : ℕ) → K' p ≡ K p || new p)
       → ((p : ℕ) → D' p ≡ D p || new p && not (K p))
       → Searching G K' D' R' f 0
-  search-draw t l kept draws range K' D' R' new New-is R-is K-is D-is =
+  search_draw t l kept draws range K' D' R' new New-is R-is K-is D-is =
       let t-kept : KeptTransition G t = drawn (s.K-kept f kept) l draws in
       let takes : (p : ℕ) → T (new p) → T (G.needs t p) = λ p h. and_right (not (R t)) (G.needs t p) (rw New-is at h) in
       record {
@@ -44,8 +44,8 @@ module _ (G : Growth) (K D R : ℕ → Bool) (f : ℕ) (s : Searching G K D R f 
         pending_kept = λ p h. rw K-is (by_or (D p) (new p && not (K p)) (rw D-is at h)
             (λ k. or_left (K p) (new p) (s.pending_kept p k))
             (λ k. or_right (K p) (new p) (and_left (new p) (not (K p)) k)));
-        criterion-in = λ p h. rw K-is (or_left (K p) (new p) (s.criterion-in p h));
-        needed-in = λ u p h a k. rw K-is (by_or (R u) (eqb u t) (rw R-is at h)
+        criterion_in = λ p h. rw K-is (or_left (K p) (new p) (s.criterion-in p h));
+        needed_in = λ u p h a k. rw K-is (by_or (R u) (eqb u t) (rw R-is at h)
             (λ r. or_left (K p) (new p) (s.needed-in u p r a k))
             (λ e. inputs p a (subst (λ (v : ℕ). T (G.needs v p)) (eqb→eq u t e) k) (R t) refl));
         drawn-in = λ p u h o a b d.
@@ -58,13 +58,13 @@ module _ (G : Growth) (K D R : ℕ → Bool) (f : ℕ) (s : Searching G K D R f 
       inputs p a k false e = or_right (K p) (new p) (rw (New-is p, e) k)
 
   -- all that f draws in is kept: f is gone through
-  pub search-turned : ((t : ℕ) → t < G.transitions → T (G.draws f t) → T (R t)) → Searching G K D R f G.transitions
-  search-turned all = record {
+  pub search_turned : ((t : ℕ) → t < G.transitions → T (G.draws f t) → T (R t)) → Searching G K D R f G.transitions
+  search_turned all = record {
     K-kept = s.K-kept;
     R-kept = s.R-kept;
     pending_kept = s.pending_kept;
-    criterion-in = s.criterion-in;
-    needed-in = s.needed-in;
+    criterion_in = s.criterion-in;
+    needed_in = s.needed-in;
     drawn-in = λ p t h o a l d. by_cases (eqb p f)
         (λ e. all t l (subst (λ (q : ℕ). T (G.draws q t)) (eqb-true p f e) d))
         (λ e. s.drawn-in p t h o (λ y. absurd (eqb-false p f e y)) l d);
@@ -75,8 +75,8 @@ module _ (G : Growth) (K D R : ℕ → Bool) (f : ℕ) (s : Searching G K D R f 
 pub grown-none : (h : Header) (marks : ℕ) (places transitions : List ℕ) → Search.Sets places transitions → Search.Grown h marks marks places transitions places transitions
 grown-none h marks places transitions w = record {
   sets = w;
-  more-places = λ k m. m;
-  more-transitions = λ k m. m;
+  more_places = λ k m. m;
+  more_transitions = λ k m. m;
   inside = λ i. i;
   marked = λ gone m. m;
 }
@@ -84,8 +84,8 @@ grown-none h marks places transitions w = record {
 pub grown-join : (h : Header) (m m' m'' : ℕ) (P R P' R' P'' R'' : List ℕ) → Search.Grown h m m' P R P' R' → Search.Grown h m' m'' P' R' P'' R'' → Search.Grown h m m'' P R P'' R''
 grown-join h m m' m'' P R P' R' P'' R'' x y = record {
   sets = y.sets;
-  more-places = λ k u. y.more-places k (x.more-places k u);
-  more-transitions = λ k u. y.more-transitions k (x.more-transitions k u);
+  more_places = λ k u. y.more_places k (x.more_places k u);
+  more_transitions = λ k u. y.more_transitions k (x.more_transitions k u);
   inside = λ i. y.inside (x.inside i);
   marked = λ gone u. y.marked gone (x.marked gone u);
 }
@@ -127,14 +127,14 @@ module _ (s : List ℕ) (h : Header) (sound : Sound s h) (next : List ℕ) (next
     (x : Following s h d p e marks m places transitions P R) where
   -- where the row goes on
   module _ (more : e ≡ 0 → ⊥) where
-    pub row-arc : e % 65536 ≡ suc (e % 65536 - 1)
-    row-arc = Row.row-arc s h d p e x.upto x.within x.last more
+    pub row_arc : e % 65536 ≡ suc (e % 65536 - 1)
+    row_arc = Row.row-arc s h d p e x.upto x.within x.last more
 
     pub row_below : e % 65536 - 1 < h.arcs
     row_below = Row.row_below s h d p e x.upto x.within x.last more
 
-    pub row-begun : 0 < e / 65536
-    row-begun = Row.row-begun s h d p e x.upto x.within x.last more
+    pub row_begun : 0 < e / 65536
+    row_begun = Row.row-begun s h d p e x.upto x.within x.last more
 
     row_first : Split s h.arcstart h.arcs (2 * transition_at s h.arcstart (e % 65536 - 1)) (e / 65536 - 1)
     row_first = Row.row_first s h d p e x.upto x.within x.last more
@@ -142,18 +142,18 @@ module _ (s : List ℕ) (h : Header) (sound : Sound s h) (next : List ℕ) (next
     pub row_from : e / 65536 - 1 < h.arcs
     row_from = first_below s h sound (e % 65536 - 1) (e / 65536 - 1) row_below row_first
 
-    pub row-split : Split s h.arcstart h.arcs (2 * transition_at s h.arcstart (e / 65536 - 1)) (e / 65536 - 1)
-    row-split = first-split s h sound (e % 65536 - 1) (e / 65536 - 1) row_below row_first
+    pub row_split : Split s h.arcstart h.arcs (2 * transition_at s h.arcstart (e / 65536 - 1)) (e / 65536 - 1)
+    row_split = first-split s h sound (e % 65536 - 1) (e / 65536 - 1) row_below row_first
 
     -- what the row moves
-    row-moves : T (moves (net_from s h) d p (transition_at s h.arcstart (e % 65536 - 1)))
-    row-moves = Row.row-moves s h d p e x.upto x.within x.last more
+    row_moves : T (moves (net_from s h) d p (transition_at s h.arcstart (e % 65536 - 1)))
+    row_moves = Row.row-moves s h d p e x.upto x.within x.last more
 
     row_next : Last s h (e % 65536 - 1) d p (get_or next (e % 65536 - 1) 0)
     row_next = Row.row_next s h d p e x.upto x.within x.last more next nexts.nexts
 
-    pub row-less : get_or next (e % 65536 - 1) 0 % 65536 < e % 65536
-    row-less = Row.row-less s h d p e x.upto x.within x.last more next nexts.nexts
+    pub row_less : get_or next (e % 65536 - 1) 0 % 65536 < e % 65536
+    row_less = Row.row-less s h d p e x.upto x.within x.last more next nexts.nexts
 
     module _ (m' : ℕ) (P' R' : List ℕ)
         (y : Search.TransitionKept (Search.needs_of (net_from s h) (transition_at s h.arcstart (e / 65536 - 1))) (transition_at s h.arcstart (e / 65536 - 1)) m m' P R P' R') where
@@ -169,10 +169,10 @@ module _ (s : List ℕ) (h : Header) (sound : Sound s h) (next : List ℕ) (next
       step : Search.Grown h m m' P R P' R'
       unfolding new
       step = record {
-        sets = record { places-long = y.needed.long; transitions-long = y.long };
-        more-places = λ k u. subst T (sym (y.needed.kept k)) (or_left (member P k) (new k) u);
-        more-transitions = λ k u. subst T (sym (y.members k)) (or_left (member R k) (eqb k t) u);
-        inside = λ i k u. by_or (member P k) (new k) (subst T (y.needed.kept k) u) (i k) (λ n. needs-inside s h sound t k (and_right (not (member R t)) (Search.needs_of (net_from s h) t k) n));
+        sets = record { places_long = y.needed.long; transitions_long = y.long };
+        more_places = λ k u. subst T (sym (y.needed.kept k)) (or_left (member P k) (new k) u);
+        more_transitions = λ k u. subst T (sym (y.members k)) (or_left (member R k) (eqb k t) u);
+        inside = λ i k u. by_or (member P k) (new k) (subst T (y.needed.kept k) u) (i k) (λ n. needs_inside s h sound t k (and_right (not (member R t)) (Search.needs_of (net_from s h) t k) n));
         marked = y.needed.marked;
       }
 
@@ -180,8 +180,8 @@ module _ (s : List ℕ) (h : Header) (sound : Sound s h) (next : List ℕ) (next
           → Search.At G P gone R p 0 → Search.At G P' gone R' p 0
       unfolding new
       drawn-in G all both g draws gone part kept at =
-          search-draw G (member P) (waits P gone) (member R) p at t (omega (arith, g.transitions, (good-at s h sound (e / 65536 - 1) row_from).transition)) kept draws
-          (λ q u. omega (arith, g.places, needs-inside s h sound t q (subst T (g.needs t q) u)))
+          search_draw G (member P) (waits P gone) (member R) p at t (omega (arith, g.transitions, (good_at s h sound (e / 65536 - 1) row_from).transition)) kept draws
+          (λ q u. omega (arith, g.places, needs_inside s h sound t q (subst T (g.needs t q) u)))
           (member P') (waits P' gone) (member R') new (λ q. ap (λ (b : Bool). not (member R t) && b) (sym (g.needs t q))) y.members y.needed.kept
           (λ q. ap (λ (b : Bool). b && not (gone q)) (y.needed.kept q) ∙ waits-more (member P q) (new q) (gone q) (part q))
 
@@ -193,7 +193,7 @@ module _ (s : List ℕ) (h : Header) (sound : Sound s h) (next : List ℕ) (next
         seen = λ k a b u v w. see k a b u v w (dec_lt k x.upto);
         grown = grown-join h marks m m' places transitions P R P' R' x.grown step;
         search = λ G all both g draws gone part kept at.
-            drawn-in G all both g (draws t (subst (λ (u : ℕ). T (moves (net_from s h) d p u)) (sym t_same) row-moves)) gone (λ k u. x.grown.more-places k (part k u)) (x.grown.more-places p kept)
+            drawn-in G all both g (draws t (subst (λ (u : ℕ). T (moves (net_from s h) d p u)) (sym t_same) row_moves)) gone (λ k u. x.grown.more_places k (part k u)) (x.grown.more_places p kept)
             (x.search G all both g draws gone part kept at);
       }
         where
@@ -202,21 +202,21 @@ module _ (s : List ℕ) (h : Header) (sound : Sound s h) (next : List ℕ) (next
           see k a b u v w (yes q) =
               let f = Row.row-rest s h d p e x.upto x.within x.last more k a q u v w in
               subst T (sym (y.members (transition_at s h.arcstart k))) (or_right (member R (transition_at s h.arcstart k)) _ (holds _ (eq-eqb _ t (f ∙ sym t_same))))
-          see k a b u v w (no q) = step.more-transitions (transition_at s h.arcstart k) (x.seen k (omega arith) b u v w)
+          see k a b u v w (no q) = step.more_transitions (transition_at s h.arcstart k) (x.seen k (omega arith) b u v w)
 
   -- where it ends
   pub following_end : d ≤ 1 → e ≡ 0 → Search.Followed s h d p marks m places transitions P R
   following_end dl ends = record {
     grown = x.grown;
-    met = row-ended s h d p e x.upto dl x.last ends (λ t. T (member R t)) x.seen;
+    met = row_ended s h d p e x.upto dl x.last ends (λ t. T (member R t)) x.seen;
     search = x.search;
   }
 
 -- ---- the two rows of a place
 
 module _ (s : List ℕ) (h : Header) (head next : List ℕ) (rows : Rows s h head next) where
-  pub nexts-of : Search.Nexts s h next
-  nexts-of = record { long = rows.next-long; nexts = rows.nexts }
+  pub nexts_of : Search.Nexts s h next
+  nexts_of = record { long = rows.next_long; nexts = rows.nexts }
 
   -- each entry of head starts a row
   pub row_at : (i : ℕ) → i < 2 * h.places → Search.Row s h (get_or head i 0)
@@ -276,10 +276,10 @@ module _ (s : List ℕ) (h : Header) (all : Bool) (both : List ℕ) (p : ℕ) wh
   turned marks m m' places transitions P R P' R' x y = record {
     grown = grown-join h marks m m' places transitions P R P' R' x.grown y.grown;
     search = λ G g gone part kept at.
-        search-turned G (member P') (waits P' gone) (member R') p
-        (y.search G all both g (λ t u. subst T (sym (g.draws p t)) (or_right (lower t) (raise t) u)) gone (λ k u. x.grown.more-places k (part k u)) (x.grown.more-places p kept)
+        search_turned G (member P') (waits P' gone) (member R') p
+        (y.search G all both g (λ t u. subst T (sym (g.draws p t)) (or_right (lower t) (raise t) u)) gone (λ k u. x.grown.more_places k (part k u)) (x.grown.more_places p kept)
         (x.search G all both g (λ c t u. subst T (sym (g.draws p t)) (or_left (lower t) (raise t) (and_both (Search.draws_both (net_from s h) all both p) (moves (net_from s h) 0 p t) c u))) gone part kept at))
         (λ t l d. by_or (lower t) (raise t) (subst T (g.draws p t) d)
-        (λ u. y.grown.more-transitions t (x.met (and_left (Search.draws_both (net_from s h) all both p) (moves (net_from s h) 0 p t) u) t (and_right (Search.draws_both (net_from s h) all both p) (moves (net_from s h) 0 p t) u)))
+        (λ u. y.grown.more_transitions t (x.met (and_left (Search.draws_both (net_from s h) all both p) (moves (net_from s h) 0 p t) u) t (and_right (Search.draws_both (net_from s h) all both p) (moves (net_from s h) 0 p t) u)))
         (λ u. y.met t u));
   }

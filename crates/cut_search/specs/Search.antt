@@ -17,8 +17,8 @@ use Rattle.cut_rows.specs.Rows.{moves, Last}
 
 -- the two sets have sixteen words each
 pub record Sets (places transitions : List ℕ) : Type 0 where
-  pub places-long : length places ≡ 16
-  pub transitions-long : length transitions ≡ 16
+  pub places_long : length places ≡ 16
+  pub transitions_long : length transitions ≡ 16
 
 -- t needs p: "keep the input places of kept transitions", and "capped places with out above 0 from a kept transition"
 abbrev pub needs_of : Net → ℕ → ℕ → Bool
@@ -61,8 +61,8 @@ pub record Row (s : List ℕ) (h : Header) (e : ℕ) : Type 0 where
 -- what is kept stays kept, places are of the net, and the words of pending places are marked, whatever places were gone through
 pub record Grown (h : Header) (marks marks' : ℕ) (places transitions places' transitions' : List ℕ) : Type 0 where
   pub sets : Sets places' transitions'
-  pub more-places : (k : ℕ) → T (member places k) → T (member places' k)
-  pub more-transitions : (k : ℕ) → T (member transitions k) → T (member transitions' k)
+  pub more_places : (k : ℕ) → T (member places k) → T (member places' k)
+  pub more_transitions : (k : ℕ) → T (member transitions k) → T (member transitions' k)
   pub inside : ((k : ℕ) → T (member places k) → k < h.places) → (k : ℕ) → T (member places' k) → k < h.places
   pub marked : (gone : ℕ → Bool) → Marked places gone marks → Marked places' gone marks'
 

@@ -19,28 +19,28 @@ use Rattle.file_header.specs.declared.Header.{Header}
 use Rattle.file.proofs.Opening.{sound}
 use Rattle.file_words.proofs.Bytes.{le32-lt}
 
-none-by : (b : Bool) (n : ℕ) → b ≡ false → pick b n 0 ≡ 0
-none-by b n e = rw e
+none_by : (b : Bool) (n : ℕ) → b ≡ false → pick b n 0 ≡ 0
+none_by b n e = rw e
 
 -- edition 2
-pub cap-at : (s : List ℕ) (h : Header) → eqb h.edition 2 ≡ true → (p : ℕ) → p < h.places → (net_from s h).cap p ≡ le32 s (h.markstart + 8 * p + 4)
-cap-at s h e p l = below_at h.places (cap_at s h) p l ∙ two (eqb h.edition 2) e
+pub cap_at_lem : (s : List ℕ) (h : Header) → eqb h.edition 2 ≡ true → (p : ℕ) → p < h.places → (net_from s h).cap p ≡ le32 s (h.markstart + 8 * p + 4)
+cap_at_lem s h e p l = below_at h.places (cap_at s h) p l ∙ two (eqb h.edition 2) e
   where
     two : {n : ℕ} (b : Bool) → b ≡ true → pick b n 0 ≡ n
     two b k = rw k
 
 -- an edition other than 2
-pub no_cap-by : (s : List ℕ) (h : Header) → eqb h.edition 2 ≡ false → (p : ℕ) → (net_from s h).cap p ≡ 0
-no_cap-by s h e p = by_cases (ltb p h.places)
-    (λ k. below_at h.places (cap_at s h) p (ltb-true p h.places k) ∙ none-by (eqb h.edition 2) _ e)
+pub no_cap_by : (s : List ℕ) (h : Header) → eqb h.edition 2 ≡ false → (p : ℕ) → (net_from s h).cap p ≡ 0
+no_cap_by s h e p = by_cases (ltb p h.places)
+    (λ k. below_at h.places (cap_at s h) p (ltb-true p h.places k) ∙ none_by (eqb h.edition 2) _ e)
     (λ k. below-off h.places (cap_at s h) p (ltb-false p h.places k))
 
 -- a file without caps, whatever its edition
-pub none-capped : (s : List ℕ) (h : Header) → has_caps (net_from s h) ≡ false → Uncapped (net_from s h)
-none-capped s h e = net.none-capped (net_from s h) (below-off h.places (cap_at s h)) e
+pub none_capped : (s : List ℕ) (h : Header) → has_caps (net_from s h) ≡ false → Uncapped (net_from s h)
+none_capped s h e = net.none-capped (net_from s h) (below-off h.places (cap_at s h)) e
 
-pub marking-within : (due : Due) (s : List ℕ) → file_refusal due s ≡ 0 → WithinCaps (net_of s) (net_of s).marking
-marking-within due s e = (sound due s e).caps
+pub marking_within : (due : Due) (s : List ℕ) → file_refusal due s ≡ 0 → WithinCaps (net_of s) (net_of s).marking
+marking_within due s e = (sound due s e).caps
 
 -- markings and caps of a byte string have 4 bytes
 module _ (s : List ℕ) (bytes : Bytes s) (h : Header) where
@@ -53,8 +53,8 @@ module _ (s : List ℕ) (bytes : Bytes s) (h : Header) where
       (λ k. omega (arith, below_at h.places M p (ltb-true p h.places k), small p))
       (λ k. omega (arith, below-off h.places M p (ltb-false p h.places k)))
 
-  pub marking-lt : (p : ℕ) → (net_from s h).marking p < 4294967296
-  marking-lt = below-lt (marking_at s h) (λ p. le32-lt s bytes (h.markstart + places_length h.edition p))
+  pub marking_lt : (p : ℕ) → (net_from s h).marking p < 4294967296
+  marking_lt = below-lt (marking_at s h) (λ p. le32-lt s bytes (h.markstart + places_length h.edition p))
 
-  pub cap-lt : (p : ℕ) → (net_from s h).cap p < 4294967296
-  cap-lt = below-lt (cap_at s h) (λ p. pick-lt (eqb h.edition 2) _ (le32-lt s bytes (h.markstart + 8 * p + 4)))
+  pub cap_lt : (p : ℕ) → (net_from s h).cap p < 4294967296
+  cap_lt = below-lt (cap_at s h) (λ p. pick-lt (eqb h.edition 2) _ (le32-lt s bytes (h.markstart + 8 * p + 4)))

@@ -9,39 +9,39 @@ use Rattle.file_arcs.specs.Layout.{arc_at, arcs_from}
 use Rattle.file_arcs.specs.Refusal.{key, arc_wrong, arcs_refusal}
 
 -- one turn of a loop over arcs
-pub arcs-step : (s : List ℕ) (P T at least n : ℕ) → 0 < n
+pub arcs_step : (s : List ℕ) (P T at least n : ℕ) → 0 < n
     → arcs_refusal s P T at least n
     ≡ refuse (arc_wrong P T (arc_at s at) (byte_at s (at + 3))) 6
     (refuse (ltb (key (arc_at s at)) least) 7
     (arcs_refusal s P T (at + 8) (key (arc_at s at)) (n - 1)))
 unfolding arcs_refusal
-arcs-step s P T at least zero h = absurd (lt_irrefl 0 h)
-arcs-step s P T at least (suc n) h = rw sub-one
+arcs_step s P T at least zero h = absurd (lt_irrefl 0 h)
+arcs_step s P T at least (suc n) h = rw sub-one
 
 module _ (s : List ℕ) (P T at least n : ℕ) where
-  pub arcs-6 : 0 < n → arc_wrong P T (arc_at s at) (byte_at s (at + 3)) ≡ true → arcs_refusal s P T at least n ≡ 6
-  arcs-6 h a = arcs-step s P T at least n h ∙ rw a
+  pub arcs_6 : 0 < n → arc_wrong P T (arc_at s at) (byte_at s (at + 3)) ≡ true → arcs_refusal s P T at least n ≡ 6
+  arcs_6 h a = arcs_step s P T at least n h ∙ rw a
 
-  pub arcs-7 : 0 < n → arc_wrong P T (arc_at s at) (byte_at s (at + 3)) ≡ false → key (arc_at s at) < least → arcs_refusal s P T at least n ≡ 7
-  arcs-7 h a k = arcs-step s P T at least n h ∙ rw (a, lt-ltb _ _ k)
+  pub arcs_7 : 0 < n → arc_wrong P T (arc_at s at) (byte_at s (at + 3)) ≡ false → key (arc_at s at) < least → arcs_refusal s P T at least n ≡ 7
+  arcs_7 h a k = arcs_step s P T at least n h ∙ rw (a, lt-ltb _ _ k)
 
-  pub arcs-on : 0 < n → arc_wrong P T (arc_at s at) (byte_at s (at + 3)) ≡ false → least ≤ key (arc_at s at)
+  pub arcs_on : 0 < n → arc_wrong P T (arc_at s at) (byte_at s (at + 3)) ≡ false → least ≤ key (arc_at s at)
       → arcs_refusal s P T at least n ≡ arcs_refusal s P T (at + 8) (key (arc_at s at)) (n - 1)
-  arcs-on h a k = arcs-step s P T at least n h ∙ rw (a, le-ltb _ _ k)
+  arcs_on h a k = arcs_step s P T at least n h ∙ rw (a, le-ltb _ _ k)
 
-pub arcs-end : (s : List ℕ) (P T at least n : ℕ) → n ≤ 0 → arcs_refusal s P T at least n ≡ 0
+pub arcs_end : (s : List ℕ) (P T at least n : ℕ) → n ≤ 0 → arcs_refusal s P T at least n ≡ 0
 unfolding arcs_refusal
-arcs-end s P T at least n h = rw (le-zero h)
+arcs_end s P T at least n h = rw (le-zero h)
 
 -- a run of arcs by its first arc
-pub arcs-cons : (s : List ℕ) (at n : ℕ) → 0 < n → arcs_from s at n ≡ arc_at s at ∷ arcs_from s (at + 8) (n - 1)
+pub arcs_cons : (s : List ℕ) (at n : ℕ) → 0 < n → arcs_from s at n ≡ arc_at s at ∷ arcs_from s (at + 8) (n - 1)
 unfolding arcs_from
-arcs-cons s at zero h = absurd (lt_irrefl 0 h)
-arcs-cons s at (suc n) h = rw sub-one
+arcs_cons s at zero h = absurd (lt_irrefl 0 h)
+arcs_cons s at (suc n) h = rw sub-one
 
-pub arcs-none : (s : List ℕ) (at n : ℕ) → n ≤ 0 → arcs_from s at n ≡ []
+pub arcs_none : (s : List ℕ) (at n : ℕ) → n ≤ 0 → arcs_from s at n ≡ []
 unfolding arcs_from
-arcs-none s at n h = rw (le-zero h)
+arcs_none s at n h = rw (le-zero h)
 
 -- the order of keys is that of (transition, direction, place)
 pub data Before (a b : Arc) : Type 0 where

@@ -9,7 +9,7 @@ use Rattle.file_words.specs.Word.{byte_at}
 use Rattle.file_arcs.specs.Layout.{arc_at}
 use Rattle.file_arcs.specs.Facts.{ArcWord, arc_of, arc_unfit}
 use Rattle.file_arcs.specs.Refusal.{arcs_refusal, arc_wrong, key}
-use Rattle.file_arcs.proofs.Laws.{arcs-on, arcs-end}
+use Rattle.file_arcs.proofs.Laws.{arcs_on, arcs_end}
 use Rattle.file_arcs.proofs.Words.{unfit-wrong}
 use Rattle.file_arcs.specs.Sweep.{room_of, marks_of, both_fit, FitIn, Narrow, sweep_key}
 
@@ -47,14 +47,14 @@ clear_at f m k one e =
     omega (arith, here, and_mask (f / 2 ^ k % 2) 1)
 
 -- a field without its highest bit
-low-transition : (s : ℕ) → s / 2 ^ 15 % 2 ≡ 0 → s % 65536 < 32768
-low-transition s e = omega (arith, e)
+low_transition : (s : ℕ) → s / 2 ^ 15 % 2 ≡ 0 → s % 65536 < 32768
+low_transition s e = omega (arith, e)
 
-low-middle : (s : ℕ) → s / 2 ^ 31 % 2 ≡ 0 → s / 65536 % 65536 < 32768
-low-middle s e = omega (arith, e)
+low_middle : (s : ℕ) → s / 2 ^ 31 % 2 ≡ 0 → s / 65536 % 65536 < 32768
+low_middle s e = omega (arith, e)
 
-low-place : (s : ℕ) → s / 2 ^ 47 % 2 ≡ 0 → s / 4294967296 % 65536 < 32768
-low-place s e = omega (arith, e)
+low_place : (s : ℕ) → s / 2 ^ 47 % 2 ≡ 0 → s / 4294967296 % 65536 < 32768
+low_place s e = omega (arith, e)
 
 below-limit : (u x n : ℕ) → u ≡ x + (32768 - n) → u < 32768 → x < n
 below-limit u x n e h = omega (arith, e, h)
@@ -83,24 +83,24 @@ module _ (P T w : ℕ) (hP : P ≤ 1024) (hT : T ≤ 1024) (hw : w < 2 ^ 64) whe
   sum_of : (w + room_of P T) % 2 ^ 64 ≡ (w % 65536 + 65536 * (w / 65536 % 65536) + 4294967296 * (w / 4294967296 % 65536) + 281474976710656 * (w / 281474976710656) + room_of P T) % 2 ^ 64
   sum_of = ap (λ (x : ℕ). (x + room_of P T) % 2 ^ 64) (omega arith)
 
-  fit-in : marks_of (room_of P T) w / 2 ^ 15 % 2 ≡ 0 → marks_of (room_of P T) w / 2 ^ 31 % 2 ≡ 0 → marks_of (room_of P T) w / 2 ^ 47 % 2 ≡ 0
+  fit_in : marks_of (room_of P T) w / 2 ^ 15 % 2 ≡ 0 → marks_of (room_of P T) w / 2 ^ 31 % 2 ≡ 0 → marks_of (room_of P T) w / 2 ^ 47 % 2 ≡ 0
       → 9223372036854775808 ≤ marks_of (room_of P T) w → FitIn P T w
-  fit-in a b c d =
+  fit_in a b c d =
       let s = (w + room_of P T) % 2 ^ 64 in
       let a2 = or_clear s w 15 a in
       let b2 = or_clear s w 31 b in
       let c2 = or_clear s w 47 c in
-      let ht = low-transition w a2.1 in
-      let hm = low-middle w b2.1 in
-      let hp = low-place w c2.1 in
+      let ht = low_transition w a2.1 in
+      let hm = low_middle w b2.1 in
+      let hp = low_place w c2.1 in
       let hg : w / 281474976710656 < 65536 = omega (arith, hw) in
       let st = sum-transition (w % 65536) (w / 65536 % 65536) (w / 4294967296 % 65536) (w / 281474976710656) T P hP hT s sum_of ht hm hp hg in
       let sm = sum-middle (w % 65536) (w / 65536 % 65536) (w / 4294967296 % 65536) (w / 281474976710656) T P hP hT s sum_of ht hm hp hg in
       let sp = sum-place (w % 65536) (w / 65536 % 65536) (w / 4294967296 % 65536) (w / 281474976710656) T P hP hT s sum_of ht hm hp hg in
       record {
-        transition = below-limit _ _ T st (low-transition s a2.0);
-        middle = less_two _ _ sm (low-middle s b2.0);
-        place = below-limit _ _ P sp (low-place s c2.0);
+        transition = below-limit _ _ T st (low_transition s a2.0);
+        middle = less_two _ _ sm (low_middle s b2.0);
+        place = below-limit _ _ P sp (low_place s c2.0);
         weight = weighs (w / 281474976710656) refl ht hm hp hg;
       }
     where
@@ -126,8 +126,8 @@ both_fit_lem P T w v hP hT hw hv e =
     let d15 = or_clear a b 15 (clear_at (bit_or a b) 0x800080008000 15 refl none) in
     let d31 = or_clear a b 31 (clear_at (bit_or a b) 0x800080008000 31 refl none) in
     let d47 = or_clear a b 47 (clear_at (bit_or a b) 0x800080008000 47 refl none) in (
-      fit-in P T w hP hT hw d15.0 d31.0 d47.0 (omega (arith, high, and_le_l a b)),
-      fit-in P T v hP hT hv d15.1 d31.1 d47.1 (omega (arith, high, and_le_r a b)),
+      fit_in P T w hP hT hw d15.0 d31.0 d47.0 (omega (arith, high, and_le_l a b)),
+      fit_in P T v hP hT hv d15.1 d31.1 d47.1 (omega (arith, high, and_le_r a b)),
     )
 
 -- ---- the order
@@ -157,8 +157,8 @@ ordered t m p u n q ht hm hp hu hn hq h = go (dec_lt t u) (dec_lt u t)
         let i = within m p n q hm hp hn hq (omega (arith, h, e)) in
         omega (arith, i, e)
 
-order-later : (x y : ℕ) → Narrow x → Narrow y → sweep_key x ≤ sweep_key y → order_key x ≤ order_key y
-order-later x y n m g =
+order_later : (x y : ℕ) → Narrow x → Narrow y → sweep_key x ≤ sweep_key y → order_key x ≤ order_key y
+order_later x y n m g =
     let i = ordered (x % 65536) (x / 65536 % 65536) (x / 4294967296) (y % 65536) (y / 65536 % 65536) (y / 4294967296) n.transition n.middle n.place m.transition m.middle m.place (omega (arith, g)) in
     omega (arith, i)
 
@@ -183,21 +183,21 @@ narrow P T w hP hT f =
 
 -- ---- the arcs that were gone through
 
-small-middle : (u : ℕ) → u % 65536 ≤ 1 → u % 256 ≡ u % 65536
-small-middle u h = omega (arith, h)
+small_middle : (u : ℕ) → u % 65536 ≤ 1 → u % 256 ≡ u % 65536
+small_middle u h = omega (arith, h)
 
 module _ (s : List ℕ) (P T at w : ℕ) (word : ArcWord s at w) (f : FitIn P T w) where
-  fit-right : arc_wrong P T (arc_at s at) (byte_at s (at + 3)) ≡ false
-  fit-right =
+  fit_right : arc_wrong P T (arc_at s at) (byte_at s (at + 3)) ≡ false
+  fit_right =
       sym (unfit-wrong P T (arc_at s at) (byte_at s (at + 3)))
       ∙ ap (λ (a : Arc). arc_unfit P T a ((arc_at s at).direction + 256 * byte_at s (at + 3))) (sym word.arc)
       ∙ ap (arc_unfit P T (arc_of w)) (sym word.middle)
       ∙ rw (le-ltb 1 (w / 65536 % 65536) f.middle, lt-leb P (w / 4294967296 % 65536) f.place, lt-leb T (w % 65536) f.transition, ne_eqb (w / 281474976710656) 0 (λ e. omega (arith, e, f.weight)))
 
-  fit-key : key (arc_at s at) ≡ order_key (w % 281474976710656)
-  fit-key =
+  fit_key : key (arc_at s at) ≡ order_key (w % 281474976710656)
+  fit_key =
       ap key (sym word.arc)
-      ∙ rw (cut-transition w, cut-middle w, cut-place w, small-middle (w / 65536) f.middle)
+      ∙ rw (cut-transition w, cut-middle w, cut-place w, small_middle (w / 65536) f.middle)
 
 -- the refusal of all arcs is that of those that are left, of which the first may have any key from `least` on
 pub record Reached (s : List ℕ) (P T start count at least left : ℕ) : Type 0 where
@@ -205,8 +205,8 @@ pub record Reached (s : List ℕ) (P T start count at least left : ℕ) : Type 0
   pub same : arcs_refusal s P T start 0 count ≡ arcs_refusal s P T at from left
   pub above : (x : ℕ) → Narrow x → least ≤ sweep_key x → from ≤ order_key x
 
-pub at-start : (s : List ℕ) (P T start count : ℕ) → Reached s P T start count start 0 count
-at-start s P T start count = record { from = 0; same = refl; above = λ x h l. omega arith }
+pub at_start : (s : List ℕ) (P T start count : ℕ) → Reached s P T start count start 0 count
+at_start s P T start count = record { from = 0; same = refl; above = λ x h l. omega arith }
 
 pub one_on : (s : List ℕ) (P T start count at least left w : ℕ) → P ≤ 1024 → T ≤ 1024 → Reached s P T start count at least left → 0 < left → ArcWord s at w → FitIn P T w
     → least ≤ sweep_key (w % 281474976710656) → Reached s P T start count (at + 8) (sweep_key (w % 281474976710656)) (left - 1)
@@ -215,8 +215,8 @@ one_on s P T start count at least left w hP hT r h word f l =
     let n = narrow P T w hP hT f in
     record {
       from = key (arc_at s at);
-      same = r.same ∙ arcs-on s P T at r.from left h (fit-right s P T at w word f) (rw (fit-key s P T at w word f) (r.above x n l));
-      above = λ y m g. rw (fit-key s P T at w word f) (order-later x y n m g);
+      same = r.same ∙ arcs_on s P T at r.from left h (fit_right s P T at w word f) (rw (fit_key s P T at w word f) (r.above x n l));
+      above = λ y m g. rw (fit_key s P T at w word f) (order_later x y n m g);
     }
 
 pub two_on : (s : List ℕ) (P T start count at least left w v first second : ℕ) → P ≤ 1024 → T ≤ 1024 → Reached s P T start count at least left → 1 < left
@@ -235,4 +235,4 @@ two_on s P T start count at least left w v first second hP hT r h one two f e g 
     }
 
 pub all_done : (s : List ℕ) (P T start count at least left : ℕ) → Reached s P T start count at least left → left ≤ 0 → arcs_refusal s P T start 0 count ≡ 0
-all_done s P T start count at least left r h = r.same ∙ arcs-end s P T at r.from left h
+all_done s P T start count at least left r h = r.same ∙ arcs_end s P T at r.from left h

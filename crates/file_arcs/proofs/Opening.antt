@@ -37,23 +37,23 @@ module _ (P T : ℕ) (s : List ℕ) where
       let b = refuse-0 _ 6 _ a.1 in
       (arc-good (arc_at s at) (byte_at s (at + 3)) a.0, ltb-false _ _ b.0, b.1)
 
-  pub arcs-in_range : (at least n : ℕ) → arcs_refusal s P T at least n ≡ 0 → InRange P T (arcs_from s at n)
+  pub arcs_in_range : (at least n : ℕ) → arcs_refusal s P T at least n ≡ 0 → InRange P T (arcs_from s at n)
   unfolding arcs_from
-  arcs-in_range at least zero e = tt
-  arcs-in_range at least (suc n) e = let a = one at least n e in (a.0, arcs-in_range (at + 8) _ n a.2)
+  arcs_in_range at least zero e = tt
+  arcs_in_range at least (suc n) e = let a = one at least n e in (a.0, arcs_in_range (at + 8) _ n a.2)
 
   -- every arc's zero byte
-  pub arcs-zero : (at least n : ℕ) → arcs_refusal s P T at least n ≡ 0 → (i : ℕ) → i < n → byte_at s (at + 8 * i + 3) ≡ 0
+  pub arcs_zero : (at least n : ℕ) → arcs_refusal s P T at least n ≡ 0 → (i : ℕ) → i < n → byte_at s (at + 8 * i + 3) ≡ 0
   unfolding arcs_refusal
-  arcs-zero at least zero e i l = absurd (omega arith)
-  arcs-zero at least (suc n) e zero l =
+  arcs_zero at least zero e i l = absurd (omega arith)
+  arcs_zero at least (suc n) e zero l =
       let f : at + 8 * 0 + 3 ≡ at + 3 = omega arith in
       ap (byte_at s) f ∙ arc-zero (arc_at s at) (byte_at s (at + 3)) (refuse-0 _ 5 _ e).0
-  arcs-zero at least (suc n) e (suc i) l =
+  arcs_zero at least (suc n) e (suc i) l =
       let f : at + 8 * suc i + 3 ≡ at + 8 + 8 * i + 3 = omega arith in
-      ap (byte_at s) f ∙ arcs-zero (at + 8) _ n (one at least n e).2 i (omega arith)
+      ap (byte_at s) f ∙ arcs_zero (at + 8) _ n (one at least n e).2 i (omega arith)
 
-  pub arcs-rise : (at least n : ℕ) → arcs_refusal s P T at least n ≡ 0 → OrderedFrom least (map key (arcs_from s at n))
+  pub arcs_rise : (at least n : ℕ) → arcs_refusal s P T at least n ≡ 0 → OrderedFrom least (map key (arcs_from s at n))
   unfolding arcs_from
-  arcs-rise at least zero e = tt
-  arcs-rise at least (suc n) e = let a = one at least n e in (a.1, arcs-rise (at + 8) _ n a.2)
+  arcs_rise at least zero e = tt
+  arcs_rise at least (suc n) e = let a = one at least n e in (a.1, arcs_rise (at + 8) _ n a.2)

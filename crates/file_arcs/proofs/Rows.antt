@@ -15,16 +15,16 @@ first s at = ap (arc_at s) (let e : at + 8 * 0 ≡ at = omega arith in e)
 pub later : (s : List ℕ) (at i : ℕ) → arc_at s (at + 8 * suc i) ≡ arc_at s (at + 8 + 8 * i)
 later s at i = ap (arc_at s) (let e : at + 8 * suc i ≡ at + 8 + 8 * i = omega arith in e)
 
-pub arcs-append : (s : List ℕ) (at m n : ℕ) → arcs_from s at (m + n) ≡ arcs_from s at m ++ arcs_from s (at + 8 * m) n
+pub arcs_append : (s : List ℕ) (at m n : ℕ) → arcs_from s at (m + n) ≡ arcs_from s at m ++ arcs_from s (at + 8 * m) n
 unfolding arcs_from
-arcs-append s at zero n =
+arcs_append s at zero n =
     let e : 0 + n ≡ n = omega arith in
     let f : at ≡ at + 8 * 0 = omega arith in
     rw e (ap (λ (k : ℕ). arcs_from s k n) f)
-arcs-append s at (suc m) n =
+arcs_append s at (suc m) n =
     let e : suc m + n ≡ suc (m + n) = omega arith in
     let f : at + 8 + 8 * m ≡ at + 8 * suc m = omega arith in
-    rw e (ap (λ (l : List Arc). arc_at s at ∷ l) (arcs-append s (at + 8) m n ∙ ap (λ (k : ℕ). arcs_from s (at + 8) m ++ arcs_from s k n) f))
+    rw e (ap (λ (l : List Arc). arc_at s at ∷ l) (arcs_append s (at + 8) m n ∙ ap (λ (k : ℕ). arcs_from s (at + 8) m ++ arcs_from s k n) f))
 
 pub range_at : (P T : ℕ) (s : List ℕ) (at n i : ℕ) → InRange P T (arcs_from s at n) → i < n → ArcGood P T (arc_at s (at + 8 * i))
 unfolding arcs_from
@@ -53,21 +53,21 @@ length-arcs_from s at zero = refl
 length-arcs_from s at (suc n) = ap suc (length-arcs_from s (at + 8) n)
 
 -- weights, one arc more at the end
-pub weight-none : (d p t : ℕ) (s : List ℕ) (at : ℕ) → weight_on d p t (arcs_from s at 0) ≡ 0
+pub weight_none : (d p t : ℕ) (s : List ℕ) (at : ℕ) → weight_on d p t (arcs_from s at 0) ≡ 0
 unfolding weight_on arcs_from
-weight-none d p t s at = refl
+weight_none d p t s at = refl
 
-pub weight-next : (d p t : ℕ) (s : List ℕ) (at j : ℕ) → weight_on d p t (arcs_from s at (suc j)) ≡ weight_on d p t (arcs_from s at j) + counted (joins d p t (arc_at s (at + 8 * j))) (arc_at s (at + 8 * j)).weight
+pub weight_next : (d p t : ℕ) (s : List ℕ) (at j : ℕ) → weight_on d p t (arcs_from s at (suc j)) ≡ weight_on d p t (arcs_from s at j) + counted (joins d p t (arc_at s (at + 8 * j))) (arc_at s (at + 8 * j)).weight
 unfolding weight_on arcs_from
-weight-next d p t s at zero = omega (arith, ap (λ (a : Arc). counted (joins d p t a) a.weight) (first s at))
-weight-next d p t s at (suc j) = omega (arith, weight-next d p t s (at + 8) j, ap (λ (a : Arc). counted (joins d p t a) a.weight) (later s at j))
+weight_next d p t s at zero = omega (arith, ap (λ (a : Arc). counted (joins d p t a) a.weight) (first s at))
+weight_next d p t s at (suc j) = omega (arith, weight_next d p t s (at + 8) j, ap (λ (a : Arc). counted (joins d p t a) a.weight) (later s at j))
 
 counted-le : (b : Bool) (n : ℕ) → counted b n ≤ n
 counted-le true n = omega arith
 counted-le false n = omega arith
 
 -- weights are of 16 bits
-pub weight-le : (d p t : ℕ) (s : List ℕ) → Bytes s → (at n : ℕ) → weight_on d p t (arcs_from s at n) ≤ 65535 * n
-weight-le d p t s b at zero = omega (arith, weight-none d p t s at)
-weight-le d p t s b at (suc n) =
-    omega (arith, weight-next d p t s at n, weight-le d p t s b at n, counted-le (joins d p t (arc_at s (at + 8 * n))) (arc_at s (at + 8 * n)).weight, le16-lt s b (at + 8 * n + 6))
+pub weight_le : (d p t : ℕ) (s : List ℕ) → Bytes s → (at n : ℕ) → weight_on d p t (arcs_from s at n) ≤ 65535 * n
+weight_le d p t s b at zero = omega (arith, weight_none d p t s at)
+weight_le d p t s b at (suc n) =
+    omega (arith, weight_next d p t s at n, weight_le d p t s b at n, counted-le (joins d p t (arc_at s (at + 8 * n))) (arc_at s (at + 8 * n)).weight, le16-lt s b (at + 8 * n + 6))

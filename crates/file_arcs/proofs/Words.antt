@@ -49,9 +49,9 @@ arc-word s at w low e =
     }
 
 -- a direction above 1 or a zero byte that is not 0: the two as one number are above 1
-pub middle-wrong : (b d : ℕ) → ltb 1 (b + 256 * d) ≡ (not (eqb d 0) || ltb 1 b)
-middle-wrong b zero = ap (λ (x : ℕ). ltb 1 x) (let e : b + 256 * 0 ≡ b = omega arith in e)
-middle-wrong b (suc d) = rw (lt-ltb 1 (b + 256 * suc d) (omega arith), ne_eqb (suc d) 0 (λ e. omega (arith, e)))
+pub middle_wrong : (b d : ℕ) → ltb 1 (b + 256 * d) ≡ (not (eqb d 0) || ltb 1 b)
+middle_wrong b zero = ap (λ (x : ℕ). ltb 1 x) (let e : b + 256 * 0 ≡ b = omega arith in e)
+middle_wrong b (suc d) = rw (lt-ltb 1 (b + 256 * suc d) (omega arith), ne_eqb (suc d) 0 (λ e. omega (arith, e)))
 
 pub unfit-wrong : (P T : ℕ) (a : Arc) (spare : ℕ) → arc_unfit P T a (a.direction + 256 * spare) ≡ arc_wrong P T a spare
-unfit-wrong P T a spare = ap (λ (x : Bool). x || leb P a.place || leb T a.transition || eqb a.weight 0) (middle-wrong a.direction spare)
+unfit-wrong P T a spare = ap (λ (x : Bool). x || leb P a.place || leb T a.transition || eqb a.weight 0) (middle_wrong a.direction spare)

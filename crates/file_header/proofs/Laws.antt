@@ -6,27 +6,27 @@ use native.Mathlib.Omega.{arith}
 use lib.Dec.{eqb}
 use Rattle.file_header.specs.Layout.{in_slice, pick, places_length}
 
-pub slice-part : (k n : ℕ) → (k ≡ 0 → ⊥) → in_slice k n ≡ n
-slice-part zero n h = absurd (h refl)
-slice-part (suc k) n h = refl
+pub slice_part : (k n : ℕ) → (k ≡ 0 → ⊥) → in_slice k n ≡ n
+slice_part zero n h = absurd (h refl)
+slice_part (suc k) n h = refl
 
 -- the bytes of n places, by edition
 pick-le : (b : Bool) (n : ℕ) → (4 * n ≤ pick b (8 * n) (4 * n)) × (pick b (8 * n) (4 * n) ≤ 8 * n)
 pick-le true n = (omega arith, omega arith)
 pick-le false n = (omega arith, omega arith)
 
-pub places-none : (edition : ℕ) → places_length edition 0 ≡ 0
-places-none edition = none (eqb edition 2)
+pub places_none : (edition : ℕ) → places_length edition 0 ≡ 0
+places_none edition = none (eqb edition 2)
   where
     none : (b : Bool) → pick b (8 * 0) (4 * 0) ≡ 0
     none true = refl
     none false = refl
 
-pub places-least : (edition n : ℕ) → 4 * n ≤ places_length edition n
-places-least edition n = (pick-le (eqb edition 2) n).0
+pub places_least : (edition n : ℕ) → 4 * n ≤ places_length edition n
+places_least edition n = (pick-le (eqb edition 2) n).0
 
-pub places-most : (edition n : ℕ) → places_length edition n ≤ 8 * n
-places-most edition n = (pick-le (eqb edition 2) n).1
+pub places_most : (edition n : ℕ) → places_length edition n ≤ 8 * n
+places_most edition n = (pick-le (eqb edition 2) n).1
 
 within_by : (b : Bool) (p n : ℕ) → p < n → pick b (8 * p) (4 * p) + 4 ≤ pick b (8 * n) (4 * n)
 within_by true p n h = omega arith

@@ -14,13 +14,13 @@ use Rattle.file_header.specs.declared.Due.{Due}
 use Rattle.file_header.specs.declared.Due.TheVariants.{Plan, Slice, Either}
 use Rattle.file_header.specs.declared.Trailer.{Trailer}
 
-kind-most : (due : Due) (k : ℕ) → kind_wrong due k ≡ false → k ≤ 1
-kind-most Plan k e = omega (arith, eqb-true k 0 (not-false _ e))
-kind-most Slice k e = omega (arith, eqb-true k 1 (not-false _ e))
-kind-most Either k e = ltb-false 1 k e
+kind_most : (due : Due) (k : ℕ) → kind_wrong due k ≡ false → k ≤ 1
+kind_most Plan k e = omega (arith, eqb-true k 0 (not-false _ e))
+kind_most Slice k e = omega (arith, eqb-true k 1 (not-false _ e))
+kind_most Either k e = ltb-false 1 k e
 
-edition-most : (e : ℕ) → edition_wrong e ≡ false → e ≤ 2
-edition-most e h = by_cases (eqb e 1)
+edition_most : (e : ℕ) → edition_wrong e ≡ false → e ≤ 2
+edition_most e h = by_cases (eqb e 1)
     (λ one. omega (arith, eqb-true e 1 one))
     (λ other. omega (arith, eqb-true e 2 (not-false (eqb e 2) (rw other at h))))
 
@@ -74,8 +74,8 @@ module _ (due : Due) (n : ℕ) (t : Trailer) (e : trailer_refusal due n t ≡ 0)
       let k = trailer_counts in
       record {
         short = short;
-        kind = kind-most due t.kind passed.kind;
-        edition_small = edition-most t.edition passed.edition;
+        kind = kind_most due t.kind passed.kind;
+        edition_small = edition_most t.edition passed.edition;
         places = k.places;
         transitions = k.transitions;
         arcs = k.arcs;

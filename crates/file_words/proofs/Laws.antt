@@ -29,21 +29,21 @@ or-false true b e = let z : ◌≡◌ {A = ℕ} 0 1 = cc in absurd (omega arith)
 or-false false b e = (refl, e)
 
 -- one turn of a loop over places or origins
-pub caps-step : (s : List ℕ) (at n : ℕ) → 0 < n
+pub caps_step : (s : List ℕ) (at n : ℕ) → 0 < n
     → caps_refusal s at n ≡ refuse (over_cap (le32 s at) (le32 s (at + 4))) 16 (caps_refusal s (at + 8) (n - 1))
 unfolding caps_refusal
-caps-step s at zero h = absurd (lt_irrefl 0 h)
-caps-step s at (suc n) h = rw sub-one
+caps_step s at zero h = absurd (lt_irrefl 0 h)
+caps_step s at (suc n) h = rw sub-one
 
-pub caps-end : (s : List ℕ) (at n : ℕ) → n ≤ 0 → caps_refusal s at n ≡ 0
+pub caps_end : (s : List ℕ) (at n : ℕ) → n ≤ 0 → caps_refusal s at n ≡ 0
 unfolding caps_refusal
-caps-end s at n h = rw (le-zero h)
+caps_end s at n h = rw (le-zero h)
 
 -- nothing but 16 is told
-pub zero-or_16 : (s : List ℕ) (at n : ℕ) → eqb (caps_refusal s at n) 0 ≡ false → 16 ≡ caps_refusal s at n
+pub zero_or_16 : (s : List ℕ) (at n : ℕ) → eqb (caps_refusal s at n) 0 ≡ false → 16 ≡ caps_refusal s at n
 unfolding caps_refusal
-zero-or_16 s at zero e = let z : ◌≡◌ {A = ℕ} 0 1 = cc in absurd (omega (arith, z))
-zero-or_16 s at (suc n) e = go (over_cap (le32 s at) (le32 s (at + 4))) e (λ f. zero-or_16 s (at + 8) n f)
+zero_or_16 s at zero e = let z : ◌≡◌ {A = ℕ} 0 1 = cc in absurd (omega (arith, z))
+zero_or_16 s at (suc n) e = go (over_cap (le32 s at) (le32 s (at + 4))) e (λ f. zero_or_16 s (at + 8) n f)
   where
     go : (b : Bool) → eqb (refuse b 16 (caps_refusal s (at + 8) n)) 0 ≡ false → (eqb (caps_refusal s (at + 8) n) 0 ≡ false → 16 ≡ caps_refusal s (at + 8) n) → 16 ≡ refuse b 16 (caps_refusal s (at + 8) n)
     go true e rest = refl
@@ -56,6 +56,6 @@ unfolding table_refusal
 table_step s at least zero h = absurd (lt_irrefl 0 h)
 table_step s at least (suc n) h = rw sub-one
 
-pub table-end : (s : List ℕ) (at least n : ℕ) → n ≤ 0 → table_refusal s at least n ≡ 0
+pub table_end : (s : List ℕ) (at least n : ℕ) → n ≤ 0 → table_refusal s at least n ≡ 0
 unfolding table_refusal
-table-end s at least n h = rw (le-zero h)
+table_end s at least n h = rw (le-zero h)

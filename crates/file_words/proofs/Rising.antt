@@ -9,7 +9,7 @@ use lib.Dec.{eqb, ltb, leb}
 use borrow.Author.Tests.{lt-ltb, le-ltb, le-leb, lt-leb}
 use Rattle.file_words.specs.Word.{le16}
 use Rattle.file_words.specs.Refusal.{table_refusal, refuse}
-use Rattle.file_words.proofs.Laws.{table_step, table-end}
+use Rattle.file_words.proofs.Laws.{table_step, table_end}
 use Rattle.file_words.proofs.Through.{passed}
 
 -- the first number may be any
@@ -31,14 +31,14 @@ next-rises s at n h =
 
 -- one number, or none
 pub single : (s : List ℕ) (at n : ℕ) → n ≤ 1 → table_refusal s at 0 n ≡ 0
-single s at zero h = table-end s at 0 zero (omega arith)
-single s at (suc n) h = from_zero s at (suc n) (omega arith) ∙ table-end s (at + 2) (le16 s at + 1) (suc n - 1) (omega (arith, h))
+single s at zero h = table_end s at 0 zero (omega arith)
+single s at (suc n) h = from_zero s at (suc n) (omega arith) ∙ table_end s (at + 2) (le16 s at + 1) (suc n - 1) (omega (arith, h))
 
 -- nothing but 8 is told
-pub zero-or_8 : (s : List ℕ) (at least n : ℕ) → eqb (table_refusal s at least n) 0 ≡ false → 8 ≡ table_refusal s at least n
+pub zero_or_8 : (s : List ℕ) (at least n : ℕ) → eqb (table_refusal s at least n) 0 ≡ false → 8 ≡ table_refusal s at least n
 unfolding table_refusal
-zero-or_8 s at least zero e = let z : ◌≡◌ {A = ℕ} 0 1 = cc in absurd (omega (arith, z))
-zero-or_8 s at least (suc n) e = go (ltb (le16 s at) least) e (λ f. zero-or_8 s (at + 2) (le16 s at + 1) n f)
+zero_or_8 s at least zero e = let z : ◌≡◌ {A = ℕ} 0 1 = cc in absurd (omega (arith, z))
+zero_or_8 s at least (suc n) e = go (ltb (le16 s at) least) e (λ f. zero_or_8 s (at + 2) (le16 s at + 1) n f)
   where
     go : (b : Bool) → eqb (refuse b 8 (table_refusal s (at + 2) (le16 s at + 1) n)) 0 ≡ false
         → (eqb (table_refusal s (at + 2) (le16 s at + 1) n) 0 ≡ false → 8 ≡ table_refusal s (at + 2) (le16 s at + 1) n)

@@ -26,15 +26,15 @@ use Rattle.file_writing.specs.Writing.{place_bytes, places_bytes, arc_bytes, arc
 use Rattle.file_header.specs.declared.Due.{Due}
 use Rattle.file_header.specs.declared.Header.{Header}
 use Rattle.file_header.specs.declared.Trailer.{Trailer}
-use Rattle.file_arcs.proofs.Laws.{arcs-on, arcs-end}
-use Rattle.file_header.proofs.Laws.{places-most}
-use Rattle.file_words.proofs.Bytes.{Stands, stands-left, stands-right, length-16, read-16, read-32}
-use Rattle.file_writing.proofs.Bytes.{read-markings, read-caps, Small, length-arc, AllFit, read-arc, read-spare, read-arcs}
+use Rattle.file_arcs.proofs.Laws.{arcs_on, arcs_end}
+use Rattle.file_header.proofs.Laws.{places_most}
+use Rattle.file_words.proofs.Bytes.{Stands, stands_left, stands_right, length-16, read_16, read_32}
+use Rattle.file_writing.proofs.Bytes.{read_markings, read_caps, Small, length-arc, AllFit, read_arc, read_spare, read_arcs}
 
 -- a net that a file of that edition can hold
 pub record NetWritable (edition : ℕ) (N : Net) : Type 0 where
-  pub edition-known : edition_wrong edition ≡ false
-  pub edition-small : edition < 256
+  pub edition_known : edition_wrong edition ≡ false
+  pub edition_small_lem : edition < 256
   pub places : N.places ≤ 1024
   pub transitions : N.transitions ≤ 1024
   pub arcs : length N.arcs ≤ 4096
@@ -53,26 +53,26 @@ arc-right : (P T : ℕ) (a : Arc) (spare : ℕ) → ArcGood P T a → spare ≡ 
 arc-right P T a spare g e =
     rw (e, le-ltb 1 a.direction g.direction, lt-leb P a.place g.place, lt-leb T a.transition g.transition, ne_eqb a.weight 0 (λ z. let w = g.weight in omega arith))
 
-pub arcs-pass : (s : List ℕ) (P T at least : ℕ) (l : List Arc) → Stands s at (arcs_bytes l) → AllFit l → InRange P T l → OrderedFrom least (map key l)
+pub arcs_pass : (s : List ℕ) (P T at least : ℕ) (l : List Arc) → Stands s at (arcs_bytes l) → AllFit l → InRange P T l → OrderedFrom least (map key l)
     → arcs_refusal s P T at least (length l) ≡ 0
 unfolding arcs_bytes
-arcs-pass s P T at least [] st fit good rise = arcs-end s P T at least 0 (omega arith)
-arcs-pass s P T at least (a ∷ l) st fit good rise =
-    let here = stands-left s at (arc_bytes a) (arcs_bytes l) st in
-    let rest = arcs-pass s P T (at + 8) (key a) l (stands-right s at 8 (arc_bytes a) (arcs_bytes l) st (length-arc a)) fit.1 good.1 rise.1 in
-    let e = read-arc s at a here fit.0 in
-    arcs-on s P T at least (suc (length l)) (omega arith)
-    (subst⁻¹ (λ (b : Arc). arc_wrong P T b (byte_at s (at + 3)) ≡ false) e (arc-right P T a (byte_at s (at + 3)) good.0 (read-spare s at a here fit.0)))
+arcs_pass s P T at least [] st fit good rise = arcs_end s P T at least 0 (omega arith)
+arcs_pass s P T at least (a ∷ l) st fit good rise =
+    let here = stands_left s at (arc_bytes a) (arcs_bytes l) st in
+    let rest = arcs_pass s P T (at + 8) (key a) l (stands_right s at 8 (arc_bytes a) (arcs_bytes l) st (length-arc a)) fit.1 good.1 rise.1 in
+    let e = read_arc s at a here fit.0 in
+    arcs_on s P T at least (suc (length l)) (omega arith)
+    (subst⁻¹ (λ (b : Arc). arc_wrong P T b (byte_at s (at + 3)) ≡ false) e (arc-right P T a (byte_at s (at + 3)) good.0 (read_spare s at a here fit.0)))
     (subst⁻¹ (λ (b : Arc). least ≤ key b) e rise.0)
     ∙ subst⁻¹ (λ (b : Arc). arcs_refusal s P T (at + 8) (key b) (suc (length l) - 1) ≡ 0) e (rw sub-one rest)
 
-pub table-pass : (s : List ℕ) (at least : ℕ) (l : List ℕ) → Stands s at (origins_bytes l) → Small l → RisingFrom least l → table_refusal s at least (length l) ≡ 0
+pub table_pass : (s : List ℕ) (at least : ℕ) (l : List ℕ) → Stands s at (origins_bytes l) → Small l → RisingFrom least l → table_refusal s at least (length l) ≡ 0
 unfolding table_refusal origins_bytes
-table-pass s at least [] st small rise = refl
-table-pass s at least (o ∷ l) st small rise =
-    let here = stands-left s at (bytes16 o) (origins_bytes l) st in
-    let rest = table-pass s (at + 2) (o + 1) l (stands-right s at 2 (bytes16 o) (origins_bytes l) st (length-16 o)) small.1 rise.1 in
-    rw (read-16 s at o here small.0, le-ltb o least rise.0) rest
+table_pass s at least [] st small rise = refl
+table_pass s at least (o ∷ l) st small rise =
+    let here = stands_left s at (bytes16 o) (origins_bytes l) st in
+    let rest = table_pass s (at + 2) (o + 1) l (stands_right s at 2 (bytes16 o) (origins_bytes l) st (length-16 o)) small.1 rise.1 in
+    rw (read_16 s at o here small.0, le-ltb o least rise.0) rest
 
 -- what is written are bytes
 pub bytes-join : (l m : List ℕ) → Bytes l → Bytes m → Bytes (l ++ m)
@@ -135,26 +135,26 @@ bytes-trailer k e b P T A low small =
     (bytes-join (bytes32 b ++ bytes16 P ++ bytes16 T) (bytes16 A) (bytes-join (bytes32 b ++ bytes16 P) (bytes16 T) (bytes-join (bytes32 b) (bytes16 P) (bytes-32 _) (bytes-16 _)) (bytes-16 _)) (bytes-16 _)) ends
 
 -- the caps pass 16
-pub caps-pass : (s : List ℕ) (at n : ℕ) → ((p : ℕ) → p < n → 0 < le32 s (at + 8 * p + 4) → le32 s (at + 8 * p) ≤ le32 s (at + 8 * p + 4)) → caps_refusal s at n ≡ 0
+pub caps_pass : (s : List ℕ) (at n : ℕ) → ((p : ℕ) → p < n → 0 < le32 s (at + 8 * p + 4) → le32 s (at + 8 * p) ≤ le32 s (at + 8 * p + 4)) → caps_refusal s at n ≡ 0
 unfolding caps_refusal
-caps-pass s at zero h = refl
-caps-pass s at (suc n) h =
+caps_pass s at zero h = refl
+caps_pass s at (suc n) h =
     let z : at + 8 * 0 ≡ at = omega arith in
     let y : (p : ℕ) → at + 8 * suc p ≡ at + 8 + 8 * p = λ p. omega arith in
-    rw (cap-right (le32 s at) (le32 s (at + 4)) (subst (λ (x : ℕ). 0 < le32 s (x + 4) → le32 s x ≤ le32 s (x + 4)) z (h 0 (omega arith))))
-    (caps-pass s (at + 8) n (λ p l. subst (λ (x : ℕ). 0 < le32 s (x + 4) → le32 s x ≤ le32 s (x + 4)) (y p) (h (suc p) (omega arith))))
+    rw (cap_right (le32 s at) (le32 s (at + 4)) (subst (λ (x : ℕ). 0 < le32 s (x + 4) → le32 s x ≤ le32 s (x + 4)) z (h 0 (omega arith))))
+    (caps_pass s (at + 8) n (λ p l. subst (λ (x : ℕ). 0 < le32 s (x + 4) → le32 s x ≤ le32 s (x + 4)) (y p) (h (suc p) (omega arith))))
   where
-    cap-right : (m c : ℕ) → (0 < c → m ≤ c) → not (eqb c 0) && ltb c m ≡ false
-    cap-right m zero k = refl
-    cap-right m (suc c) k = let some : suc c ≡ 0 → ⊥ = λ z. omega arith in rw (ne_eqb (suc c) 0 some) (le-ltb (suc c) m (k (omega arith)))
+    cap_right : (m c : ℕ) → (0 < c → m ≤ c) → not (eqb c 0) && ltb c m ≡ false
+    cap_right m zero k = refl
+    cap_right m (suc c) k = let some : suc c ≡ 0 → ⊥ = λ z. omega arith in rw (ne_eqb (suc c) 0 some) (le-ltb (suc c) m (k (omega arith)))
 
 -- how many bytes of the body are origins
 abbrev pub origin_bytes : ℕ → Net → ℕ
 origin_bytes kind N = in_slice kind (2 * N.places + 2 * N.transitions)
 
-few-origins : (kind n : ℕ) → in_slice kind n ≤ n
-few-origins zero n = omega arith
-few-origins (suc k) n = omega arith
+few_origins : (kind n : ℕ) → in_slice kind n ≤ n
+few_origins zero n = omega arith
+few_origins (suc k) n = omega arith
 
 -- the parts of a file of that kind and edition stand where they belong
 pub record Laid (kind ed : ℕ) (N : Net) (s : List ℕ) : Type 0 where
@@ -181,7 +181,7 @@ module _ (kind ed : ℕ) (N : Net) (w : NetWritable ed N) (s : List ℕ) (laid :
   body = L + 8 * A + origin_bytes kind N
 
   body-most : body ≤ 45056
-  body-most = let p = w.places in let t = w.transitions in let a = w.arcs in omega (arith, places-most ed P, few-origins kind (2 * P + 2 * T))
+  body-most = let p = w.places in let t = w.transitions in let a = w.arcs in omega (arith, places_most ed P, few_origins kind (2 * P + 2 * T))
 
   -- the trailer and the header
   abbrev tail : Trailer
@@ -214,15 +214,15 @@ module _ (kind ed : ℕ) (N : Net) (w : NetWritable ed N) (s : List ℕ) (laid :
       let t = w.transitions in
       let a = w.arcs in
       let B = bytes32 body in
-      let to-a = stands-left s at (B ++ bytes16 P ++ bytes16 T ++ bytes16 A) ends laid.trailer in
-      let to-t = stands-left s at (B ++ bytes16 P ++ bytes16 T) (bytes16 A) to-a in
-      let to-p = stands-left s at (B ++ bytes16 P) (bytes16 T) to-t in
-      let to-b = stands-left s at B (bytes16 P) to-p in
-      let b≡ = read-32 s at body to-b (omega (arith, body-most)) in
-      let p≡ = read-16 s (at + 4) P (stands-right s at 4 B (bytes16 P) to-p refl) (omega arith) in
-      let t≡ = read-16 s (at + 6) T (stands-right s at 6 (B ++ bytes16 P) (bytes16 T) to-t refl) (omega arith) in
-      let a≡ = read-16 s (at + 8) A (stands-right s at 8 (B ++ bytes16 P ++ bytes16 T) (bytes16 A) to-a refl) (omega arith) in
-      let z = letters_read (at + 10) (stands-right s at 10 (B ++ bytes16 P ++ bytes16 T ++ bytes16 A) ends laid.trailer refl) in
+      let to-a = stands_left s at (B ++ bytes16 P ++ bytes16 T ++ bytes16 A) ends laid.trailer in
+      let to-t = stands_left s at (B ++ bytes16 P ++ bytes16 T) (bytes16 A) to-a in
+      let to-p = stands_left s at (B ++ bytes16 P) (bytes16 T) to-t in
+      let to-b = stands_left s at B (bytes16 P) to-p in
+      let b≡ = read_32 s at body to-b (omega (arith, body-most)) in
+      let p≡ = read_16 s (at + 4) P (stands_right s at 4 B (bytes16 P) to-p refl) (omega arith) in
+      let t≡ = read_16 s (at + 6) T (stands_right s at 6 (B ++ bytes16 P) (bytes16 T) to-t refl) (omega arith) in
+      let a≡ = read_16 s (at + 8) A (stands_right s at 8 (B ++ bytes16 P ++ bytes16 T) (bytes16 A) to-a refl) (omega arith) in
+      let z = letters_read (at + 10) (stands_right s at 10 (B ++ bytes16 P ++ bytes16 T ++ bytes16 A) ends laid.trailer refl) in
       let k : at + 10 + 1 ≡ at + 11 = omega arith in
       let l : at + 10 + 2 ≡ at + 12 = omega arith in
       let e≡ = rw k at z.1 in
@@ -236,19 +236,19 @@ module _ (kind ed : ℕ) (N : Net) (w : NetWritable ed N) (s : List ℕ) (laid :
       ap (header_from (length s)) trailer_is
       ∙ (λ i. record { places = P; transitions = T; arcs = A; kind = kind; edition = ed; markstart = m≡ i; arcstart = (ap (λ x. x + L) m≡ ∙ zero-add (L)) i; originstart = (ap (λ x. x + L + 8 * A) m≡ ∙ ap (λ x. x + 8 * A) (zero-add (L))) i })
 
-  marking-read : (p : ℕ) → p < P → le32 s (0 + places_length ed p) ≡ N.marking p
-  marking-read p h = read-markings ed s N.marking N.cap 0 0 P laid.places (λ q l. w.markings q (omega arith)) p h ∙ ap N.marking (zero-add p)
+  marking_read : (p : ℕ) → p < P → le32 s (0 + places_length ed p) ≡ N.marking p
+  marking_read p h = read_markings ed s N.marking N.cap 0 0 P laid.places (λ q l. w.markings q (omega arith)) p h ∙ ap N.marking (zero-add p)
 
-  cap-read : (p : ℕ) → p < P → pick (eqb ed 2) (le32 s (0 + 8 * p + 4)) 0 ≡ N.cap p
+  cap_read : (p : ℕ) → p < P → pick (eqb ed 2) (le32 s (0 + 8 * p + 4)) 0 ≡ N.cap p
   unfolding Uncapped
-  cap-read p h = read-caps ed s N.marking N.cap 0 0 P laid.places (λ q l. w.caps q (omega arith)) w.no_caps p h ∙ ap N.cap (zero-add p)
+  cap_read p h = read_caps ed s N.marking N.cap 0 0 P laid.places (λ q l. w.caps q (omega arith)) w.no_caps p h ∙ ap N.cap (zero-add p)
 
   -- what is read is what was written
   pub net-back : net_from s head ≡ N
   net-back =
-      let m≡ = below-is P (marking_at s head) N.marking marking-read w.no_others in
-      let c≡ = below-is P (cap_at s head) N.cap cap-read w.no_other_caps in
-      let a≡ = read-arcs s L N.arcs laid.arcs w.fit in
+      let m≡ = below-is P (marking_at s head) N.marking marking_read w.no_others in
+      let c≡ = below-is P (cap_at s head) N.cap cap_read w.no_other_caps in
+      let a≡ = read_arcs s L N.arcs laid.arcs w.fit in
       λ i. record { places = P; transitions = T; marking = m≡ i; cap = c≡ i; arcs = a≡ i }
 
   -- and reading it is not refused
@@ -261,22 +261,22 @@ module _ (kind ed : ℕ) (N : Net) (w : NetWritable ed N) (s : List ℕ) (laid :
   body-right : body_wrong (length s) tail ≡ false
   body-right = let n = laid.long in rw (eq-eqb body body refl, le-ltb (length s - 16) body (omega arith))
 
-  caps-right : (b : Bool) → b ≡ eqb ed 2 → pick b (caps_refusal s 0 P) 0 ≡ 0
+  caps_right : (b : Bool) → b ≡ eqb ed 2 → pick b (caps_refusal s 0 P) 0 ≡ 0
   unfolding WithinCaps capped
-  caps-right false e = refl
-  caps-right true e = caps-pass s 0 P (λ p l some.
-      let m : le32 s (0 + 8 * p) ≡ N.marking p = ap (λ (b : Bool). le32 s (0 + pick b (8 * p) (4 * p))) e ∙ marking-read p l in
-      let c : le32 s (0 + 8 * p + 4) ≡ N.cap p = ap (λ (b : Bool). pick b (le32 s (0 + 8 * p + 4)) 0) e ∙ cap-read p l in
+  caps_right false e = refl
+  caps_right true e = caps_pass s 0 P (λ p l some.
+      let m : le32 s (0 + 8 * p) ≡ N.marking p = ap (λ (b : Bool). le32 s (0 + pick b (8 * p) (4 * p))) e ∙ marking_read p l in
+      let c : le32 s (0 + 8 * p + 4) ≡ N.cap p = ap (λ (b : Bool). pick b (le32 s (0 + 8 * p + 4)) 0) e ∙ cap_read p l in
       omega (arith, m, c, w.within p l (holds (ltb 0 (N.cap p)) (lt-ltb 0 (N.cap p) (omega (arith, c))))))
 
-  module _ (due : Due) (kind-due : kind_wrong due kind ≡ false) (counts_right : counts_wrong tail ≡ false) (origins : origins_refusal s head ≡ 0) where
+  module _ (due : Due) (kind_due : kind_wrong due kind ≡ false) (counts_right : counts_wrong tail ≡ false) (origins : origins_refusal s head ≡ 0) where
     trailer_right : trailer_refusal due (length s) tail ≡ 0
     unfolding trailer_refusal
-    trailer_right = rw (w.edition-known, kind-due, counts_right, body-right)
+    trailer_right = rw (w.edition-known, kind_due, counts_right, body-right)
 
     body-passes : body_refusal s head ≡ 0
     unfolding body_refusal links_refusal
-    body-passes = rw (caps-right (eqb ed 2) refl, arcs-pass s P T L 0 N.arcs laid.arcs w.fit w.in_range w.order) origins
+    body-passes = rw (caps_right (eqb ed 2) refl, arcs_pass s P T L 0 N.arcs laid.arcs w.fit w.in_range w.order) origins
 
     pub passes : file_refusal due s ≡ 0
     unfolding file_refusal

@@ -17,8 +17,8 @@ use Rattle.file.specs.Refusal.{origins_refusal, file_refusal}
 use Rattle.file_writing.specs.Writing.{places_bytes, arcs_bytes, plan_body, trailer_bytes, plan_bytes}
 use Rattle.file_header.specs.declared.Due.TheVariants as due
 use Rattle.file_header.specs.declared.Header.{Header}
-use Rattle.file_header.proofs.Laws.{places-most}
-use Rattle.file_words.proofs.Bytes.{Stands, stands-all, stands-left, stands-right, stands_at}
+use Rattle.file_header.proofs.Laws.{places_most}
+use Rattle.file_words.proofs.Bytes.{Stands, stands_all, stands_left, stands_right, stands_at}
 use Rattle.file_writing.proofs.Bytes.{length-places, length-arcs}
 use Rattle.file_writing.proofs.Parts.{NetWritable, Laid, length-trailer, bytes-join, bytes-places, bytes-arcs, bytes-trailer, header_is, net-back, passes}
 
@@ -61,10 +61,10 @@ module _ (ed : ℕ) (N : Net) where
 
   whole : Stands s 0 (Ms ++ As ++ Rs)
   unfolding plan_bytes
-  whole = stands-all s
+  whole = stands_all s
 
   upto_2 : Stands s 0 (Ms ++ As)
-  upto_2 = stands-left s 0 (Ms ++ As) Rs whole
+  upto_2 = stands_left s 0 (Ms ++ As) Rs whole
 
   laid : Laid 0 ed N s
   unfolding plan_body
@@ -73,9 +73,9 @@ module _ (ed : ℕ) (N : Net) where
       let at : 0 + (L + 8 * A) ≡ length s - 16 = omega (arith, length-plan) in
       record {
         long = omega (arith, length-plan);
-        places = stands-left s 0 Ms As upto_2;
-        arcs = stands_at s As (stands-right s 0 L Ms As upto_2 length-1) (zero-add _);
-        trailer = subst (λ (b : ℕ). Stands s (length s - 16) (trailer_bytes 0 ed b P T A)) body (stands_at s Rs (stands-right s 0 (L + 8 * A) (Ms ++ As) Rs whole length-2) at);
+        places = stands_left s 0 Ms As upto_2;
+        arcs = stands_at s As (stands_right s 0 L Ms As upto_2 length-1) (zero-add _);
+        trailer = subst (λ (b : ℕ). Stands s (length s - 16) (trailer_bytes 0 ed b P T A)) body (stands_at s Rs (stands_right s 0 (L + 8 * A) (Ms ++ As) Rs whole length-2) at);
       }
 
   module _ (w : NetWritable ed N) where
@@ -109,4 +109,4 @@ module _ (ed : ℕ) (N : Net) where
 
     -- 40,976 bytes hold any plan without note
     pub plan_room : length (plan_bytes ed N) ≤ 40976
-    plan_room = let p = w.places in let a = w.arcs in omega (arith, length-plan, places-most ed P)
+    plan_room = let p = w.places in let a = w.arcs in omega (arith, length-plan, places_most ed P)

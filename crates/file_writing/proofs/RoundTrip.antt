@@ -19,20 +19,20 @@ use Rattle.file.specs.Facts.{RisingFrom}
 use Rattle.file_writing.specs.Writing.{places_bytes, arcs_bytes, origins_bytes, slice_body, trailer_bytes, slice_bytes}
 use Rattle.file_header.specs.declared.Due.TheVariants as due
 use Rattle.file_header.specs.declared.Header.{Header}
-use Rattle.file_header.proofs.Laws.{places-most}
-use Rattle.file_words.proofs.Bytes.{Stands, stands-all, stands-left, stands-right, stands_at}
-use Rattle.file_writing.proofs.Bytes.{length-places, length-origins, Small, read-origins, length-arcs}
-use Rattle.file_writing.proofs.Parts.{NetWritable, Laid, length-trailer, table-pass, bytes-join, bytes-places, bytes-arcs, bytes-origins, bytes-trailer, header_is, net-back, passes}
+use Rattle.file_header.proofs.Laws.{places_most}
+use Rattle.file_words.proofs.Bytes.{Stands, stands_all, stands_left, stands_right, stands_at}
+use Rattle.file_writing.proofs.Bytes.{length-places, length-origins, Small, read_origins, length-arcs}
+use Rattle.file_writing.proofs.Parts.{NetWritable, Laid, length-trailer, table_pass, bytes-join, bytes-places, bytes-arcs, bytes-origins, bytes-trailer, header_is, net-back, passes}
 
 -- a slice that a file of that edition can hold
 pub record Writable (edition : ℕ) (S : Slice) : Type 0 where
   pub net : NetWritable edition S.net
-  pub place-count : length S.place_origins ≡ S.net.places
-  pub transition-count : length S.transition_origins ≡ S.net.transitions
-  pub places-rise : RisingFrom 0 S.place_origins
-  pub places-small : Small S.place_origins
-  pub transitions-rise : RisingFrom 0 S.transition_origins
-  pub transitions-small : Small S.transition_origins
+  pub place_count : length S.place_origins ≡ S.net.places
+  pub transition_count : length S.transition_origins ≡ S.net.transitions
+  pub places_rise : RisingFrom 0 S.place_origins
+  pub places_small : Small S.place_origins
+  pub transitions_rise : RisingFrom 0 S.transition_origins
+  pub transitions_small : Small S.transition_origins
 
 module _ (ed : ℕ) (S : Slice) (w : Writable ed S) where
   abbrev P : ℕ
@@ -71,10 +71,10 @@ module _ (ed : ℕ) (S : Slice) (w : Writable ed S) where
   length-2 = omega (arith, length-append Ms As, length-1, length-arcs S.net.arcs)
 
   length-3 : length (Ms ++ As ++ Ps) ≡ L + 8 * A + 2 * P
-  length-3 = let c = w.place-count in omega (arith, length-append (Ms ++ As) Ps, length-2, length-origins S.place_origins)
+  length-3 = let c = w.place_count in omega (arith, length-append (Ms ++ As) Ps, length-2, length-origins S.place_origins)
 
   length-4 : length (Ms ++ As ++ Ps ++ Ts) ≡ L + 8 * A + 2 * P + 2 * T
-  length-4 = let c = w.transition-count in omega (arith, length-append (Ms ++ As ++ Ps) Ts, length-3, length-origins S.transition_origins)
+  length-4 = let c = w.transition_count in omega (arith, length-append (Ms ++ As ++ Ps) Ts, length-3, length-origins S.transition_origins)
 
   abbrev Rs : List ℕ
   Rs = trailer_bytes 1 ed (slice_body ed S) P T A
@@ -85,31 +85,31 @@ module _ (ed : ℕ) (S : Slice) (w : Writable ed S) where
 
   whole : Stands s 0 (Ms ++ As ++ Ps ++ Ts ++ Rs)
   unfolding slice_bytes
-  whole = stands-all s
+  whole = stands_all s
 
   upto_4 : Stands s 0 (Ms ++ As ++ Ps ++ Ts)
-  upto_4 = stands-left s 0 (Ms ++ As ++ Ps ++ Ts) Rs whole
+  upto_4 = stands_left s 0 (Ms ++ As ++ Ps ++ Ts) Rs whole
 
   upto_3 : Stands s 0 (Ms ++ As ++ Ps)
-  upto_3 = stands-left s 0 (Ms ++ As ++ Ps) Ts upto_4
+  upto_3 = stands_left s 0 (Ms ++ As ++ Ps) Ts upto_4
 
   upto_2 : Stands s 0 (Ms ++ As)
-  upto_2 = stands-left s 0 (Ms ++ As) Ps upto_3
+  upto_2 = stands_left s 0 (Ms ++ As) Ps upto_3
 
-  at-markings : Stands s 0 Ms
-  at-markings = stands-left s 0 Ms As upto_2
+  at_markings : Stands s 0 Ms
+  at_markings = stands_left s 0 Ms As upto_2
 
-  at-arcs : Stands s (L) As
-  at-arcs = stands_at s As (stands-right s 0 (L) Ms As upto_2 length-1) (zero-add _)
+  at_arcs : Stands s (L) As
+  at_arcs = stands_at s As (stands_right s 0 (L) Ms As upto_2 length-1) (zero-add _)
 
   at_places : Stands s (L + 8 * A) Ps
-  at_places = stands_at s Ps (stands-right s 0 (L + 8 * A) (Ms ++ As) Ps upto_3 length-2) (zero-add _)
+  at_places = stands_at s Ps (stands_right s 0 (L + 8 * A) (Ms ++ As) Ps upto_3 length-2) (zero-add _)
 
-  at-transitions : Stands s (L + 8 * A + 2 * P) Ts
-  at-transitions = stands_at s Ts (stands-right s 0 (L + 8 * A + 2 * P) (Ms ++ As ++ Ps) Ts upto_4 length-3) (zero-add _)
+  at_transitions : Stands s (L + 8 * A + 2 * P) Ts
+  at_transitions = stands_at s Ts (stands_right s 0 (L + 8 * A + 2 * P) (Ms ++ As ++ Ps) Ts upto_4 length-3) (zero-add _)
 
-  at-trailer : Stands s (length s - 16) Rs
-  at-trailer = stands_at s Rs (stands-right s 0 (L + 8 * A + 2 * P + 2 * T) (Ms ++ As ++ Ps ++ Ts) Rs whole length-4) (let l = length-file in omega arith)
+  at_trailer : Stands s (length s - 16) Rs
+  at_trailer = stands_at s Rs (stands_right s 0 (L + 8 * A + 2 * P + 2 * T) (Ms ++ As ++ Ps ++ Ts) Rs whole length-4) (let l = length-file in omega arith)
 
   laid : Laid 1 ed S.net s
   unfolding slice_body
@@ -117,9 +117,9 @@ module _ (ed : ℕ) (S : Slice) (w : Writable ed S) where
       let body : slice_body ed S ≡ L + 8 * A + (2 * P + 2 * T) = omega arith in
       record {
         long = omega (arith, length-file);
-        places = at-markings;
-        arcs = at-arcs;
-        trailer = subst (λ (b : ℕ). Stands s (length s - 16) (trailer_bytes 1 ed b P T A)) body at-trailer;
+        places = at_markings;
+        arcs = at_arcs;
+        trailer = subst (λ (b : ℕ). Stands s (length s - 16) (trailer_bytes 1 ed b P T A)) body at_trailer;
       }
 
   abbrev head : Header
@@ -129,29 +129,29 @@ module _ (ed : ℕ) (S : Slice) (w : Writable ed S) where
   header_read = header_is 1 ed S.net w.net s laid
 
   -- what is read is what was written
-  pub reads-back : slice_of (slice_bytes ed S) ≡ S
-  reads-back =
+  pub reads_back : slice_of (slice_bytes ed S) ≡ S
+  reads_back =
       let n≡ = net-back 1 ed S.net w.net s laid in
-      let p≡ : words_from s (L + 8 * A) P ≡ S.place_origins = ap (words_from s (L + 8 * A)) (sym w.place-count) ∙ read-origins s (L + 8 * A) S.place_origins at_places w.places-small in
-      let t≡ : words_from s (L + 8 * A + 2 * P) T ≡ S.transition_origins = ap (words_from s (L + 8 * A + 2 * P)) (sym w.transition-count) ∙ read-origins s (L + 8 * A + 2 * P) S.transition_origins at-transitions w.transitions-small in
+      let p≡ : words_from s (L + 8 * A) P ≡ S.place_origins = ap (words_from s (L + 8 * A)) (sym w.place_count) ∙ read_origins s (L + 8 * A) S.place_origins at_places w.places-small in
+      let t≡ : words_from s (L + 8 * A + 2 * P) T ≡ S.transition_origins = ap (words_from s (L + 8 * A + 2 * P)) (sym w.transition_count) ∙ read_origins s (L + 8 * A + 2 * P) S.transition_origins at_transitions w.transitions-small in
       ap (slice_from s) header_read ∙ (λ i. record { net = n≡ i; place_origins = p≡ i; transition_origins = t≡ i })
 
-  pub edition-back : (header_of (slice_bytes ed S)).edition ≡ ed
-  edition-back = ap (λ (h : Header). h.edition) header_read
+  pub edition_back : (header_of (slice_bytes ed S)).edition ≡ ed
+  edition_back = ap (λ (h : Header). h.edition) header_read
 
   -- and reading it is not refused
   counts_right : counts_wrong (record { body = L + 8 * A + (2 * P + 2 * T); places = P; transitions = T; arcs = A; kind = 1; edition = ed; letters = 0x4C4C4542 }) ≡ false
   counts_right = rw (le-ltb 1024 P w.net.places, le-ltb 1024 T w.net.transitions, le-ltb 4096 A w.net.arcs) (and-false (eqb P 0 && eqb T 0))
 
-  origins-pass : origins_refusal s head ≡ 0
+  origins_pass : origins_refusal s head ≡ 0
   unfolding origins_refusal
-  origins-pass =
-      let p : table_refusal s (L + 8 * A) 0 P ≡ 0 = ap (table_refusal s (L + 8 * A) 0) (sym w.place-count) ∙ table-pass s (L + 8 * A) 0 S.place_origins at_places w.places-small w.places-rise in
-      let t : table_refusal s (L + 8 * A + 2 * P) 0 T ≡ 0 = ap (table_refusal s (L + 8 * A + 2 * P) 0) (sym w.transition-count) ∙ table-pass s (L + 8 * A + 2 * P) 0 S.transition_origins at-transitions w.transitions-small w.transitions-rise in
+  origins_pass =
+      let p : table_refusal s (L + 8 * A) 0 P ≡ 0 = ap (table_refusal s (L + 8 * A) 0) (sym w.place_count) ∙ table_pass s (L + 8 * A) 0 S.place_origins at_places w.places-small w.places_rise in
+      let t : table_refusal s (L + 8 * A + 2 * P) 0 T ≡ 0 = ap (table_refusal s (L + 8 * A + 2 * P) 0) (sym w.transition_count) ∙ table_pass s (L + 8 * A + 2 * P) 0 S.transition_origins at_transitions w.transitions-small w.transitions_rise in
       rw (p, t)
 
   pub not-refused : file_refusal due.Slice (slice_bytes ed S) ≡ 0
-  not-refused = passes 1 ed S.net w.net s laid due.Slice refl counts_right origins-pass
+  not-refused = passes 1 ed S.net w.net s laid due.Slice refl counts_right origins_pass
 
   pub are_bytes : Bytes (slice_bytes ed S)
   unfolding slice_bytes
@@ -162,4 +162,4 @@ module _ (ed : ℕ) (S : Slice) (w : Writable ed S) where
 
   -- 45,072 bytes hold any slice
   pub room : length (slice_bytes ed S) ≤ 45072
-  room = let p = w.net.places in let t = w.net.transitions in let a = w.net.arcs in omega (arith, length-file, places-most ed P)
+  room = let p = w.net.places in let t = w.net.transitions in let a = w.net.arcs in omega (arith, length-file, places_most ed P)

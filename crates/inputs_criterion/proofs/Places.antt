@@ -16,24 +16,24 @@ use Rattle.file.specs.Criterion.{places_refusal, criterion_refusal, criterion_of
 
 -- ---- the loops
 
-list-step : (P least : ℕ) (q : List ℕ) (i : ℕ) → i < length q
+list_step : (P least : ℕ) (q : List ℕ) (i : ℕ) → i < length q
     → places_refusal P least (drop i q) ≡ refuse (leb P (get_or q i 0) || ltb (get_or q i 0) least) 10 (places_refusal P (get_or q i 0 + 1) (drop (i + 1) q))
 unfolding places_refusal
-list-step P least q i h = rw (add-one i, drop-cons q i 0)
+list_step P least q i h = rw (add-one i, drop-cons q i 0)
 
 module _ (P least : ℕ) (q : List ℕ) (i : ℕ) (inside : i < length q) (x : ℕ) (is : x ≡ get_or q i 0) where
-  pub list-10 : (leb P x || ltb x least) ≡ true → places_refusal P least (drop i q) ≡ 10
-  list-10 e = list-step P least q i inside ∙ rw (← is, e)
+  pub list_10 : (leb P x || ltb x least) ≡ true → places_refusal P least (drop i q) ≡ 10
+  list_10 e = list_step P least q i inside ∙ rw (← is, e)
 
   pub list_on : (leb P x || ltb x least) ≡ false → places_refusal P least (drop i q) ≡ places_refusal P (x + 1) (drop (i + 1) q)
-  list_on e = list-step P least q i inside ∙ rw (← is, e)
+  list_on e = list_step P least q i inside ∙ rw (← is, e)
 
-pub list-end : (P least : ℕ) (q : List ℕ) (i : ℕ) → length q ≤ i → places_refusal P least (drop i q) ≡ 0
+pub list_end : (P least : ℕ) (q : List ℕ) (i : ℕ) → length q ≤ i → places_refusal P least (drop i q) ≡ 0
 unfolding places_refusal
-list-end P least [] zero h = refl
-list-end P least [] (suc i) h = refl
-list-end P least (x ∷ q) zero h = absurd (omega arith)
-list-end P least (x ∷ q) (suc i) h = list-end P least q i (omega arith)
+list_end P least [] zero h = refl
+list_end P least [] (suc i) h = refl
+list_end P least (x ∷ q) zero h = absurd (omega arith)
+list_end P least (x ∷ q) (suc i) h = list_end P least q i (omega arith)
 
 bytes-step : (P least : ℕ) (s : List ℕ) (at n : ℕ) → 0 < n
     → places_refusal P least (words_from s at n) ≡ refuse (leb P (le16 s at) || ltb (le16 s at) least) 10 (places_refusal P (le16 s at + 1) (words_from s (at + 2) (n - 1)))
@@ -53,9 +53,9 @@ unfolding places_refusal words_from
 bytes-end P least s at zero h = refl
 bytes-end P least s at (suc n) h = absurd (omega arith)
 
-pub words-none : (s : List ℕ) (at : ℕ) → [] ≡ words_from s at 0
+pub words_none : (s : List ℕ) (at : ℕ) → [] ≡ words_from s at 0
 unfolding words_from
-words-none s at = refl
+words_none s at = refl
 
 words_more : (s : List ℕ) (at n : ℕ) → words_from s at (n + 1) ≡ words_from s at n ++ (le16 s (at + 2 * n) ∷ [])
 unfolding words_from
@@ -66,8 +66,8 @@ words_more s at (suc n) =
     rw e (ap (λ (l : List ℕ). le16 s at ∷ l) (words_more s (at + 2) n ∙ ap (λ (k : ℕ). words_from s (at + 2) n ++ (le16 s k ∷ [])) f))
 
 -- one place more is stored
-pub words-set : (s l : List ℕ) (i x : ℕ) → i < length l → take i l ≡ words_from s 0 i → x ≡ le16 s (2 * i) → take (i + 1) (set l i x) ≡ words_from s 0 (i + 1)
-words-set s l i x inside e is =
+pub words_set : (s l : List ℕ) (i x : ℕ) → i < length l → take i l ≡ words_from s 0 i → x ≡ le16 s (2 * i) → take (i + 1) (set l i x) ≡ words_from s 0 (i + 1)
+words_set s l i x inside e is =
     let f : 2 * i ≡ 0 + 2 * i = omega arith in
     rw (add-one i) (take-suc-set l i x inside)
     ∙ ap (λ (k : List ℕ). k ++ (x ∷ [])) e

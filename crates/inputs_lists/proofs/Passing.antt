@@ -20,11 +20,11 @@ module _ (T' : ℕ) (list : List ℕ) (e : list_refusal T' list ≡ 0) where
       let a = refuse-0 (ltb 65535 (length list)) 10 (refuse (any (λ t. leb T' t) list) 12 0) e in
       (a.0, (refuse-0 (any (λ t. leb T' t) list) 11 0 a.1).0)
 
-  pub list-short : length list ≤ 65535
-  list-short = ltb-false 65535 (length list) tests.0
+  pub list_short : length list ≤ 65535
+  list_short = ltb-false 65535 (length list) tests.0
 
-  pub list-known : (i : ℕ) → i < length list → get_or list i 0 < T'
-  list-known i l =
+  pub list_known : (i : ℕ) → i < length list → get_or list i 0 < T'
+  list_known i l =
       by_cases (leb T' (get_or list i 0))
       (λ k. absurd (fails (any (λ t. leb T' t) list) tests.1 (any-has (λ t. leb T' t) list (get_or list i 0) (among-at list i l) (holds _ k))))
       (λ k. leb-false T' (get_or list i 0) k)

@@ -13,20 +13,20 @@ use Rattle.file.specs.Refusal.{file_refusal}
 use Rattle.file.specs.Facts.{Opened}
 use Rattle.promise.specs.Together.{standing}
 use Rattle.promise.specs.Starts.{starting_at, start_refusal, started_from, started, from_refusal}
-use Rattle.promise.proofs.Started.{started-opened, started-from, start-length}
+use Rattle.promise.proofs.Started.{started-opened, started-from, start_length}
 use Rattle.inputs_starts.specs.Startable.{Startable}
 
 -- the file in which the start stands can be read as the file can
-pub opened-from : {d : Due} {s : List ℕ} {h : Header} {start : List ℕ} → Startable d s h start → ((i : ℕ) → byte_at s i < 256) → Opened d (started_from s h start) h
+pub opened_from : {d : Due} {s : List ℕ} {h : Header} {start : List ℕ} → Startable d s h start → ((i : ℕ) → byte_at s i < 256) → Opened d (started_from s h start) h
 unfolding Bytes
-opened-from {d} {s} {h} {start} r b = started-opened d s h start b r.opened r.passes
+opened_from {d} {s} {h} {start} r b = started-opened d s h start b r.opened r.passes
 
 pub entries : {d : Due} {s : List ℕ} {h : Header} {start : List ℕ} → Startable d s h start → length start ≡ h.places
-entries {d} {s} {h} {start} r = start-length (net_from s h) start r.passes
+entries {d} {s} {h} {start} r = start_length (net_from s h) start r.passes
 
 -- it is the file that the promise speaks of
-pub same-file : {d : Due} {s : List ℕ} {h : Header} (start : List ℕ) → Opened d s h → started_from s h start ≡ started s start
-same-file {s = s} start o = ap (λ (g : Header). started_from s g start) o.same
+pub same_file : {d : Due} {s : List ℕ} {h : Header} (start : List ℕ) → Opened d s h → started_from s h start ≡ started s start
+same_file {s = s} start o = ap (λ (g : Header). started_from s g start) o.same
 
 -- refused by the file, by the start, or not
 pub by_file : (d : Due) (s start : List ℕ) {n : ℕ} → file_refusal d s ≡ n → (n ≡ 0 → ⊥) → from_refusal d s start ≡ n

@@ -11,4 +11,4 @@ use Rattle.plan_put.proofs.Apart.{told-apart as files}
 use Rattle.call_firing.proofs.Apart.{told-apart as changes}
 
 pub pinned : Pinned
-pinned = record { check = verdicts; replay = outcomes; shadow = shadows; safety-and_branching = cuts; run-cut = run-cuts; effect = changes; together = takings; range = ranges; normal = files }
+pinned = record { check = verdicts; replay = outcomes; shadow = shadows; safety_and_branching = cuts; run_cut_row = run-cuts; effect = changes; together = takings; range = ranges; normal = files }

@@ -21,8 +21,8 @@ use Rattle.promise.specs.Normal.{normal_file, normal_write_refusal, FileAnswer, 
 use Rattle.promise.specs.RunCut.{RunAnswer, RunsBack}
 use Rattle.promise.specs.Together.{standing}
 use Rattle.promise.specs.Range.{range_refusal, range_or, range_answer, range_need, TellsRange}
-use Rattle.promise.proofs.Range.{tells-range}
-use Rattle.promise.proofs.Ranges.{range-le}
+use Rattle.promise.proofs.Range.{tells_range}
+use Rattle.promise.proofs.Ranges.{range_le}
 use Rattle.nesfoal.specs.Cuts.{cut_read}
 use Rattle.nesfoal.specs.Files.{file_read}
 use Rattle.nesfoal.specs.Recorded.{run_read}
@@ -46,22 +46,22 @@ safety-for_c accepts plan Q room {exit} e w er en ep et =
     subst⁻¹ (λ (x : CutAnswer). WritesSmallest accepts x exit) same w
 
 -- the same of the normal form
-file-as_read : (n len : ℕ) → let a = file_answer n len in file_read a.refusal a.length ≡ a
-file-as_read zero len = refl
-file-as_read (suc n) len = refl
+file_as_read : (n len : ℕ) → let a = file_answer n len in file_read a.refusal a.length ≡ a
+file_as_read zero len = refl
+file_as_read (suc n) len = refl
 
-pub normal-for_c : (plan : List ℕ) (room : ℕ) {exit : List ℕ} {a : FileAnswer} {r n : ℕ} → a ≡ normal_answer plan room → WritesNormal plan a exit
+pub normal_for_c : (plan : List ℕ) (room : ℕ) {exit : List ℕ} {a : FileAnswer} {r n : ℕ} → a ≡ normal_answer plan room → WritesNormal plan a exit
     → r ≡ (normal_answer plan room).refusal → n ≡ (normal_answer plan room).length → WritesNormal plan (file_read r n) exit
 unfolding normal_answer
-normal-for_c plan room {exit} e w er en =
-    let same = (λ i. file_read (er i) (en i)) ∙ file-as_read (normal_write_refusal plan room) (length (normal_file plan)) ∙ sym e in
+normal_for_c plan room {exit} e w er en =
+    let same = (λ i. file_read (er i) (en i)) ∙ file_as_read (normal_write_refusal plan room) (length (normal_file plan)) ∙ sym e in
     subst⁻¹ (λ (x : FileAnswer). WritesNormal plan x exit) same w
 
 pub named-for_c : (s : List ℕ) (room : ℕ) {exit : List ℕ} {a : FileAnswer} {r n : ℕ} → a ≡ pnml_answer s room → WritesNamed s a exit
     → r ≡ (pnml_answer s room).refusal → n ≡ (pnml_answer s room).length → WritesNamed s (file_read r n) exit
 unfolding pnml_answer
 named-for_c s room {exit} e w er en =
-    let same = (λ i. file_read (er i) (en i)) ∙ file-as_read (pnml_write_refusal s room) (length (pnml_file s)) ∙ sym e in
+    let same = (λ i. file_read (er i) (en i)) ∙ file_as_read (pnml_write_refusal s room) (length (pnml_file s)) ∙ sym e in
     subst⁻¹ (λ (x : FileAnswer). WritesNamed s x exit) same w
 
 -- from a start: the refusal of plan or start, or the answer
@@ -69,9 +69,9 @@ unless_read : (n : ℕ) (a : CutAnswer) → cut_read a.refusal a.length a.places
 unless_read zero a e = e
 unless_read (suc n) a e = refl
 
-from-as_read : (plan start Q : List ℕ) (room : ℕ) → let a = safety_from_answer plan start Q room in cut_read a.refusal a.length a.places a.transitions ≡ a
+from_as_read : (plan start Q : List ℕ) (room : ℕ) → let a = safety_from_answer plan start Q room in cut_read a.refusal a.length a.places a.transitions ≡ a
 unfolding safety_from_answer
-from-as_read plan start Q room = unless_read (from_refusal due.Plan plan start) (safety_answer (started plan start) Q room) (safety-as_read (started plan start) Q room)
+from_as_read plan start Q room = unless_read (from_refusal due.Plan plan start) (safety_answer (started plan start) Q room) (safety-as_read (started plan start) Q room)
 
 branching-as_read : (plan Q : List ℕ) (room : ℕ) → let a = branching_answer plan Q room in cut_read a.refusal a.length a.places a.transitions ≡ a
 unfolding branching_answer
@@ -85,7 +85,7 @@ pub safety-from_for_c : (accepts : List ℕ → Type 0) (plan start Q : List ℕ
     → r ≡ (safety_from_answer plan start Q room).refusal → n ≡ (safety_from_answer plan start Q room).length → p ≡ (safety_from_answer plan start Q room).places → t ≡ (safety_from_answer plan start Q room).transitions
     → WritesSmallest accepts (cut_read r n p t) exit
 safety-from_for_c accepts plan start Q room {exit} e w er en ep et =
-    let same = (λ i. cut_read (er i) (en i) (ep i) (et i)) ∙ from-as_read plan start Q room ∙ sym e in
+    let same = (λ i. cut_read (er i) (en i) (ep i) (et i)) ∙ from_as_read plan start Q room ∙ sym e in
     subst⁻¹ (λ (x : CutAnswer). WritesSmallest accepts x exit) same w
 
 pub branching-from_for_c : (accepts : List ℕ → Type 0) (N : Net) (plan start Q : List ℕ) (room : ℕ) {exit : List ℕ} {a : CutAnswer} {r n p t : ℕ} → a ≡ branching_from_answer plan start Q room → WritesExact accepts N a exit
@@ -108,19 +108,19 @@ run-for_c plan Q list a {exit} {positions} e x er en ep et ec ei eq em =
     (run-as_read plan Q list a exit positions (subst (λ (y : RunAnswer). RunsBack plan Q list y exit positions) e x))
 
 -- no refusal of a range has the number of another answer
-range-as_read : (n : ℕ) (x : Extent) → n ≤ 21 → range_read (range_code (range_or n x)) ≡ range_or n x
-range-as_read zero every h = refl
-range-as_read zero partly h = refl
-range-as_read zero never h = refl
-range-as_read (suc n) x h =
+range_as_read : (n : ℕ) (x : Extent) → n ≤ 21 → range_read (range_code (range_or n x)) ≡ range_or n x
+range_as_read zero every h = refl
+range_as_read zero partly h = refl
+range_as_read zero never h = refl
+range_as_read (suc n) x h =
     let all = ne_eqb (suc n) 0 (λ e. omega (arith, e)) in
     let some = ne_eqb (suc n) 100 (λ e. omega (arith, h, e)) in
     let none = ne_eqb (suc n) 101 (λ e. omega (arith, h, e)) in
     λ i. record { refused = not (all i || some i || none i); refusal = counted (not (all i || some i || none i)) (suc n); every = all i; partly = some i; never = none i }
 
-pub range-for_c : (plan list upper lent : List ℕ) {r : ℕ} {exit : List ℕ} → r ≡ range_code (range_answer plan list upper (length lent)) → exit ≡ range_need plan list upper lent
+pub range_for_c : (plan list upper lent : List ℕ) {r : ℕ} {exit : List ℕ} → r ≡ range_code (range_answer plan list upper (length lent)) → exit ≡ range_need plan list upper lent
     → TellsRange plan list upper (range_read r) exit
 unfolding range_answer
-range-for_c plan list upper lent e f =
-    let read = range-as_read (range_refusal plan list upper (length lent)) (extent (net_of plan) (standing upper) list) (range-le plan list upper (length lent)) in
-    tells-range plan list upper lent (ap range_read e ∙ read) f
+range_for_c plan list upper lent e f =
+    let read = range_as_read (range_refusal plan list upper (length lent)) (extent (net_of plan) (standing upper) list) (range_le plan list upper (length lent)) in
+    tells_range plan list upper lent (ap range_read e ∙ read) f

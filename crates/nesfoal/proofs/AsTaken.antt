@@ -10,14 +10,14 @@ use lib.ListN.{length}
 use Rattle.net.specs.Together.{Takings, times, unlimited, together}
 use Rattle.file.specs.Layout.{net_of}
 use Rattle.promise.specs.Together.{standing, TogetherAnswer, together_or, together_refusal, together_answer, TakesLargest}
-use Rattle.promise.proofs.Ranges.{refuse-le, or_else_le, file-le}
+use Rattle.promise.proofs.Ranges.{refuse-le, or_else_le, file_le}
 use Rattle.nesfoal.specs.Takings.{together_code, takings_read}
 
 few : (plan : List ℕ) (t entries room : ℕ) → together_refusal plan t entries room ≤ 16
 unfolding together_refusal
 few plan t entries room =
     let N = net_of plan in
-    or_else_le _ _ 16 (file-le _ plan)
+    or_else_le _ _ 16 (file_le _ plan)
     (refuse-le (leb N.transitions t) 12 _ 16 (omega arith)
     (refuse-le (not (eqb entries N.places)) 15 _ 16 (omega arith) (refuse-le (ltb room N.places) 13 0 16 (omega arith) (omega arith))))
 

@@ -14,8 +14,8 @@ pub record Pinned : Type 0 where
   pub check : Verdicts
   pub replay : Outcomes
   pub shadow : Shadows
-  pub safety-and_branching : Cuts
-  pub run-cut : RunCuts
+  pub safety_and_branching : Cuts
+  pub run_cut_row : RunCuts
   pub effect : Changes
   pub together : Takings
   pub range : Ranges

@@ -12,7 +12,7 @@ use Rattle.net.specs.Slice.{Slice, strike, WellFormed, Accepted}
 use Rattle.net.specs.Checker.{Rule, breaks, Holds, FirstBroken, rules}
 use Rattle.net.specs.Guarantee.{AllAmong, PlanFires, plan_tokens, SliceFires, slice_tokens, struck, Guarantee, Contains}
 use Rattle.net.specs.Conclusions.{SameVerdict, StuckForGood, SameKept, unbroken, rule_at, Unbroken, BrokenFirst}
-use Rattle.net.proofs.Numbers.{by_or, is_true, or_left, or_right, position-lt, at_position, rising-lt, fewest}
+use Rattle.net.proofs.Numbers.{by_or, is_true, or_left, or_right, position-lt, at_position, rising_lt, fewest}
 use Rattle.net.proofs.Verdict.{AllHold, rules-hold, hold_rules}
 
 -- tokens that are equal on each place of a list
@@ -36,36 +36,36 @@ module _ (N : Net) (S : Slice) (Q : List ℕ) (g : Guarantee N S Q) where
   all_own ts f = f.0
 
   exactly : (ts : List ℕ) → AllAmong ts S.transition_origins → SliceFires S ts ↔ PlanFires N ts
-  exactly = g.fires-alike
+  exactly = g.fires_alike
 
-  fires-in_plan : (ts : List ℕ) → SliceFires S ts → PlanFires N ts
-  fires-in_plan ts f = (exactly ts (all_own ts f)).0 f
+  fires_in_plan : (ts : List ℕ) → SliceFires S ts → PlanFires N ts
+  fires_in_plan ts f = (exactly ts (all_own ts f)).0 f
 
   -- the tokens on Q after a list of the plan, and after what is left of it
   struck-ends : (ts : List ℕ) → PlanFires N ts → map (slice_tokens S (struck S ts)) Q ≡ map (plan_tokens N ts) Q
-  struck-ends ts f = map_same (slice_tokens S (struck S ts)) (plan_tokens N ts) Q (g.shadow-tokens ts f)
+  struck-ends ts f = map_same (slice_tokens S (struck S ts)) (plan_tokens N ts) Q (g.shadow_tokens ts f)
 
   -- and after a list of the slice
   own-ends : (ts : List ℕ) → SliceFires S ts → map (slice_tokens S ts) Q ≡ map (plan_tokens N ts) Q
   unfolding struck
-  own-ends ts f = rw (struck-own S.transition_origins ts (all_own ts f)) at (struck-ends ts (fires-in_plan ts f))
+  own-ends ts f = rw (struck-own S.transition_origins ts (all_own ts f)) at (struck-ends ts (fires_in_plan ts f))
 
   all-places : (ts : List ℕ) → SliceFires S ts → map (slice_tokens S ts) S.place_origins ≡ map (plan_tokens N ts) S.place_origins
-  all-places ts f = map_same (slice_tokens S ts) (plan_tokens N ts) S.place_origins (g.tokens-alike ts f)
+  all-places ts f = map_same (slice_tokens S ts) (plan_tokens N ts) S.place_origins (g.tokens_alike ts f)
 
-  pub same-verdict : (F : List ℕ → Type 0) → SameVerdict N S Q F
-  same-verdict F = record {
+  pub same_verdict : (F : List ℕ → Type 0) → SameVerdict N S Q F
+  same_verdict F = record {
     always = (
-      λ all ts f. subst⁻¹ F (own-ends ts f) (all ts (fires-in_plan ts f)),
-      λ all ts f. subst F (struck-ends ts f) (all (struck S ts) (g.shadow-fires ts f)),
+      λ all ts f. subst⁻¹ F (own-ends ts f) (all ts (fires_in_plan ts f)),
+      λ all ts f. subst F (struck-ends ts f) (all (struck S ts) (g.shadow_fires ts f)),
     );
     sometimes = (
-      λ (ts, f, h). (struck S ts, g.shadow-fires ts f, subst⁻¹ F (struck-ends ts f) h),
-      λ (ts, f, h). (ts, fires-in_plan ts f, subst F (own-ends ts f) h),
+      λ (ts, f, h). (struck S ts, g.shadow_fires ts f, subst⁻¹ F (struck-ends ts f) h),
+      λ (ts, f, h). (ts, fires_in_plan ts f, subst F (own-ends ts f) h),
     );
-    own-list = λ ts own. (
+    own_list = λ ts own. (
       λ (f, h). let s = (exactly ts own).1 f in (s, subst⁻¹ F (all-places ts s) h),
-      λ (f, h). (fires-in_plan ts f, subst F (all-places ts f) h),
+      λ (f, h). (fires_in_plan ts f, subst F (all-places ts f) h),
     );
   }
 
@@ -74,67 +74,67 @@ short_stuck : (N : Net) (t : ℕ) (M : Marking) (p n : ℕ) → ShortAt N t M p 
 unfolding Enabled Supplied
 short_stuck N t M p n s en = omega (arith, s.amount, s.some, en.0 p s.place)
 
-full-stuck : (N : Net) (t : ℕ) (M : Marking) (p n : ℕ) → FullAt N t M p n → ¬ Enabled N t M
+full_stuck : (N : Net) (t : ℕ) (M : Marking) (p n : ℕ) → FullAt N t M p n → ¬ Enabled N t M
 unfolding Enabled WithinCaps
-full-stuck N t M p n s en = omega (arith, s.amount, s.some, en.1 p s.place s.has_cap)
+full_stuck N t M p n s en = omega (arith, s.amount, s.some, en.1 p s.place s.has_cap)
 
-never-fires : (N : Net) (M : Marking) (ts : List ℕ) (k : ℕ) (m : Marking) → StuckAt N M ts k m → ¬ Enabled N (get_or ts k 0) m → (rest : List ℕ) → ¬ Fires N M (take (suc k) ts ++ rest)
+never_fires : (N : Net) (M : Marking) (ts : List ℕ) (k : ℕ) (m : Marking) → StuckAt N M ts k m → ¬ Enabled N (get_or ts k 0) m → (rest : List ℕ) → ¬ Fires N M (take (suc k) ts ++ rest)
 unfolding Fires after
-never-fires N M [] k m s off rest f = absurd (omega (arith, s.inside))
-never-fires N M (t ∷ ts) zero m s off rest f = off (subst⁻¹ (λ (x : Marking). Enabled N t x) s.ended f.1)
-never-fires N M (t ∷ ts) (suc k) m s off rest f =
-    never-fires N (fire N t M) ts k m (record { inside = omega (arith, s.inside); before = s.before.2; ended = s.ended }) off rest f.2
+never_fires N M [] k m s off rest f = absurd (omega (arith, s.inside))
+never_fires N M (t ∷ ts) zero m s off rest f = off (subst⁻¹ (λ (x : Marking). Enabled N t x) s.ended f.1)
+never_fires N M (t ∷ ts) (suc k) m s off rest f =
+    never_fires N (fire N t M) ts k m (record { inside = omega (arith, s.inside); before = s.before.2; ended = s.ended }) off rest f.2
 
 module _ (N : Net) (ts : List ℕ) (k : ℕ) (m : Marking) (s : StuckAt N N.marking ts k m) where
   for_good : ¬ Enabled N (get_or ts k 0) m → StuckForGood N ts k
   unfolding PlanFires
-  for_good off = record { before = s.before; never = never-fires N N.marking ts k m s off }
+  for_good off = record { before = s.before; never = never_fires N N.marking ts k m s off }
 
-  pub short-for_good : (p n : ℕ) → ShortAt N (get_or ts k 0) m p n → StuckForGood N ts k
-  short-for_good p n w = for_good (short_stuck N (get_or ts k 0) m p n w)
+  pub short_for_good : (p n : ℕ) → ShortAt N (get_or ts k 0) m p n → StuckForGood N ts k
+  short_for_good p n w = for_good (short_stuck N (get_or ts k 0) m p n w)
 
-  pub full-for_good : (p n : ℕ) → FullAt N (get_or ts k 0) m p n → StuckForGood N ts k
-  full-for_good p n w = for_good (full-stuck N (get_or ts k 0) m p n w)
+  pub full_for_good : (p n : ℕ) → FullAt N (get_or ts k 0) m p n → StuckForGood N ts k
+  full_for_good p n w = for_good (full_stuck N (get_or ts k 0) m p n w)
 
 -- a rising list within another that is no longer is that list
 tail-rises : (x : ℕ) (l : List ℕ) → Rising (x ∷ l) → Rising l
 unfolding Rising
 tail-rises x l r i h = r (suc i) (omega arith)
 
-above-head : (x : ℕ) (l : List ℕ) → Rising (x ∷ l) → (y : ℕ) → T (among y l) → x < y
-above-head x l r y h = omega (arith, at_position y l h, rising-lt (x ∷ l) r 0 (suc (position y l)) (omega arith) (omega (arith, position-lt y l h)))
+above_head : (x : ℕ) (l : List ℕ) → Rising (x ∷ l) → (y : ℕ) → T (among y l) → x < y
+above_head x l r y h = omega (arith, at_position y l h, rising_lt (x ∷ l) r 0 (suc (position y l)) (omega arith) (omega (arith, position-lt y l h)))
 
-from-head : (x : ℕ) (l : List ℕ) → Rising (x ∷ l) → (y : ℕ) → T (among y (x ∷ l)) → x ≤ y
+from_head : (x : ℕ) (l : List ℕ) → Rising (x ∷ l) → (y : ℕ) → T (among y (x ∷ l)) → x ≤ y
 unfolding among
-from-head x l r y h = by_or (eqb y x) (among y l) h (λ e. omega (arith, eqb→eq y x e)) (λ k. omega (arith, above-head x l r y k))
+from_head x l r y h = by_or (eqb y x) (among y l) h (λ e. omega (arith, eqb→eq y x e)) (λ k. omega (arith, above_head x l r y k))
 
 past_head : (x : ℕ) (l : List ℕ) (y : ℕ) → T (among y (x ∷ l)) → x < y → T (among y l)
 unfolding among
 past_head x l y h k = by_or (eqb y x) (among y l) h (λ e. absurd (omega (arith, eqb→eq y x e))) (λ i. i)
 
-pub same-rising : (l m : List ℕ) → Rising l → Rising m → ((x : ℕ) → T (among x l) → T (among x m)) → length m ≤ length l → l ≡ m
+pub same_rising : (l m : List ℕ) → Rising l → Rising m → ((x : ℕ) → T (among x l) → T (among x m)) → length m ≤ length l → l ≡ m
 unfolding among
-same-rising [] [] r s w h = refl
-same-rising [] (y ∷ m) r s w h = absurd (omega arith)
-same-rising (x ∷ l) [] r s w h = absurd (w x (or_left (eqb x x) (among x l) (eqb_refl x)))
-same-rising (x ∷ l) (y ∷ m) r s w h =
+same_rising [] [] r s w h = refl
+same_rising [] (y ∷ m) r s w h = absurd (omega arith)
+same_rising (x ∷ l) [] r s w h = absurd (w x (or_left (eqb x x) (among x l) (eqb_refl x)))
+same_rising (x ∷ l) (y ∷ m) r s w h =
     by_or (eqb x y) (among x m) (w x (or_left (eqb x x) (among x l) (eqb_refl x)))
     (λ e. let d : x ≡ y = eqb→eq x y e in
-    let rest = same-rising l m (tail-rises x l r) (tail-rises y m s)
-    (λ z k. past_head y m z (w z (or_right (eqb z x) (among z l) k)) (omega (arith, above-head x l r z k))) (omega arith) in
+    let rest = same_rising l m (tail-rises x l r) (tail-rises y m s)
+    (λ z k. past_head y m z (w z (or_right (eqb z x) (among z l) k)) (omega (arith, above_head x l r z k))) (omega arith) in
     cc (d, rest))
-    (λ k. let y<x = above-head y m s x k in
-    absurd (omega (arith, fewest (x ∷ l) m r (tail-rises y m s) (λ z i. past_head y m z (w z i) (omega (arith, from-head x l r z i))))))
+    (λ k. let y<x = above_head y m s x k in
+    absurd (omega (arith, fewest (x ∷ l) m r (tail-rises y m s) (λ z i. past_head y m z (w z i) (omega (arith, from_head x l r z i))))))
 
 -- a slice that contains another and is no larger has exactly its places and transitions
 pub same_kept : (S C : Slice) → WellFormed S → WellFormed C → Contains S C
     → S.net.places + S.net.transitions ≤ C.net.places + C.net.transitions → SameKept S C
 same_kept S C s c has small =
-    let fewer-places : S.net.places ≤ C.net.places = omega (arith, has.transition-count) in
-    let fewer-transitions : S.net.transitions ≤ C.net.transitions = omega (arith, has.place-count) in
+    let fewer-places : S.net.places ≤ C.net.places = omega (arith, has.transition_count) in
+    let fewer-transitions : S.net.transitions ≤ C.net.transitions = omega (arith, has.place_count) in
     record {
-      places = sym (same-rising C.place_origins S.place_origins c.places-rise s.places-rise has.places (omega (arith, s.place-count, c.place-count)));
-      transitions = sym (same-rising C.transition_origins S.transition_origins c.transitions-rise s.transitions-rise has.transitions (omega (arith, s.transition-count, c.transition-count)));
+      places = sym (same_rising C.place_origins S.place_origins c.places_rise s.places_rise has.places (omega (arith, s.place_count, c.place_count)));
+      transitions = sym (same_rising C.transition_origins S.transition_origins c.transitions_rise s.transitions_rise has.transitions (omega (arith, s.transition_count, c.transition_count)));
     }
 
 -- a rule that stands nowhere holds
@@ -190,8 +190,8 @@ place-told i [] k n b = absurd b
 place-told i (R ∷ l) k n (inl (e, inside, b, low)) = (0, omega arith, head-told R l n inside b low)
 place-told i (R ∷ l) k n (inr (h, b)) = let r = place-told (suc i) l k n b in (suc r.0, omega (arith, r.1), tail-told R l r.0 n h r.2)
 
-pub broken-first : (l : List Rule) (k n : ℕ) → FirstBroken 1 l k n → BrokenFirst l k n
-broken-first l k n b =
+pub broken_first : (l : List Rule) (k n : ℕ) → FirstBroken 1 l k n → BrokenFirst l k n
+broken_first l k n b =
     let r = place-told 1 l k n b in
     let k≡ : suc r.0 ≡ k = omega (arith, r.1) in
     subst (λ (j : ℕ). BrokenFirst l j n) k≡ r.2

@@ -17,7 +17,7 @@ use Rattle.net.proofs.Numbers.{by_cases, by_or, holds, fails, not-not, or_left, 
 use Rattle.net.proofs.Subnet.{in_plan}
 use Rattle.net.proofs.Closure.{Closed, computed_closed}
 use Rattle.net.proofs.Contained.{closed_contains}
-use Rattle.net.proofs.Theorem.{needs-kept, guarantee}
+use Rattle.net.proofs.Theorem.{needs_kept, guarantee}
 
 -- left out and unseen: by firing, and by the effect
 module _ (N : Net) (S : Slice) where
@@ -33,13 +33,13 @@ module _ (N : Net) (S : Slice) where
       (λ e. absurd (alone_unchanged t p (u t p (λ q. input N q t) l (fails _ e) hp (λ q h. omega arith)) c))
 
   -- and what does not change p leaves its tokens
-  unchanged-alone : (t p : ℕ) (M : Marking) → ¬ T (changes N t p) → input N p t ≤ M p → fire N t M p ≡ M p
+  unchanged_alone : (t p : ℕ) (M : Marking) → ¬ T (changes N t p) → input N p t ≤ M p → fire N t M p ≡ M p
   unfolding fire changes
-  unchanged-alone t p M n h = omega (arith, eqb→eq (input N p t) (output N p t) (not-not (eqb (input N p t) (output N p t)) n))
+  unchanged_alone t p M n h = omega (arith, eqb→eq (input N p t) (output N p t) (not-not (eqb (input N p t) (output N p t)) n))
 
   pub undisturbed : Subnet N S → KeepsChangers N S → Undisturbed N S
   unfolding KeepsChangers Undisturbed Supplied
-  undisturbed sub keeps t p M l out hp s = unchanged-alone t p M (λ c. out (keeps t p l hp c)) (s p (in_plan N S sub p hp))
+  undisturbed sub keeps t p M l out hp s = unchanged_alone t p M (λ c. out (keeps t p l hp c)) (s p (in_plan N S sub p hp))
 
 -- the branching cut leaves out nothing that changes a kept place
 pub branching-changers : (N : Net) (Q : List ℕ) → ((q : ℕ) → T (among q Q) → q < N.places) → KeepsChangers N (branching_cut N Q)
@@ -52,12 +52,12 @@ module _ (N : Net) (S : Slice) (Q : List ℕ) (ok : Accepted N S Q) (keeps : Kee
   unfolding KeepsChangers
   all-places = record {
     subnet = ok.subnet;
-    criterion-kept = λ p h. h;
-    changers-kept = keeps;
-    inputs-kept = ok.inputs-kept;
-    raisers-kept = ok.raisers-kept;
-    outputs-kept = ok.outputs-kept;
-    cap-changers_kept = ok.cap-changers_kept;
+    criterion_kept = λ p h. h;
+    changers_kept = keeps;
+    inputs_kept = ok.inputs_kept;
+    raisers_kept = ok.raisers_kept;
+    outputs_kept = ok.outputs_kept;
+    cap_changers_kept = ok.cap_changers_kept;
   }
 
   -- so the tokens are equal on each of them
@@ -68,8 +68,8 @@ module _ (N : Net) (S : Slice) (Q : List ℕ) (ok : Accepted N S Q) (keeps : Kee
   branching-closed : Closed (branching N Q) (HasPlace S) (HasTransition S)
   unfolding branching growth KeepsChangers
   branching-closed = record {
-    criterion-in = ok.criterion-kept;
-    needed-in = needs-kept N S Q ok;
+    criterion_in = ok.criterion_kept;
+    needed_in = needs_kept N S Q ok;
     drawn-in = λ p t hp l d. by_or (changes N t p) (capped N p && changes N t p) d
         (λ c. keeps t p l hp c)
         (λ c. keeps t p l hp (and_right (capped N p) (changes N t p) c));
@@ -77,7 +77,7 @@ module _ (N : Net) (S : Slice) (Q : List ℕ) (ok : Accepted N S Q) (keeps : Kee
 
   known : (q : ℕ) → T (among q (branching N Q).criterion) → q < (branching N Q).places
   unfolding branching growth
-  known q h = in_plan N S ok.subnet q (ok.criterion-kept q h)
+  known q h = in_plan N S ok.subnet q (ok.criterion_kept q h)
 
-  pub contains-branching : Contains S (branching_cut N Q)
-  contains-branching = closed_contains N S (branching N Q) ok.subnet.well_formed branching-closed known
+  pub contains_branching : Contains S (branching_cut N Q)
+  contains_branching = closed_contains N S (branching N Q) ok.subnet.well_formed branching-closed known

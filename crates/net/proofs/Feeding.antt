@@ -64,21 +64,21 @@ module _ (f : ℕ → ℕ) where
 
 -- W with a transition's input places
 module _ (N : Net) (t : ℕ) (W : List ℕ) where
-  pub added-inputs : (p : ℕ) → p < N.places → T (takes_from N t p) → T (among p (with_inputs N t W))
+  pub added_inputs : (p : ℕ) → p < N.places → T (takes_from N t p) → T (among p (with_inputs N t W))
   unfolding with_inputs
-  added-inputs p l h = below-has _ N.places p l (or_right (among p W) _ h)
+  added_inputs p l h = below-has _ N.places p l (or_right (among p W) _ h)
 
-  pub added-keeps : (p : ℕ) → p < N.places → T (among p W) → T (among p (with_inputs N t W))
+  pub added_keeps : (p : ℕ) → p < N.places → T (among p W) → T (among p (with_inputs N t W))
   unfolding with_inputs
-  added-keeps p l h = below-has _ N.places p l (or_left (among p W) _ h)
+  added_keeps p l h = below-has _ N.places p l (or_left (among p W) _ h)
 
-  pub added-below : (p : ℕ) → T (among p (with_inputs N t W)) → (p < N.places) × T (among p W || takes_from N t p)
+  pub added_below : (p : ℕ) → T (among p (with_inputs N t W)) → (p < N.places) × T (among p W || takes_from N t p)
   unfolding with_inputs
-  added-below p h = below-passes _ N.places p h
+  added_below p h = below-passes _ N.places p h
 
-  pub added-rises : Rising (with_inputs N t W)
+  pub added_rises : Rising (with_inputs N t W)
   unfolding with_inputs
-  added-rises = selected-rises _ 0 N.places
+  added_rises = selected-rises _ 0 N.places
 
 module _ (N : Net) (Q : List ℕ) (known : (q : ℕ) → T (among q Q) → q < N.places) where
   pub fed-below : (i : ℕ) (ts : List ℕ) (p : ℕ) → T (among p (feed N Q i ts).places) → p < N.places
@@ -86,7 +86,7 @@ module _ (N : Net) (Q : List ℕ) (known : (q : ℕ) → T (among q Q) → q < N
   fed-below i [] p h = known p h
   fed-below i (t ∷ ts) p h =
       by_cases (any (raises N t) (feed N Q (suc i) ts).places)
-      (λ e. (added-below N t (feed N Q (suc i) ts).places p (rw (e, feed) at h)).0)
+      (λ e. (added_below N t (feed N Q (suc i) ts).places p (rw (e, feed) at h)).0)
       (λ e. fed-below (suc i) ts p (rw (e, feed) at h))
 
   pub fed-rises : Rising Q → (i : ℕ) (ts : List ℕ) → Rising (feed N Q i ts).places
@@ -94,7 +94,7 @@ module _ (N : Net) (Q : List ℕ) (known : (q : ℕ) → T (among q Q) → q < N
   fed-rises rise i [] = rise
   fed-rises rise i (t ∷ ts) =
       by_cases (any (raises N t) (feed N Q (suc i) ts).places)
-      (λ e. rw (e, feed) (added-rises N t (feed N Q (suc i) ts).places))
+      (λ e. rw (e, feed) (added_rises N t (feed N Q (suc i) ts).places))
       (λ e. rw (e, feed) (fed-rises rise (suc i) ts))
 
   -- W only grows on the way back
@@ -102,7 +102,7 @@ module _ (N : Net) (Q : List ℕ) (known : (q : ℕ) → T (among q Q) → q < N
   unfolding feed
   fed-stays i t ts p h =
       by_cases (any (raises N t) (feed N Q (suc i) ts).places)
-      (λ e. rw (e, feed) (added-keeps N t (feed N Q (suc i) ts).places p (fed-below (suc i) ts p h) h))
+      (λ e. rw (e, feed) (added_keeps N t (feed N Q (suc i) ts).places p (fed-below (suc i) ts p h) h))
       (λ e. rw (e, feed) h)
 
   -- so a chosen transition raises a place of every earlier W
@@ -122,36 +122,36 @@ module _ (N : Net) (Q : List ℕ) (known : (q : ℕ) → T (among q Q) → q < N
       (λ e. raiser_stays i t ts u (chosen-raises (suc i) ts u (rw (e, feed) at h)))
 
   -- positions
-  pub positions-from : (i : ℕ) (ts : List ℕ) (k : ℕ) → T (among k (feed N Q i ts).positions) → (i ≤ k) × (k < i + length ts)
+  pub positions_from : (i : ℕ) (ts : List ℕ) (k : ℕ) → T (among k (feed N Q i ts).positions) → (i ≤ k) × (k < i + length ts)
   unfolding feed among
-  positions-from i [] k h = absurd h
-  positions-from i (t ∷ ts) k h =
+  positions_from i [] k h = absurd h
+  positions_from i (t ∷ ts) k h =
       by_cases (any (raises N t) (feed N Q (suc i) ts).places)
       (λ e. by_or (eqb k i) (among k (feed N Q (suc i) ts).positions) (rw (e, feed) at h)
       (λ d. let z = eqb→eq k i d in (omega arith, omega arith))
-      (λ d. let r = positions-from (suc i) ts k d in (omega arith, omega arith)))
-      (λ e. let r = positions-from (suc i) ts k (rw (e, feed) at h) in (omega arith, omega arith))
+      (λ d. let r = positions_from (suc i) ts k d in (omega arith, omega arith)))
+      (λ e. let r = positions_from (suc i) ts k (rw (e, feed) at h) in (omega arith, omega arith))
 
   none_before : (i : ℕ) (ts : List ℕ) → among i (feed N Q (suc i) ts).positions ≡ false
-  none_before i ts = is_false _ (λ h. let r = positions-from (suc i) ts i h in omega arith)
+  none_before i ts = is_false _ (λ h. let r = positions_from (suc i) ts i h in omega arith)
 
-  pub positions-selected : (i : ℕ) (ts : List ℕ) → (feed N Q i ts).positions ≡ selected (λ k. among k (feed N Q i ts).positions) i (length ts)
+  pub positions_selected : (i : ℕ) (ts : List ℕ) → (feed N Q i ts).positions ≡ selected (λ k. among k (feed N Q i ts).positions) i (length ts)
   unfolding feed among selected
-  positions-selected i [] = refl
-  positions-selected i (t ∷ ts) =
+  positions_selected i [] = refl
+  positions_selected i (t ∷ ts) =
       let r = (feed N Q (suc i) ts).positions in
       by_cases (any (raises N t) (feed N Q (suc i) ts).places)
       (λ e. let p : (feed N Q i (t ∷ ts)).positions ≡ i ∷ r = rw (e, feed) in
       let first : selected (λ k. among k (i ∷ r)) i (suc (length ts)) ≡ i ∷ selected (λ k. among k (i ∷ r)) (suc i) (length ts) = rw (is_true (eqb i i) (eqb_refl i), selected) in
-      p ∙ ap (λ (l : List ℕ). i ∷ l) (positions-selected (suc i) ts ∙ selected-same (λ k. among k r) (λ k. among k (i ∷ r)) (suc i) (length ts)
+      p ∙ ap (λ (l : List ℕ). i ∷ l) (positions_selected (suc i) ts ∙ selected-same (λ k. among k r) (λ k. among k (i ∷ r)) (suc i) (length ts)
       (λ x l u. let d = ne_eqb x i (λ z. omega arith) in rw d))
       ∙ sym first ∙ ap (λ (l : List ℕ). selected (λ k. among k l) i (suc (length ts))) (sym p))
       (λ e. let p : (feed N Q i (t ∷ ts)).positions ≡ r = rw (e, feed) in
       let next : selected (λ k. among k r) i (suc (length ts)) ≡ selected (λ k. among k r) (suc i) (length ts) = rw (none_before i ts, selected) in
-      p ∙ positions-selected (suc i) ts ∙ sym next ∙ ap (λ (l : List ℕ). selected (λ k. among k l) i (suc (length ts))) (sym p))
+      p ∙ positions_selected (suc i) ts ∙ sym next ∙ ap (λ (l : List ℕ). selected (λ k. among k l) i (suc (length ts))) (sym p))
 
-  pub positions-few : (i : ℕ) (ts : List ℕ) → length (feed N Q i ts).positions ≤ length ts
-  positions-few i ts = omega (arith, ap length (positions-selected i ts), length-selected (λ k. among k (feed N Q i ts).positions) i (length ts))
+  pub positions_few : (i : ℕ) (ts : List ℕ) → length (feed N Q i ts).positions ≤ length ts
+  positions_few i ts = omega (arith, ap length (positions_selected i ts), length-selected (λ k. among k (feed N Q i ts).positions) i (length ts))
 
   -- the transitions chosen are those at the positions chosen
   pub chosen_at : (f : ℕ → ℕ) (i : ℕ) (ts : List ℕ) → ((k : ℕ) → k < length ts → f (i + k) ≡ get_or ts k 0) → (feed N Q i ts).chosen ≡ map f (feed N Q i ts).positions
@@ -169,7 +169,7 @@ module _ (N : Net) (Q : List ℕ) (known : (q : ℕ) → T (among q Q) → q < N
     later : (i : ℕ) (ts : List ℕ) (u : ℕ) → 0 < upto f (feed N Q (suc i) ts).positions u → suc i < upto f (feed N Q (suc i) ts).positions u
     later i ts u h =
         let s = upto_there f (feed N Q (suc i) ts).positions u h in
-        let r = positions-from (suc i) ts s.0 s.2 in
+        let r = positions_from (suc i) ts s.0 s.2 in
         let e = s.1 in omega arith
 
     -- a firing that is not chosen is of no transition chosen later

@@ -29,8 +29,8 @@ joins-parallel a b e =
       place = sym (eqb-true b.place a.place two.1);
     }
 
-pub same-joins : (d p t : ℕ) (a b : Arc) → Parallel a b → joins d p t a ≡ joins d p t b
-same-joins d p t a b x = λ i. eqb (x.transition i) t && eqb (x.direction i) d && eqb (x.place i) p
+pub same_joins : (d p t : ℕ) (a b : Arc) → Parallel a b → joins d p t a ≡ joins d p t b
+same_joins d p t a b x = λ i. eqb (x.transition i) t && eqb (x.direction i) d && eqb (x.place i) p
 
 -- ---- one arc before joined arcs
 
@@ -47,22 +47,22 @@ module _ (d p t : ℕ) where
   counted-sum true x y = refl
   counted-sum false x y = refl
 
-  weight-to : (a : Arc) (l : List Arc) → weight_on d p t (joined_to a l) ≡ weight_on d p t (a ∷ l)
+  weight_to : (a : Arc) (l : List Arc) → weight_on d p t (joined_to a l) ≡ weight_on d p t (a ∷ l)
   unfolding weight_on joined_to
-  weight-to a [] = refl
-  weight-to a (b ∷ rest) =
+  weight_to a [] = refl
+  weight_to a (b ∷ rest) =
       by_cases (joins a.direction a.place a.transition b)
-      (λ e. let same = same-joins d p t a b (joins-parallel a b e) in
+      (λ e. let same = same_joins d p t a b (joins-parallel a b e) in
       ap (weight_on d p t) (joined-one a b rest e)
       ∙ (let s = counted-sum (joins d p t a) a.weight b.weight in
       let k = ap (λ (x : Bool). counted x b.weight) same in
       omega (arith, s, k)))
       (λ e. ap (weight_on d p t) (joined-more a b rest e))
 
-  pub weight-joined : (l : List Arc) → weight_on d p t (joined l) ≡ weight_on d p t l
+  pub weight_joined : (l : List Arc) → weight_on d p t (joined l) ≡ weight_on d p t l
   unfolding weight_on joined
-  weight-joined [] = refl
-  weight-joined (a ∷ rest) = weight-to a (joined rest) ∙ ap (λ (w : ℕ). counted (joins d p t a) a.weight + w) (weight-joined rest)
+  weight_joined [] = refl
+  weight_joined (a ∷ rest) = weight_to a (joined rest) ∙ ap (λ (w : ℕ). counted (joins d p t a) a.weight + w) (weight_joined rest)
 
 -- ---- firing goes by in and out alone
 
@@ -72,19 +72,19 @@ module _ (N : Net) where
 
   inputs : (p t : ℕ) → input N p t ≡ input N' p t
   unfolding input normal_of
-  inputs p t = sym (weight-joined 0 p t N.arcs)
+  inputs p t = sym (weight_joined 0 p t N.arcs)
 
   outputs : (p t : ℕ) → output N p t ≡ output N' p t
   unfolding output normal_of
-  outputs p t = sym (weight-joined 1 p t N.arcs)
+  outputs p t = sym (weight_joined 1 p t N.arcs)
 
-  pub same-net : SameNet N N'
+  pub same_net : SameNet N N'
   unfolding normal_of
-  same-net = record { places = refl; transitions = refl; markings = λ p l. refl; caps = λ p l. refl; inputs = λ p t l m. inputs p t; outputs = λ p t l m. outputs p t }
+  same_net = record { places = refl; transitions = refl; markings = λ p l. refl; caps = λ p l. refl; inputs = λ p t l m. inputs p t; outputs = λ p t l m. outputs p t }
 
-  same-fire : (t : ℕ) (M : Marking) → fire N t M ≡ fire N' t M
+  same_fire : (t : ℕ) (M : Marking) → fire N t M ≡ fire N' t M
   unfolding fire
-  same-fire t M = λ i p. M p - inputs p t i + outputs p t i
+  same_fire t M = λ i p. M p - inputs p t i + outputs p t i
 
   same_inputs : (t : ℕ) (M : Marking) → test_inputs N t M ≡ test_inputs N' t M
   unfolding test_inputs short_place normal_of
@@ -92,46 +92,46 @@ module _ (N : Net) where
       let p = first (λ q. ltb (M q) (inputs q t i)) 0 N.places in
       elim (ltb p N.places) [ true ↦ short p (inputs p t i - M p) | false ↦ passes ]
 
-  same-caps : (t : ℕ) (M : Marking) → test_caps N t M ≡ test_caps N' t M
+  same_caps : (t : ℕ) (M : Marking) → test_caps N t M ≡ test_caps N' t M
   unfolding test_caps full_place capped normal_of
-  same-caps t M = λ i.
-      let p = first (λ q. ltb 0 (N.cap q) && ltb (N.cap q) (same-fire t M i q)) 0 N.places in
-      elim (ltb p N.places) [ true ↦ full p (same-fire t M i p - N.cap p) | false ↦ passes ]
+  same_caps t M = λ i.
+      let p = first (λ q. ltb 0 (N.cap q) && ltb (N.cap q) (same_fire t M i q)) 0 N.places in
+      elim (ltb p N.places) [ true ↦ full p (same_fire t M i p - N.cap p) | false ↦ passes ]
 
   same_test : (t : ℕ) (M : Marking) → test_firing N t M ≡ test_firing N' t M
   unfolding test_firing
-  same_test t M = λ i. then_by (same_inputs t M i) (same-caps t M i)
+  same_test t M = λ i. then_by (same_inputs t M i) (same_caps t M i)
 
   same_after : (M : Marking) (ts : List ℕ) → after N M ts ≡ after N' M ts
   unfolding after
   same_after M [] = refl
-  same_after M (t ∷ ts) = same_after (fire N t M) ts ∙ ap (λ (m : Marking). after N' m ts) (same-fire t M)
+  same_after M (t ∷ ts) = same_after (fire N t M) ts ∙ ap (λ (m : Marking). after N' m ts) (same_fire t M)
 
-  same-replay : (i : ℕ) (M : Marking) (ts : List ℕ) → replay_from N i M ts ≡ replay_from N' i M ts
+  same_replay : (i : ℕ) (M : Marking) (ts : List ℕ) → replay_from N i M ts ≡ replay_from N' i M ts
   unfolding replay_from
-  same-replay i M [] = refl
-  same-replay i M (t ∷ ts) = λ k. elim (same_test t M k) [
-    | passes ↦ (same-replay (suc i) (fire N t M) ts ∙ ap (λ (m : Marking). replay_from N' (suc i) m ts) (same-fire t M)) k
+  same_replay i M [] = refl
+  same_replay i M (t ∷ ts) = λ k. elim (same_test t M k) [
+    | passes ↦ (same_replay (suc i) (fire N t M) ts ∙ ap (λ (m : Marking). replay_from N' (suc i) m ts) (same_fire t M)) k
     | short p n ↦ record { answer = short i p n; marking = M }
     | full p n ↦ record { answer = full i p n; marking = M }
   ]
 
-  same-enabled : (t : ℕ) (M : Marking) → Enabled N t M ≡ Enabled N' t M
+  same_enabled : (t : ℕ) (M : Marking) → Enabled N t M ≡ Enabled N' t M
   unfolding Enabled Supplied WithinCaps capped normal_of
-  same-enabled t M = λ i. ((p : ℕ) → p < N.places → inputs p t i ≤ M p) × ((p : ℕ) → p < N.places → T (ltb 0 (N.cap p)) → same-fire t M i p ≤ N.cap p)
+  same_enabled t M = λ i. ((p : ℕ) → p < N.places → inputs p t i ≤ M p) × ((p : ℕ) → p < N.places → T (ltb 0 (N.cap p)) → same_fire t M i p ≤ N.cap p)
 
-  same-fires : (M : Marking) (ts : List ℕ) → Fires N M ts ≡ Fires N' M ts
+  same_fires : (M : Marking) (ts : List ℕ) → Fires N M ts ≡ Fires N' M ts
   unfolding Fires normal_of
-  same-fires M [] = refl
-  same-fires M (t ∷ ts) = λ i. (t < N.transitions) × same-enabled t M i × (same-fires (fire N t M) ts ∙ ap (λ (m : Marking). Fires N' m ts) (same-fire t M)) i
+  same_fires M [] = refl
+  same_fires M (t ∷ ts) = λ i. (t < N.transitions) × same_enabled t M i × (same_fires (fire N t M) ts ∙ ap (λ (m : Marking). Fires N' m ts) (same_fire t M)) i
 
-  pub fares-alike : FaresAlike N N'
+  pub fares_alike : FaresAlike N N'
   unfolding normal_of
-  fares-alike = record {
+  fares_alike = record {
     start = refl;
-    fires = λ M ts. (subst (λ (X : Type 0). X) (same-fires M ts), subst (λ (X : Type 0). X) (sym (same-fires M ts)));
+    fires = λ M ts. (subst (λ (X : Type 0). X) (same_fires M ts), subst (λ (X : Type 0). X) (sym (same_fires M ts)));
     ends = same_after;
-    replays = same-replay;
+    replays = same_replay;
   }
 
 -- ---- the same net, the same fate: both ways, and through a third
@@ -146,8 +146,8 @@ same_back x = record {
   outputs = λ p t l m. sym (x.outputs p t (rw x.places l) (rw x.transitions m));
 }
 
-pub same-through : {N N' N'' : Net} → SameNet N N' → SameNet N' N'' → SameNet N N''
-same-through x y = record {
+pub same_through : {N N' N'' : Net} → SameNet N N' → SameNet N' N'' → SameNet N N''
+same_through x y = record {
   places = x.places ∙ y.places;
   transitions = x.transitions ∙ y.transitions;
   markings = λ p l. x.markings p l ∙ y.markings p (rw x.places at l);
@@ -156,16 +156,16 @@ same-through x y = record {
   outputs = λ p t l m. x.outputs p t l m ∙ y.outputs p t (rw x.places at l) (rw x.transitions at m);
 }
 
-pub alike-back : {N N' : Net} → FaresAlike N N' → FaresAlike N' N
-alike-back x = record {
+pub alike_back : {N N' : Net} → FaresAlike N N' → FaresAlike N' N
+alike_back x = record {
   start = sym x.start;
   fires = λ M ts. ((x.fires M ts).1, (x.fires M ts).0);
   ends = λ M ts. sym (x.ends M ts);
   replays = λ i M ts. sym (x.replays i M ts);
 }
 
-pub alike-through : {N N' N'' : Net} → FaresAlike N N' → FaresAlike N' N'' → FaresAlike N N''
-alike-through x y = record {
+pub alike_through : {N N' N'' : Net} → FaresAlike N N' → FaresAlike N' N'' → FaresAlike N N''
+alike_through x y = record {
   start = x.start ∙ y.start;
   fires = λ M ts. (λ f. (y.fires M ts).0 ((x.fires M ts).0 f), λ f. (x.fires M ts).1 ((y.fires M ts).1 f));
   ends = λ M ts. x.ends M ts ∙ y.ends M ts;

@@ -12,28 +12,28 @@ use Rattle.net.specs.Numbers.{among, any, selected}
 use Rattle.net.specs.Net.{Marking, Net, input, output, fire, Uncapped, Supplied, Enabled, Fires, after}
 use Rattle.net.specs.Range
 use Rattle.net.proofs.Numbers.{by_cases, holds, is_true, fails, is_false, or_left, or_right, any-has, any-finds, below-passes, below-has}
-use Rattle.net.proofs.Uncapped.{uncapped-enabled}
+use Rattle.net.proofs.Uncapped.{uncapped_enabled}
 
 -- ---- the need
 
-pub fires-need : (N : Net) → Uncapped N → (M : Marking) (ts : List ℕ) → ((t : ℕ) → T (among t ts) → t < N.transitions) → Fires N M ts ↔ Range.Covers N M (Range.need N ts)
+pub fires_need : (N : Net) → Uncapped N → (M : Marking) (ts : List ℕ) → ((t : ℕ) → T (among t ts) → t < N.transitions) → Fires N M ts ↔ Range.Covers N M (Range.need N ts)
 unfolding Fires Range.need Range.Covers Supplied Enabled fire
-fires-need N none M [] known = (λ f p l. omega arith, λ h. tt)
-fires-need N none M (t ∷ ts) known =
-    let rest = fires-need N none (fire N t M) ts (λ u h. known u (unfold among in or_right (eqb u t) (among u ts) h)) in (
+fires_need N none M [] known = (λ f p l. omega arith, λ h. tt)
+fires_need N none M (t ∷ ts) known =
+    let rest = fires_need N none (fire N t M) ts (λ u h. known u (unfold among in or_right (eqb u t) (among u ts) h)) in (
       λ f p l. omega (arith, f.1.0 p l, rest.0 f.2 p l),
       λ h. (
         known t (unfold among in or_left (eqb t t) (among t ts) (eqb_refl t)),
-        uncapped-enabled N none t M (λ p l. omega (arith, h p l)),
+        uncapped_enabled N none t M (λ p l. omega (arith, h p l)),
         rest.1 (λ p l. omega (arith, h p l)),
       ),
     )
 
 -- a firing adds an input at most
-pub need-low : (N : Net) (b : ℕ) → ((p t : ℕ) → input N p t ≤ b) → (ts : List ℕ) (p : ℕ) → Range.need N ts p ≤ b * length ts
+pub need_low : (N : Net) (b : ℕ) → ((p t : ℕ) → input N p t ≤ b) → (ts : List ℕ) (p : ℕ) → Range.need N ts p ≤ b * length ts
 unfolding Range.need
-need-low N b small [] p = omega arith
-need-low N b small (t ∷ ts) p = omega (arith, small p t, need-low N b small ts p)
+need_low N b small [] p = omega arith
+need_low N b small (t ∷ ts) p = omega (arith, small p t, need_low N b small ts p)
 
 -- and leaves an output more at most
 pub after-low : (N : Net) (b : ℕ) → ((p t : ℕ) → output N p t ≤ b) → (M : Marking) (ts : List ℕ) (p : ℕ) → after N M ts p ≤ M p + b * length ts
@@ -46,16 +46,16 @@ pub needs : (N : Net) → Uncapped N → (ts : List ℕ) → ((t : ℕ) → T (a
     → (needed : Marking) → ((p : ℕ) → p < N.places → needed p ≡ Range.need N ts p) → Range.Needs N ts needed
 unfolding Range.Covers
 needs N none ts known needed same =
-    let law : (M : Marking) → Fires N M ts ↔ Range.Covers N M (Range.need N ts) = λ M. fires-need N none M ts known in
+    let law : (M : Marking) → Fires N M ts ↔ Range.Covers N M (Range.need N ts) = λ M. fires_need N none M ts known in
     record {
       exactly = λ M. (λ f p l. omega (arith, (law M).0 f p l, same p l), λ h. (law M).1 (λ p l. omega (arith, h p l, same p l)));
       itself = (law needed).1 (λ p l. omega (arith, same p l));
       least = λ M f p l. omega (arith, (law M).0 f p l, same p l);
     }
 
-pub more-is_enough : (N : Net) (ts : List ℕ) (needed : Marking) → Range.Needs N ts needed → Range.MoreIsEnough N ts
+pub more_is_enough : (N : Net) (ts : List ℕ) (needed : Marking) → Range.Needs N ts needed → Range.MoreIsEnough N ts
 unfolding Range.Covers
-more-is_enough N ts needed x = record { more = λ M M' c f. (x.exactly M').1 (λ p l. omega (arith, (x.exactly M).0 f p l, c p l)) }
+more_is_enough N ts needed x = record { more = λ M M' c f. (x.exactly M').1 (λ p l. omega (arith, (x.exactly M).0 f p l, c p l)) }
 
 -- ---- the test
 
@@ -105,17 +105,17 @@ module _ (N : Net) (none : Uncapped N) (upper : Marking) (ts : List ℕ) (known 
   -- a list that fires from a marking fires from one that covers it
   from_lowest : Range.covers N N.marking Needed ≡ true → Range.FromEvery N upper ts
   unfolding Range.Between Range.Covers
-  from_lowest e M b = (fires-need N none M ts known).1 (λ p l. omega (arith, covers-yes N N.marking Needed e p l, (b p l).0))
+  from_lowest e M b = (fires_need N none M ts known).1 (λ p l. omega (arith, covers-yes N N.marking Needed e p l, (b p l).0))
 
   not-lowest : Range.covers N N.marking Needed ≡ false → ¬ Fires N N.marking ts
-  not-lowest e f = fails _ e (holds _ (covers-is N N.marking Needed ((fires-need N none N.marking ts known).0 f)))
+  not-lowest e f = fails _ e (holds _ (covers-is N N.marking Needed ((fires_need N none N.marking ts known).0 f)))
 
-  from-highest : Range.covers N upper Needed ≡ true → Fires N upper ts
-  from-highest e = (fires-need N none upper ts known).1 (covers-yes N upper Needed e)
+  from_highest : Range.covers N upper Needed ≡ true → Fires N upper ts
+  from_highest e = (fires_need N none upper ts known).1 (covers-yes N upper Needed e)
 
   not-highest : Range.covers N upper Needed ≡ false → Range.FromNone N upper ts
   unfolding Range.Between Range.Covers
-  not-highest e M b f = fails _ e (holds _ (covers-is N upper Needed (λ p l. omega (arith, (fires-need N none M ts known).0 f p l, (b p l).1))))
+  not-highest e M b f = fails _ e (holds _ (covers-is N upper Needed (λ p l. omega (arith, (fires_need N none M ts known).0 f p l, (b p l).1))))
 
   -- what each extent means
   Means : Range.Extent → Type 0
@@ -129,7 +129,7 @@ module _ (N : Net) (none : Uncapped N) (upper : Marking) (ts : List ℕ) (known 
       by_cases (Range.covers N N.marking Needed)
       (λ e. rw (e, Range.extent) (from_lowest e))
       (λ e. by_cases (Range.covers N upper Needed)
-      (λ u. rw (e, u, Range.extent) ((upper, highest, from-highest u), (N.marking, lowest, not-lowest e)))
+      (λ u. rw (e, u, Range.extent) ((upper, highest, from_highest u), (N.marking, lowest, not-lowest e)))
       (λ u. rw (e, u, Range.extent) (not-highest u)))
 
   -- no two extents mean what is so
@@ -154,14 +154,14 @@ module _ (N : Net) (none : Uncapped N) (upper : Marking) (ts : List ℕ) (known 
   meant : {x : Range.Extent} → Range.extent N upper ts ≡ x → Means x
   meant e = rw e at means
 
-  pub every-means : (Range.extent N upper ts ≡ Range.every) ↔ Range.FromEvery N upper ts
+  pub every_means : (Range.extent N upper ts ≡ Range.every) ↔ Range.FromEvery N upper ts
   unfolding Means
-  every-means = (λ e. meant e, λ f. one-every _ means f)
+  every_means = (λ e. meant e, λ f. one-every _ means f)
 
-  pub partly-means : (Range.extent N upper ts ≡ Range.partly) ↔ Range.FromSome N upper ts
+  pub partly_means : (Range.extent N upper ts ≡ Range.partly) ↔ Range.FromSome N upper ts
   unfolding Means
-  partly-means = (λ e. meant e, λ f. one-partly _ means f)
+  partly_means = (λ e. meant e, λ f. one-partly _ means f)
 
-  pub never-means : (Range.extent N upper ts ≡ Range.never) ↔ Range.FromNone N upper ts
+  pub never_means : (Range.extent N upper ts ≡ Range.never) ↔ Range.FromNone N upper ts
   unfolding Means
-  never-means = (λ e. meant e, λ f. one-never _ means f)
+  never_means = (λ e. meant e, λ f. one-never _ means f)

@@ -13,10 +13,10 @@ use Rattle.net.specs.Slice.{Slice, HasPlace, HasTransition, own_place, own_trans
 use Rattle.net.specs.Guarantee.{AllAmong, PlanFires, plan_tokens, SliceFires, slice_tokens}
 use Rattle.net.specs.Run.{marking_after, raised_on, raised, with_inputs, Fed, go_back, fed, fired_at, run_cut}
 use Rattle.net.proofs.Numbers.{by_cases, holds, fails, is_false, same_test, or_left, or_right, any-has, below-passes, below-has, selected-rises, selected-same}
-use Rattle.net.proofs.Theorem.{subnet-of}
+use Rattle.net.proofs.Theorem.{subnet_of}
 use Rattle.net.proofs.Subnet.{own-transition_lt, in_plan, each_own, own-input, own-fire}
-use Rattle.net.proofs.Uncapped.{uncapped-enabled, uncapped-keeping}
-use Rattle.net.proofs.Feeding.{Feeding, feed, upto, added-keeps, added-inputs, fed-below, fed-rises, fed-stays, positions-from, positions-selected, chosen_at, below-upto, chosen-below}
+use Rattle.net.proofs.Uncapped.{uncapped_enabled, uncapped_keeping}
+use Rattle.net.proofs.Feeding.{Feeding, feed, upto, added_keeps, added_inputs, fed-below, fed-rises, fed-stays, positions_from, positions_selected, chosen_at, below-upto, chosen-below}
 
 module _ (N : Net) (Q : List ℕ) (known : (q : ℕ) → T (among q Q) → q < N.places) where
   -- in a part of the plan that has the run's places and chosen transitions, and no caps
@@ -32,14 +32,14 @@ module _ (N : Net) (Q : List ℕ) (known : (q : ℕ) → T (among q Q) → q < N
         let fall = ltb-false (input N p t) (output N p t) (is_false _ (λ r. fails _ e (any-has (raises N t) W p h r))) in
         (hp, omega (arith, fall, en.0 p (in_plan N S sub p hp), (enough p h).1))
 
-    fired-chosen : (t : ℕ) → HasTransition S t → (W : List ℕ) (M m : Marking) → HasEnough W M m → HasEnough W (fire N t M) (fire S.net (own_transition S t) m)
-    fired-chosen t ht W M m enough p h = ((enough p h).0, rw (own-fire N S sub p t (enough p h).0 ht m) (unfold fire in omega (arith, (enough p h).1)))
+    fired_chosen : (t : ℕ) → HasTransition S t → (W : List ℕ) (M m : Marking) → HasEnough W M m → HasEnough W (fire N t M) (fire S.net (own_transition S t) m)
+    fired_chosen t ht W M m enough p h = ((enough p h).0, rw (own-fire N S sub p t (enough p h).0 ht m) (unfold fire in omega (arith, (enough p h).1)))
 
     enabled_chosen : (t : ℕ) → HasTransition S t → (W : List ℕ) (M m : Marking) → ((p : ℕ) → p < N.places → T (takes_from N t p) → T (among p W))
         → HasEnough W M m → Enabled N t M → Enabled S.net (own_transition S t) m
     unfolding Enabled Supplied takes_from
     enabled_chosen t ht W M m inputs enough en =
-        uncapped-enabled S.net none (own_transition S t) m (each_own N S sub (λ i. input S.net i (own_transition S t) ≤ m i)
+        uncapped_enabled S.net none (own_transition S t) m (each_own N S sub (λ i. input S.net i (own_transition S t) ≤ m i)
         (λ p hp. rw (own-input N S sub p t hp ht) (by_cases (ltb 0 (input N p t))
         (λ e. let l = in_plan N S sub p hp in omega (arith, en.0 p l, (enough p (inputs p l (holds _ e))).1))
         (λ e. omega (arith, ltb-false 0 (input N p t) e)))))
@@ -58,11 +58,11 @@ module _ (N : Net) (Q : List ℕ) (known : (q : ℕ) → T (among q Q) → q < N
         let ht = has' t (unfold among in or_left (eqb t t) (among t r.chosen) (eqb_refl t)) in
         let rest = fed-fires (suc i) ts (fire N t M) (fire S.net (own_transition S t) m) f.2
         (λ u h. has' u (unfold among in or_right (eqb u t) (among u r.chosen) h))
-        (fired-chosen t ht r.places M m (λ p h. enough' p (added-keeps N t r.places p (fed-below N Q known (suc i) ts p h) h))) in
+        (fired_chosen t ht r.places M m (λ p h. enough' p (added_keeps N t r.places p (fed-below N Q known (suc i) ts p h) h))) in
         rw (e, feed) (
           (
             own-transition_lt N S sub t ht,
-            enabled_chosen t ht W M m (added-inputs N t r.places) enough' f.1,
+            enabled_chosen t ht W M m (added_inputs N t r.places) enough' f.1,
             rest.0,
           ),
           rest.1,
@@ -123,15 +123,15 @@ module _ (N : Net) (Q : List ℕ) (known : (q : ℕ) → T (among q Q) → q < N
   unfolding raised
   raised-raises i l W below = any_same (raised_on N ts i) (raises N (get_or ts i 0)) W (λ p h. raised-on i l p (below p h))
 
-  back-feed : (i : ℕ) → i ≤ length ts → let r = feed N Q i (drop i ts) in let s = feed N Q 0 ts in
+  back_feed : (i : ℕ) → i ≤ length ts → let r = feed N Q i (drop i ts) in let s = feed N Q 0 ts in
       go_back N ts i r.places r.positions ≡ record { places = s.places; positions = s.positions }
   unfolding go_back
-  back-feed zero l = refl
-  back-feed (suc i) l =
+  back_feed zero l = refl
+  back_feed (suc i) l =
       let r = feed N Q (suc i) (drop (suc i) ts) in
       let t = get_or ts i 0 in
       let e : feed N Q i (drop i ts) ≡ feed N Q i (t ∷ drop (suc i) ts) = ap (feed N Q i) (drop-next ts i l) in
-      let rest = back-feed i (omega arith) in
+      let rest = back_feed i (omega arith) in
       let same = raised-raises i l r.places (fed-below N Q known (suc i) (drop (suc i) ts)) in
       by_cases (any (raises N t) r.places)
       (λ d. let b = same ∙ d in
@@ -146,57 +146,57 @@ module _ (N : Net) (Q : List ℕ) (known : (q : ℕ) → T (among q Q) → q < N
   fed-is =
       let start : fed N Q ts ≡ go_back N ts (length ts) Q [] = refl in
       let none : feed N Q (length ts) (drop (length ts) ts) ≡ record { places = Q; chosen = []; positions = [] } = ap (feed N Q (length ts)) (drop_all ts) ∙ (unfold feed in refl) in
-      start ∙ sym (ap (λ (x : Feeding). go_back N ts (length ts) x.places x.positions) none) ∙ back-feed (length ts) (omega arith)
+      start ∙ sym (ap (λ (x : Feeding). go_back N ts (length ts) x.places x.positions) none) ∙ back_feed (length ts) (omega arith)
 
   -- the chosen positions rise and lie in the list
-  positions-are : (fed N Q ts).positions ≡ (feed N Q 0 ts).positions
-  positions-are = ap (λ (r : Fed). r.positions) fed-is
+  positions_are : (fed N Q ts).positions ≡ (feed N Q 0 ts).positions
+  positions_are = ap (λ (r : Fed). r.positions) fed-is
 
-  places-are : (fed N Q ts).places ≡ (feed N Q 0 ts).places
-  places-are = ap (λ (r : Fed). r.places) fed-is
+  places_are : (fed N Q ts).places ≡ (feed N Q 0 ts).places
+  places_are = ap (λ (r : Fed). r.places) fed-is
 
-  pub positions-rise : Rising (fed N Q ts).positions
-  positions-rise = subst (λ (l : List ℕ). Rising l) (sym (positions-are ∙ positions-selected N Q known 0 ts)) (selected-rises _ 0 (length ts))
+  pub positions_rise : Rising (fed N Q ts).positions
+  positions_rise = subst (λ (l : List ℕ). Rising l) (sym (positions_are ∙ positions_selected N Q known 0 ts)) (selected-rises _ 0 (length ts))
 
-  pub positions-inside : (i : ℕ) → T (among i (fed N Q ts).positions) → i < length ts
-  positions-inside i h = let r = positions-from N Q known 0 ts i (rw positions-are at h) in omega arith
+  pub positions_inside : (i : ℕ) → T (among i (fed N Q ts).positions) → i < length ts
+  positions_inside i h = let r = positions_from N Q known 0 ts i (rw positions_are at h) in omega arith
 
   -- "position i is chosen exactly if i is below `upto` of its transition"
   pub chosen-upto : (fed N Q ts).positions ≡ selected (λ i. ltb i (upto (λ k. get_or ts k 0) (fed N Q ts).positions (get_or ts i 0))) 0 (length ts)
   chosen-upto =
       let l = (feed N Q 0 ts).positions in
-      subst (λ (x : List ℕ). x ≡ selected (λ i. ltb i (upto (λ k. get_or ts k 0) x (get_or ts i 0))) 0 (length ts)) (sym positions-are)
-      (positions-selected N Q known 0 ts ∙ selected-same (λ i. among i l) (λ i. ltb i (upto (λ k. get_or ts k 0) l (get_or ts i 0))) 0 (length ts)
+      subst (λ (x : List ℕ). x ≡ selected (λ i. ltb i (upto (λ k. get_or ts k 0) x (get_or ts i 0))) 0 (length ts)) (sym positions_are)
+      (positions_selected N Q known 0 ts ∙ selected-same (λ i. among i l) (λ i. ltb i (upto (λ k. get_or ts k 0) l (get_or ts i 0))) 0 (length ts)
       (λ i a b. below-upto N Q known (λ k. get_or ts k 0) 0 ts (λ k h. ap (λ j. get_or ts j 0) (omega arith)) i a b))
 
   -- the places and the transitions of the slice
   pub run-places_rise : Rising Q → Rising (fed N Q ts).places
-  run-places_rise rise = subst (λ (l : List ℕ). Rising l) (sym places-are) (fed-rises N Q known rise 0 ts)
+  run-places_rise rise = subst (λ (l : List ℕ). Rising l) (sym places_are) (fed-rises N Q known rise 0 ts)
 
   pub run-places_below : (p : ℕ) → T (among p (fed N Q ts).places) → p < N.places
-  run-places_below p h = fed-below N Q known 0 ts p (rw places-are at h)
+  run-places_below p h = fed-below N Q known 0 ts p (rw places_are at h)
 
-  pub criterion-fed : (q : ℕ) → T (among q Q) → T (among q (fed N Q ts).places)
-  criterion-fed q h = rw places-are (stays 0 ts q h)
+  pub criterion_fed : (q : ℕ) → T (among q Q) → T (among q (fed N Q ts).places)
+  criterion_fed q h = rw places_are (stays 0 ts q h)
     where
       stays : (i : ℕ) (ts : List ℕ) (q : ℕ) → T (among q Q) → T (among q (feed N Q i ts).places)
       stays i [] q h = unfold feed in h
       stays i (t ∷ ts) q h = fed-stays N Q known i t ts q (stays (suc i) ts q h)
 
   -- "Fired in order from the slice's marking, the chosen positions all fire and leave each place of Q at least the plan's tokens", where no place has a cap
-  pub run-cut : Uncapped N → Rising Q
+  pub run_cut_row : Uncapped N → Rising Q
       → let S = run_cut N Q ts in let cs = fired_at ts (fed N Q ts).positions in SliceFires S cs × ((q : ℕ) → T (among q Q) → plan_tokens N ts q ≤ slice_tokens S cs q)
   unfolding run_cut PlanFires SliceFires plan_tokens slice_tokens AllAmong keeping fired_at
-  run-cut none rise =
+  run_cut_row none rise =
       let r = feed N Q 0 ts in
       let cs = fired_at ts (fed N Q ts).positions in
       let us = selected (λ t. among t cs) 0 N.transitions in
-      let same : r.chosen ≡ cs = chosen_at N Q known (λ i. get_or ts i 0) 0 ts (λ k h. ap (λ j. get_or ts j 0) (omega arith)) ∙ ap (fired_at ts) (sym positions-are) in
+      let same : r.chosen ≡ cs = chosen_at N Q known (λ i. get_or ts i 0) 0 ts (λ k h. ap (λ j. get_or ts j 0) (omega arith)) ∙ ap (fired_at ts) (sym positions_are) in
       let S = keeping N (fed N Q ts).places us in
-      let sub = subnet-of N (fed N Q ts).places us (run-places_rise rise) (selected-rises _ 0 N.transitions) run-places_below (λ t h. (below-passes _ N.transitions t h).0) in
+      let sub = subnet_of N (fed N Q ts).places us (run-places_rise rise) (selected-rises _ 0 N.transitions) run-places_below (λ t h. (below-passes _ N.transitions t h).0) in
       let has : (t : ℕ) → T (among t cs) → T (among t us) = λ t h. below-has (λ u. among u cs) N.transitions t (chosen-below N Q known 0 ts N.marking f t (rw same h)) h in
-      let done = fed-fires N Q known S sub (uncapped-keeping N none (fed N Q ts).places us) 0 ts N.marking S.net.marking f (λ t h. has t (rw same at h))
-      (λ p h. let k = rw (sym places-are) at h in (k, omega (arith, sub.markings-equal p k))) in
+      let done = fed-fires N Q known S sub (uncapped_keeping N none (fed N Q ts).places us) 0 ts N.marking S.net.marking f (λ t h. has t (rw same at h))
+      (λ p h. let k = rw (sym places_are) at h in (k, omega (arith, sub.markings_equal p k))) in
       let fires = rw same at done.0 in
       let enough = rw same at done.1 in
       ((has, fires), λ q h. (enough q h).1)

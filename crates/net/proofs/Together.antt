@@ -30,8 +30,8 @@ module _ (N : Net) (t : ℕ) (M : Marking) where
   fewer-fit : (p k l : ℕ) → k ≤ l → l * input N p t ≤ M p → k * input N p t ≤ M p
   fewer-fit p k l u f = omega (arith, mul-le-mul_right (input N p t) u)
 
-  none-fits : (p k : ℕ) → input N p t ≡ 0 → k * input N p t ≡ 0
-  none-fits p k e = rw e (omega arith)
+  none_fits : (p k : ℕ) → input N p t ≡ 0 → k * input N p t ≡ 0
+  none_fits p k e = rw e (omega arith)
 
   -- the place a and those after it
   from_first : (B : ℕ → Type 0) (a n : ℕ) → B a → ((p : ℕ) → suc a ≤ p → p < suc a + n → B p) → (p : ℕ) → a ≤ p → p < a + suc n → B p
@@ -44,11 +44,11 @@ module _ (N : Net) (t : ℕ) (M : Marking) where
   both : (a n : ℕ) (x y : Together.Takings) → Means a 1 x → Means (suc a) n y → Means a (suc n) (Together.fewer x y)
   both a n Together.unlimited Together.unlimited f g = from_first (λ p. input N p t ≡ 0) a n (f a (omega arith) (omega arith)) g
   both a n Together.unlimited (Together.times l) f g = (
-    from_first (λ p. l * input N p t ≤ M p) a n (omega (arith, none-fits a l (f a (omega arith) (omega arith)))) g.0,
+    from_first (λ p. l * input N p t ≤ M p) a n (omega (arith, none_fits a l (f a (omega arith) (omega arith)))) g.0,
     (g.1.0, omega (arith, g.1.1), omega (arith, g.1.2), g.1.3),
   )
   both a n (Together.times k) Together.unlimited f g = (
-    from_first (λ p. k * input N p t ≤ M p) a n (f.0 a (omega arith) (omega arith)) (λ p u v. omega (arith, none-fits p k (g p u v))),
+    from_first (λ p. k * input N p t ≤ M p) a n (f.0 a (omega arith) (omega arith)) (λ p u v. omega (arith, none_fits p k (g p u v))),
     (f.1.0, f.1.1, omega (arith, f.1.2), f.1.3),
   )
   both a n (Together.times k) (Together.times l) f g = (
@@ -103,21 +103,21 @@ module _ (N : Net) (t : ℕ) (M : Marking) where
 
   -- ---- and what the two answers follow from
 
-  pub is-times : (k : ℕ) → Together.Takable N t M k → (p : ℕ) × (p < N.places) × (M p < suc k * input N p t) → Together.together N t M ≡ Together.times k
+  pub is_times : (k : ℕ) → Together.Takable N t M k → (p : ℕ) × (p < N.places) × (M p < suc k * input N p t) → Together.together N t M ≡ Together.times k
   unfolding Together.NoInputs
-  is-times k f s = go (Together.together N t M) refl
+  is_times k f s = go (Together.together N t M) refl
     where
       go : (x : Together.Takings) → Together.together N t M ≡ x → x ≡ Together.times k
       go (Together.times l) e = ap Together.times (let u = at_most k l s (takable l e) in let v = at_most l k (stopped l e) f in omega arith)
-      go Together.unlimited e = absurd (omega (arith, s.2, none-fits s.0 (suc k) (no_inputs e s.0 s.1)))
+      go Together.unlimited e = absurd (omega (arith, s.2, none_fits s.0 (suc k) (no_inputs e s.0 s.1)))
 
-  pub is-unlimited : Together.NoInputs N t → Together.together N t M ≡ Together.unlimited
+  pub is_unlimited : Together.NoInputs N t → Together.together N t M ≡ Together.unlimited
   unfolding Together.NoInputs
-  is-unlimited f = go (Together.together N t M) refl
+  is_unlimited f = go (Together.together N t M) refl
     where
       go : (x : Together.Takings) → Together.together N t M ≡ x → x ≡ Together.unlimited
       go Together.unlimited e = refl
-      go (Together.times k) e = let s = stopped k e in absurd (omega (arith, s.2, none-fits s.0 (suc k) (f s.0 s.1)))
+      go (Together.times k) e = let s = stopped k e in absurd (omega (arith, s.2, none_fits s.0 (suc k) (f s.0 s.1)))
 
   -- ---- what is left
 
@@ -134,6 +134,6 @@ module _ (N : Net) (t : ℕ) (M : Marking) where
   unfolding Together.remainder Together.Takable Together.NoInputs
   unlimited rest e r = record {
     no_inputs = no_inputs e;
-    fits = λ k p l. omega (arith, none-fits p k (no_inputs e p l));
+    fits = λ k p l. omega (arith, none_fits p k (no_inputs e p l));
     same = r;
   }

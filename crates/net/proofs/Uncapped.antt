@@ -41,9 +41,9 @@ module _ (N : Net) where
       omega (arith, none f.0 (below-passes (λ p. true) N.places f.0 f.1).0))
 
   -- of a net that has caps on its places only
-  pub none-capped : ((p : ℕ) → N.places ≤ p → N.cap p ≡ 0) → has_caps N ≡ false → Uncapped N
+  pub none_capped : ((p : ℕ) → N.places ≤ p → N.cap p ≡ 0) → has_caps N ≡ false → Uncapped N
   unfolding Uncapped
-  none-capped off e p = by_cases (ltb p N.places)
+  none_capped off e p = by_cases (ltb p N.places)
       (λ l. by_cases (ltb 0 (N.cap p))
       (λ c. absurd (fails (has_caps N) e (holds (has_caps N) (has_cap p (ltb-true p N.places l) (ltb-true 0 (N.cap p) c)))))
       (λ c. omega (arith, ltb-false 0 (N.cap p) c)))
@@ -66,50 +66,50 @@ module _ (N : Net) (none : Uncapped N) where
   not-capped p = fails (capped N p) (no_cap p)
 
   -- firing
-  pub within-caps : (M : Marking) → WithinCaps N M
+  pub within_caps : (M : Marking) → WithinCaps N M
   unfolding WithinCaps
-  within-caps M p l c = absurd (not-capped p c)
+  within_caps M p l c = absurd (not-capped p c)
 
-  pub uncapped-enabled : (t : ℕ) (M : Marking) → Supplied N t M → Enabled N t M
+  pub uncapped_enabled : (t : ℕ) (M : Marking) → Supplied N t M → Enabled N t M
   unfolding Enabled
-  uncapped-enabled t M s = (s, within-caps (fire N t M))
+  uncapped_enabled t M s = (s, within_caps (fire N t M))
 
   -- a part of it has none either
-  pub uncapped-keeping : (ps ts : List ℕ) → Uncapped (keeping N ps ts).net
+  pub uncapped_keeping : (ps ts : List ℕ) → Uncapped (keeping N ps ts).net
   unfolding Uncapped keeping
-  uncapped-keeping ps ts p = by_cases (ltb p (length ps))
+  uncapped_keeping ps ts p = by_cases (ltb p (length ps))
       (λ e. below_at (length ps) _ p (ltb-true p (length ps) e) ∙ none (get_or ps p 0))
       (λ e. below-off (length ps) _ p (ltb-false p (length ps) e))
 
   -- cuts
   module _ (Q : List ℕ) (draws : ℕ → ℕ → Bool) where
-    pub uncapped-draws : (p t : ℕ) → (growth N Q draws).draws p t ≡ draws p t
+    pub uncapped_draws : (p t : ℕ) → (growth N Q draws).draws p t ≡ draws p t
     unfolding growth
-    uncapped-draws p t = rw (no_cap p) (or_none (draws p t))
+    uncapped_draws p t = rw (no_cap p) (or_none (draws p t))
 
-    pub uncapped-needs : (t p : ℕ) → (growth N Q draws).needs t p ≡ takes_from N t p
+    pub uncapped_needs : (t p : ℕ) → (growth N Q draws).needs t p ≡ takes_from N t p
     unfolding growth
-    uncapped-needs t p = rw (no_cap p) (or_none (takes_from N t p))
+    uncapped_needs t p = rw (no_cap p) (or_none (takes_from N t p))
 
-    pub uncapped-growth : growth N Q draws ≡ plain N Q draws
+    pub uncapped_growth : growth N Q draws ≡ plain N Q draws
     unfolding growth
-    uncapped-growth = λ i. record { places = N.places; transitions = N.transitions; criterion = Q; draws = λ p t. uncapped-draws p t i; needs = λ t p. uncapped-needs t p i }
+    uncapped_growth = λ i. record { places = N.places; transitions = N.transitions; criterion = Q; draws = λ p t. uncapped_draws p t i; needs = λ t p. uncapped_needs t p i }
 
   -- rules
   module _ (S : Slice) where
-    pub uncapped-rule3 : Uncapped S.net → rule3 N S ≡ same_markings N S
+    pub uncapped_rule3 : Uncapped S.net → rule3 N S ≡ same_markings N S
     unfolding rule3 Uncapped
-    uncapped-rule3 none' = λ i. record { range = N.places; premise = λ p. among p S.place_origins; conclusion = λ p. at p i }
+    uncapped_rule3 none' = λ i. record { range = N.places; premise = λ p. among p S.place_origins; conclusion = λ p. at p i }
       where
         at : (p : ℕ) → let k = position p S.place_origins in eqb (S.net.marking k) (N.marking p) && eqb (S.net.cap k) (N.cap p) ≡ eqb (S.net.marking k) (N.marking p)
         at p = rw (none p, none' (position p S.place_origins)) (and_all (eqb (S.net.marking (position p S.place_origins)) (N.marking p)))
 
-    pub uncapped-rule9 : Holds (rule9 N S)
+    pub uncapped_rule9 : Holds (rule9 N S)
     unfolding Holds rule9 lacks_output
-    uncapped-rule9 t l k = not_T (lacks_output N S t) (λ h.
+    uncapped_rule9 t l k = not_T (lacks_output N S t) (λ h.
         let f = any-finds (λ p. (capped N p && adds_to N t p) && not (among p S.place_origins)) (selected (λ p. true) 0 N.places) h in
         not-capped f.0 (and_left (capped N f.0) (adds_to N t f.0) (and_left (capped N f.0 && adds_to N t f.0) (not (among f.0 S.place_origins)) f.2)))
 
-    pub uncapped-rule10 : Holds (rule10 N S)
+    pub uncapped_rule10 : Holds (rule10 N S)
     unfolding Holds rule10
-    uncapped-rule10 t l k = let f = any-finds (λ p. capped N p && changes N t p) S.place_origins k in absurd (not-capped f.0 (and_left (capped N f.0) (changes N t f.0) f.2))
+    uncapped_rule10 t l k = let f = any-finds (λ p. capped N p && changes N t p) S.place_origins k in absurd (not-capped f.0 (and_left (capped N f.0) (changes N t f.0) f.2))

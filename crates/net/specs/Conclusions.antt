@@ -12,7 +12,7 @@ pub record SameVerdict (N : Net) (S : Slice) (Q : List ℕ) (F : List ℕ → Ty
   -- some list that fires ends with it
   pub sometimes : ((ts : List ℕ) × PlanFires N ts × F (map (plan_tokens N ts) Q)) ↔ ((ts : List ℕ) × SliceFires S ts × F (map (slice_tokens S ts) Q))
   -- this list of S's own transitions fires and ends with it, F being about the tokens on all places of S
-  pub own-list : (ts : List ℕ) → AllAmong ts S.transition_origins
+  pub own_list : (ts : List ℕ) → AllAmong ts S.transition_origins
       → (PlanFires N ts × F (map (plan_tokens N ts) S.place_origins)) ↔ (SliceFires S ts × F (map (slice_tokens S ts) S.place_origins))
 
 -- how far a list fires: up to the index k, and no list that begins like it and goes on past k fires

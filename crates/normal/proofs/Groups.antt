@@ -12,7 +12,7 @@ use Rattle.net.specs.declared.Arc.{Arc}
 use Rattle.net.proofs.Numbers.{by_cases}
 use Rattle.net.proofs.Normal.{Parallel as Alike, joins-parallel, joined-one, joined-more}
 use Rattle.file_arcs.specs.Layout.{arc_at, arcs_from}
-use Rattle.file_arcs.proofs.Laws.{arcs-cons, arcs-none}
+use Rattle.file_arcs.proofs.Laws.{arcs_cons, arcs_none}
 use Rattle.arcs_groups.specs.Groups.{Parallel, GroupEnd, weight_at, run_weight}
 use Rattle.arcs_groups.proofs.Groups.{run-one}
 
@@ -62,16 +62,16 @@ module _ (s : List ℕ) (start : ℕ) where
     joined-next j l =
         let after : start + 8 * j + 8 ≡ start + 8 * (j + 1) = omega arith in
         let less : n - j - 1 ≡ n - (j + 1) = omega arith in
-        ap joined (arcs-cons s (start + 8 * j) (n - j) (omega arith)) ∙ (λ i. joined_to (arc_at s (start + 8 * j)) (joined (arcs_from s (after i) (less i))))
+        ap joined (arcs_cons s (start + 8 * j) (n - j) (omega arith)) ∙ (λ i. joined_to (arc_at s (start + 8 * j)) (joined (arcs_from s (after i) (less i))))
 
     pub joined-none : (j : ℕ) → n ≤ j → joined_from j ≡ []
     unfolding joined
-    joined-none j l = ap joined (arcs-none s (start + 8 * j) (n - j) (omega arith))
+    joined-none j l = ap joined (arcs_none s (start + 8 * j) (n - j) (omega arith))
 
     -- the last arc of a group stays as it is
-    last-arc : (j : ℕ) → j < n → (j + 1 < n → Parallel s start j (j + 1) → ⊥) → joined_from j ≡ arc_at s (start + 8 * j) ∷ joined_from (j + 1)
+    last_arc : (j : ℕ) → j < n → (j + 1 < n → Parallel s start j (j + 1) → ⊥) → joined_from j ≡ arc_at s (start + 8 * j) ∷ joined_from (j + 1)
     unfolding joined_to
-    last-arc j l other = joined-next j l ∙ go (dec_lt (j + 1) n)
+    last_arc j l other = joined-next j l ∙ go (dec_lt (j + 1) n)
       where
         a : Arc
         a = arc_at s (start + 8 * j)
@@ -90,17 +90,17 @@ module _ (s : List ℕ) (start : ℕ) where
             ap (joined_to a) is ∙ joined-more a h.arc h.rest apart ∙ ap (λ (r : List Arc). a ∷ r) (sym is)
 
     -- k arcs more than one
-    group-by : (k j : ℕ) → j + suc k ≤ n → ((i : ℕ) → j ≤ i → i < j + suc k → Parallel s start j i) → (j + suc k < n → Parallel s start j (j + suc k) → ⊥)
+    group_by : (k j : ℕ) → j + suc k ≤ n → ((i : ℕ) → j ≤ i → i < j + suc k → Parallel s start j i) → (j + suc k < n → Parallel s start j (j + suc k) → ⊥)
         → joined_from j ≡ group_arc j (j + suc k) ∷ joined_from (j + suc k)
-    group-by zero j l same other =
+    group_by zero j l same other =
         let w = sym (run-one s start j) in
-        last-arc j (omega arith) other ∙ (λ i. record { transition = (arc_at s (start + 8 * j)).transition; direction = (arc_at s (start + 8 * j)).direction; place = (arc_at s (start + 8 * j)).place; weight = w i } ∷ joined_from (j + 1))
-    group-by (suc k) j l same other =
+        last_arc j (omega arith) other ∙ (λ i. record { transition = (arc_at s (start + 8 * j)).transition; direction = (arc_at s (start + 8 * j)).direction; place = (arc_at s (start + 8 * j)).place; weight = w i } ∷ joined_from (j + 1))
+    group_by (suc k) j l same other =
         let a = arc_at s (start + 8 * j) in
         let e : ℕ = j + suc (suc k) in
         let e≡ : j + 1 + suc k ≡ e = omega arith in
         let next = same (j + 1) (omega arith) (omega arith) in
-        let rest = group-by k (j + 1) (omega arith)
+        let rest = group_by k (j + 1) (omega arith)
         (λ i u v. let x = same i (omega arith) (omega arith) in record { transition = x.transition ∙ sym next.transition; direction = x.direction ∙ sym next.direction; place = x.place ∙ sym next.place })
         (λ u x. other (omega arith) (subst (Parallel s start j) e≡ (record { transition = x.transition ∙ next.transition; direction = x.direction ∙ next.direction; place = x.place ∙ next.place }))) in
         let g = group_arc (j + 1) (j + 1 + suc k) in
@@ -111,10 +111,10 @@ module _ (s : List ℕ) (start : ℕ) where
         joined-next j (omega arith) ∙ ap (joined_to a) rest ∙ joined-one a g (joined_from (j + 1 + suc k)) joins-g
         ∙ (λ i. record { transition = a.transition; direction = a.direction; place = a.place; weight = w i } ∷ joined_from (e≡ i))
 
-    pub group-joined : (j e : ℕ) → GroupEnd s start j n e → joined_from j ≡ group_arc j e ∷ joined_from e
-    group-joined j e g =
+    pub group_joined : (j e : ℕ) → GroupEnd s start j n e → joined_from j ≡ group_arc j e ∷ joined_from e
+    group_joined j e g =
         let u = g.after in
         let v = g.within in
         let z : j + suc (e - j - 1) ≡ e = omega arith in
         subst (λ (x : ℕ). joined_from j ≡ group_arc j x ∷ joined_from x) z
-        (group-by (e - j - 1) j (omega arith) (λ i a b. g.same i a (omega arith)) (λ l x. g.other (omega arith) (subst (Parallel s start j) z x)))
+        (group_by (e - j - 1) j (omega arith) (λ i a b. g.same i a (omega arith)) (λ l x. g.other (omega arith) (subst (Parallel s start j) z x)))

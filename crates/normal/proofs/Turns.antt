@@ -21,7 +21,7 @@ use Rattle.file_writing.specs.Writing.{places_bytes, arc_bytes, arcs_bytes, trai
 use Rattle.file_writing.proofs.Bytes.{length-arcs}
 use Rattle.file_writing.proofs.PlanTrip.{length-plan}
 use Rattle.promise.specs.Normal.{weights_refusal}
-use Rattle.promise.proofs.Joined.{joined_length, weights-25}
+use Rattle.promise.proofs.Joined.{joined_length, weights_25}
 use Rattle.arcs_groups.specs.Groups.{Stands, GroupEnd, run_weight}
 use Rattle.tables.proofs.Storing.{Storing, storing_all, storing_as, storing_none}
 use Rattle.slice_put.proofs.Placing.{arc-stored}
@@ -32,7 +32,7 @@ use Rattle.plan_put.specs.declared.File.TheVariants.{Refused}
 use Rattle.normal.specs.Counted.{heavy_or, lent_refusal}
 use Rattle.normal.specs.declared.Joined.{Joined}
 use Rattle.normal.specs.declared.Joined.TheVariants.{Arcs, Heavy}
-use Rattle.normal.proofs.Groups.{group_arc, joined_from, joined-all, joined-none, group-joined}
+use Rattle.normal.proofs.Groups.{group_arc, joined_from, joined-all, joined-none, group_joined}
 
 module _ (s : List ℕ) (h : Header) where
   -- the arcs from j on, joined
@@ -66,7 +66,7 @@ module _ (s : List ℕ) (h : Header) where
 
   module _ {j total e w : ℕ} (c : Counting j total) (g : GroupEnd s h.arcstart j h.arcs e) (f : w ≡ run_weight s h.arcstart j (e - j)) where
     next : left j ≡ group_arc s h.arcstart j e ∷ left e
-    next = group-joined s h.arcstart h.arcs j e g
+    next = group_joined s h.arcstart h.arcs j e g
 
     -- what the weights say, by this group
     by_group : weights_refusal all ≡ refuse (ltb 65535 w) 25 (weights_refusal (left e))
@@ -104,7 +104,7 @@ module _ (s : List ℕ) (h : Header) where
 
   module _ {j e : ℕ} (g : GroupEnd s h.arcstart j h.arcs e) {buffer₀ buffer : List ℕ} {start at : ℕ} (w : Writing buffer₀ start buffer at j) where
     following : left j ≡ group_arc s h.arcstart j e ∷ left e
-    following = group-joined s h.arcstart h.arcs j e g
+    following = group_joined s h.arcstart h.arcs j e g
 
     -- there is room for an arc
     pub arc-fits : start + length (arcs_bytes all) ≤ length buffer₀ → at + 8 ≤ length buffer
@@ -123,18 +123,18 @@ module _ (s : List ℕ) (h : Header) where
 
   -- ---- the file
 
-  pub file-long : length (plan_bytes 2 (normal_of (net_from s h))) ≡ 8 * h.places + 8 * length all + 16
+  pub file_long : length (plan_bytes 2 (normal_of (net_from s h))) ≡ 8 * h.places + 8 * length all + 16
   unfolding normal_of
-  file-long = length-plan 2 (normal_of (net_from s h))
+  file_long = length-plan 2 (normal_of (net_from s h))
 
-  pub arcs-long : length (arcs_bytes all) ≡ 8 * length all
-  arcs-long = length-arcs all
+  pub arcs_long : length (arcs_bytes all) ≡ 8 * length all
+  arcs_long = length-arcs all
 
-  pub file-stored : (buffer : List ℕ) {b₁ b₂ b₃ : List ℕ} {n : ℕ} → n ≡ length all
+  pub file_stored : (buffer : List ℕ) {b₁ b₂ b₃ : List ℕ} {n : ℕ} → n ≡ length all
       → b₁ ≡ sets buffer 0 (places_bytes 2 (net_from s h).marking (net_from s h).cap 0 h.places) → b₂ ≡ sets b₁ (8 * h.places) (arcs_bytes all)
       → b₃ ≡ sets b₂ (8 * h.places + 8 * n) (trailer_bytes 0 2 (8 * h.places + 8 * n) h.places h.transitions n) → b₃ ≡ sets buffer 0 (plan_bytes 2 (normal_of (net_from s h)))
   unfolding normal_of
-  file-stored buffer {b₂ = b₂} e f g k =
+  file_stored buffer {b₂ = b₂} e f g k =
       plan_stored 2 (normal_of (net_from s h)) buffer f g (k ∙ ap (λ (m : ℕ). sets b₂ (8 * h.places + 8 * m) (trailer_bytes 0 2 (8 * h.places + 8 * m) h.places h.transitions m)) e)
 
   -- ---- the answers
@@ -143,24 +143,24 @@ module _ (s : List ℕ) (h : Header) where
   file = plan_bytes 2 (normal_of (net_from s h))
 
   -- what the count told
-  pub arcs-told : {r : Joined} {n : ℕ} → r ≡ heavy_or (weights_refusal all) (length all) → r ≡ Arcs n → (weights_refusal all ≡ 0) × (n ≡ length all)
-  arcs-told e f = go (weights_refusal all) (sym f ∙ e)
+  pub arcs_told : {r : Joined} {n : ℕ} → r ≡ heavy_or (weights_refusal all) (length all) → r ≡ Arcs n → (weights_refusal all ≡ 0) × (n ≡ length all)
+  arcs_told e f = go (weights_refusal all) (sym f ∙ e)
     where
       go : {n : ℕ} (k : ℕ) → Arcs n ≡ heavy_or k (length all) → (k ≡ 0) × (n ≡ length all)
       go zero g = (refl, cc)
       go (suc k) g = let z : ◌≡◌ {A = ℕ} 0 1 = cc in absurd (omega arith)
 
-  heavy-told : {r : Joined} → r ≡ heavy_or (weights_refusal all) (length all) → r ≡ Heavy → weights_refusal all ≢ 0
-  heavy-told e f = go (weights_refusal all) (sym f ∙ e)
+  heavy_told : {r : Joined} → r ≡ heavy_or (weights_refusal all) (length all) → r ≡ Heavy → weights_refusal all ≢ 0
+  heavy_told e f = go (weights_refusal all) (sym f ∙ e)
     where
       go : (k : ℕ) → Heavy ≡ heavy_or k (length all) → k ≢ 0
       go zero g = let z : ◌≡◌ {A = ℕ} 0 1 = cc in absurd (omega arith)
       go (suc k) g = λ q. omega arith
 
   -- 25
-  pub heavy-answers : {r : Joined} (entry : List ℕ) → r ≡ heavy_or (weights_refusal all) (length all) → r ≡ Heavy → Answers (lent_refusal (net_from s h) (length entry)) file entry entry (Refused 25)
-  heavy-answers entry e f = rw (weights-25 all (heavy-told e f)) (record { answer = refl; buffer = refl })
+  pub heavy_answers : {r : Joined} (entry : List ℕ) → r ≡ heavy_or (weights_refusal all) (length all) → r ≡ Heavy → Answers (lent_refusal (net_from s h) (length entry)) file entry entry (Refused 25)
+  heavy_answers entry e f = rw (weights_25 all (heavy_told e f)) (record { answer = refl; buffer = refl })
 
   -- or else the writer's answer
-  pub light-answers : {entry exit : List ℕ} {r : File} → weights_refusal all ≡ 0 → Answers (room_refusal (length entry) file) file entry exit r → Answers (lent_refusal (net_from s h) (length entry)) file entry exit r
-  light-answers e a = rw e a
+  pub light_answers : {entry exit : List ℕ} {r : File} → weights_refusal all ≡ 0 → Answers (room_refusal (length entry) file) file entry exit r → Answers (lent_refusal (net_from s h) (length entry)) file entry exit r
+  light_answers e a = rw e a

@@ -23,13 +23,13 @@ module _ (os table : List ℕ) (o : Own os table) (x : ℕ) (l : x < length tabl
   left_out z = by_cases (among x os) (λ e. absurd (omega (arith, o.at x l, entry_true os x e))) (λ e. e)
 
   -- an entry that is not 0: the number is kept
-  pub is-kept : (get_or table x 0 ≡ 0 → ⊥) → among x os ≡ true
-  is-kept n = by_cases (among x os) (λ e. e) (λ e. absurd (n (omega (arith, o.at x l, entry_false os x e))))
+  pub is_kept : (get_or table x 0 ≡ 0 → ⊥) → among x os ≡ true
+  is_kept n = by_cases (among x os) (λ e. e) (λ e. absurd (n (omega (arith, o.at x l, entry_false os x e))))
 
   -- and the entry tells its own number
   pub own-number : (get_or table x 0 ≡ 0 → ⊥) → get_or table x 0 ≡ suc (position x os)
-  own-number n = omega (arith, o.at x l, entry_true os x (is-kept n))
+  own-number n = omega (arith, o.at x l, entry_true os x (is_kept n))
 
   -- the entry of a number that is left out
-  pub zero-entry : among x os ≡ false → get_or table x 0 ≡ 0
-  zero-entry e = o.at x l ∙ entry_false os x e
+  pub zero_entry : among x os ≡ false → get_or table x 0 ≡ 0
+  zero_entry e = o.at x l ∙ entry_false os x e

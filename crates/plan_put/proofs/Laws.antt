@@ -12,7 +12,7 @@ use Rattle.net.specs.Net.{Net}
 use Rattle.file_header.specs.Layout.{places_length}
 use Rattle.file_writing.specs.Writing.{places_bytes, arcs_bytes, plan_body, trailer_bytes, plan_bytes}
 use Rattle.file_writing.proofs.Bytes.{length-places, length-arcs}
-use Rattle.tables.proofs.Sets.{sets-after, sets_first}
+use Rattle.tables.proofs.Sets.{sets_after, sets_first}
 use Rattle.plan_put.specs.Told.{room_refusal, Answers}
 use Rattle.plan_put.specs.declared.File.TheVariants.{Length, Refused}
 
@@ -32,7 +32,7 @@ module _ (e : ℕ) (N : Net) where
       let Ms = places_bytes e N.marking N.cap 0 N.places in
       let As = arcs_bytes N.arcs in
       let long = length-places e N.marking N.cap 0 N.places in
-      sets-after (Ms ++ As) (trailer_bytes 0 e (L + 8 * A) N.places N.transitions A) s 0 (L + 8 * A) (sets-after Ms As s 0 L f g (omega (arith, long))) h
+      sets_after (Ms ++ As) (trailer_bytes 0 e (L + 8 * A) N.places N.transitions A) s 0 (L + 8 * A) (sets_after Ms As s 0 L f g (omega (arith, long))) h
       (omega (arith, length-append Ms As, long, length-arcs N.arcs))
 
 -- ---- the answers

@@ -69,7 +69,7 @@ listing_long {s} {table} {P} {T} g =
     let c = length-map (entries Places s) id_of in
     let d = length-map (entries Transitions s) id_of in
     let e = length-map (entries Arcs s) id_of in
-    omega (arith, length-map table (id_at s), ap length g.ids, g.place-count, g.transition-count)
+    omega (arith, length-map table (id_at s), ap length g.ids, g.place_count, g.transition_count)
 
 and_four : (a b d e : Bool) → (a && b && d && e) ≡ ((a && b) && (d && e))
 and_four true true d e = refl
@@ -98,14 +98,14 @@ module _ (s : List ℕ) {table : List ℕ} {P T : ℕ} (g : Listing s table P T)
   unfolding Named.names read_of
   once = sym (ap repeats g.ids) ∙ h.once
 
-  once-2 : repeats ((hs ++ ps) ++ (ts ++ ids Arcs s)) ≡ false
-  once-2 = ap repeats (append_assoc hs ps (ts ++ ids Arcs s)) ∙ once
+  once_2 : repeats ((hs ++ ps) ++ (ts ++ ids Arcs s)) ≡ false
+  once_2 = ap repeats (append_assoc hs ps (ts ++ ids Arcs s)) ∙ once
 
-  count-p : length ps ≡ P
-  count-p = length-map (entries Places s) id_of ∙ sym g.place-count
+  count_p : length ps ≡ P
+  count_p = length-map (entries Places s) id_of ∙ sym g.place_count
 
-  count-t : length ts ≡ T
-  count-t = length-map (entries Transitions s) id_of ∙ sym g.transition-count
+  count_t : length ts ≡ T
+  count_t = length-map (entries Transitions s) id_of ∙ sym g.transition_count
 
   module _ (x : List ℕ) {i : ℕ} (e : i ≡ position x (ids_in s table)) where
     place-i : i ≡ position x (hs ++ (ps ++ (ts ++ ids Arcs s)))
@@ -115,26 +115,26 @@ module _ (s : List ℕ) {table : List ℕ} {P T : ℕ} (g : Listing s table P T)
     transition-i : i ≡ position x ((hs ++ ps) ++ (ts ++ ids Arcs s))
     transition-i = place-i ∙ sym (ap (position x) (append_assoc hs ps (ts ++ ids Arcs s)))
 
-    is-place : (leb 2 i && ltb i (2 + P)) ≡ among x ps
-    is-place = (λ j. leb 2 (place-i j) && ltb (place-i j) (2 + sym count-p j)) ∙ part-test x hs ps (ts ++ ids Arcs s) once
+    is_place : (leb 2 i && ltb i (2 + P)) ≡ among x ps
+    is_place = (λ j. leb 2 (place-i j) && ltb (place-i j) (2 + sym count_p j)) ∙ part-test x hs ps (ts ++ ids Arcs s) once
 
     place_at_lem : among x ps ≡ true → i - 2 ≡ position x ps
     place_at_lem t = ap (λ (n : ℕ). n - 2) place-i ∙ part_at x hs ps (ts ++ ids Arcs s) once t
 
     front : 2 + P ≡ length (hs ++ ps)
-    front = let q = count-p in omega (arith, length-append hs ps)
+    front = let q = count_p in omega (arith, length-append hs ps)
 
-    is-transition : (leb (2 + P) i && ltb i (2 + P + T)) ≡ among x ts
-    is-transition = (λ j. leb (front j) (transition-i j) && ltb (transition-i j) (front j + sym count-t j)) ∙ part-test x (hs ++ ps) ts (ids Arcs s) once-2
+    is_transition : (leb (2 + P) i && ltb i (2 + P + T)) ≡ among x ts
+    is_transition = (λ j. leb (front j) (transition-i j) && ltb (transition-i j) (front j + sym count_t j)) ∙ part-test x (hs ++ ps) ts (ids Arcs s) once_2
 
     transition-at : among x ts ≡ true → i - (2 + P) ≡ position x ts
-    transition-at t = (λ j. transition-i j - front j) ∙ part_at x (hs ++ ps) ts (ids Arcs s) once-2 t
+    transition-at t = (λ j. transition-i j - front j) ∙ part_at x (hs ++ ps) ts (ids Arcs s) once_2 t
 
   module _ (a b : List ℕ) (n : ℕ) {i j : ℕ} (ei : i ≡ position a (ids_in s table)) (ej : j ≡ position b (ids_in s table)) where
     one_way : (x y : List ℕ) {u v : ℕ} → u ≡ position x (ids_in s table) → v ≡ position y (ids_in s table)
         → (leb 2 u && ltb u (2 + P) && leb (2 + P) v && ltb v (2 + P + T)) ≡ (among x ps && among y ts)
     one_way x y {u} {v} eu ev =
-        and_four (leb 2 u) (ltb u (2 + P)) (leb (2 + P) v) (ltb v (2 + P + T)) ∙ (λ k. is-place x eu k && is-transition y ev k)
+        and_four (leb 2 u) (ltb u (2 + P)) (leb (2 + P) v) (ltb v (2 + P + T)) ∙ (λ k. is_place x eu k && is_transition y ev k)
 
     pub between_is : between_at P T i j n ≡ joined ps ts (an_arc [] a b n)
     between_is = by_cases (among a ps && among b ts)

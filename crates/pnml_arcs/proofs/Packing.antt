@@ -72,9 +72,9 @@ module _ {s names : List ℕ} {P T : ℕ} (g : Listing s names P T) where
           let m = g.few in
           let c = inv.count in
           record {
-            transition = omega (arith, q.transition, g.transition-count);
+            transition = omega (arith, q.transition, g.transition_count);
             direction = q.direction;
-            place = omega (arith, q.place, g.place-count);
+            place = omega (arith, q.place, g.place_count);
           }
 
       here : joined (ids Places s) (ids Transitions s) (wanted_read Arcs s (get_or names k 0)) ≡ a ∷ []

@@ -20,7 +20,7 @@ use Rattle.pnml_names.proofs.Ids.{map-cons, map-none}
 use Rattle.pnml_net.specs.Named
 use Rattle.pnml_net.specs.Read.{id_of, entries, ids, end_wrong, unfit, number_of, arcs_named, net_named, counts_off, sorted}
 use Rattle.pnml_net.specs.Named.{any_off}
-use Rattle.pnml_net.proofs.Arcs.{AllFine, Fine, fine-sorted, arcs-fine, length-sorted, arcs-count}
+use Rattle.pnml_net.proofs.Arcs.{AllFine, Fine, fine_sorted, arcs_fine, length-sorted, arcs_count}
 use Rattle.pnml_sort.specs.Words.{word_of}
 use Rattle.pnml_list.specs.Listing.{Listing}
 use Rattle.pnml_file.specs.Ready.{read_file, marking_in, arc_of, arcs_in, Ready, Sorted, unfit_but}
@@ -50,8 +50,8 @@ module _ {s places : List ℕ} {k : ℕ} (inv : Looking s places k) where
 
 -- ---- the markings
 
-pub marking-at : (s places : List ℕ) (p a : ℕ) {n : ℕ} → p < length places → a ≡ get_or places p 0 → n ≡ (place (rest_at s a)).number → n ≡ marking_in s places p
-marking-at s places p a h e f = f ∙ ap (λ (y : ℕ). (place (rest_at s y)).number) e ∙ go places p h
+pub marking_at_lem : (s places : List ℕ) (p a : ℕ) {n : ℕ} → p < length places → a ≡ get_or places p 0 → n ≡ (place (rest_at s a)).number → n ≡ marking_in s places p
+marking_at_lem s places p a h e f = f ∙ ap (λ (y : ℕ). (place (rest_at s y)).number) e ∙ go places p h
   where
     go : (l : List ℕ) (q : ℕ) → q < length l → (place (rest_at s (get_or l q 0))).number ≡ get_or (map number_of (entries_in Places s l)) q 0
     go [] q g = absurd (omega arith)
@@ -71,40 +71,40 @@ arc-back {P} {T} a hp ht f =
     let w≡ : word_of a % 65536 ≡ a.weight = omega arith in
     λ i. record { transition = t≡ i; direction = d≡ i; place = p≡ i; weight = w≡ i }
 
-arcs-back : {P T : ℕ} (l : List Arc) → P ≤ 1024 → T ≤ 1024 → AllFine P T l → arcs_in (map word_of l) ≡ l
-arcs-back [] hp ht f = refl
-arcs-back (a ∷ l) hp ht f = λ i. arc-back a hp ht f.0 i ∷ arcs-back l hp ht f.1 i
+arcs_back : {P T : ℕ} (l : List Arc) → P ≤ 1024 → T ≤ 1024 → AllFine P T l → arcs_in (map word_of l) ≡ l
+arcs_back [] hp ht f = refl
+arcs_back (a ∷ l) hp ht f = λ i. arc-back a hp ht f.0 i ∷ arcs_back l hp ht f.1 i
 
-pub arcs-next : (words : List ℕ) (k : ℕ) → k < length words → arcs_in (drop k words) ≡ arc_of (get_or words k 0) ∷ arcs_in (drop (k + 1) words)
-arcs-next words k h = map-cons arc_of words k h
+pub arcs_next : (words : List ℕ) (k : ℕ) → k < length words → arcs_in (drop k words) ≡ arc_of (get_or words k 0) ∷ arcs_in (drop (k + 1) words)
+arcs_next words k h = map-cons arc_of words k h
 
-pub arcs-left : (words : List ℕ) (k : ℕ) → length words ≤ k → arcs_bytes (arcs_in (drop k words)) ≡ []
+pub arcs_left_lem : (words : List ℕ) (k : ℕ) → length words ≤ k → arcs_bytes (arcs_in (drop k words)) ≡ []
 unfolding arcs_bytes
-arcs-left words k h = ap arcs_bytes (map-none arc_of words k h)
+arcs_left_lem words k h = ap arcs_bytes (map-none arc_of words k h)
 
 -- ---- the file
 
 module _ (s : List ℕ) {places : List ℕ} {T : ℕ} {words : List ℕ} (r : Ready s places T words) where
-  place-count : length places ≡ length (entries Places s)
-  place-count = sym (length-map places (wanted_read Places s)) ∙ ap length r.places-are
+  place_count : length places ≡ length (entries Places s)
+  place_count = sym (length-map places (wanted_read Places s)) ∙ ap length r.places_are
 
-  arc-count : length words ≡ length (sorted (arcs_named s))
-  arc-count = sym (length-map words arc_of) ∙ ap length r.arcs-are
+  arc_count : length words ≡ length (sorted (arcs_named s))
+  arc_count = sym (length-map words arc_of) ∙ ap length r.arcs_are
 
-  pub file-long : length (read_file s) ≡ 4 * length places + 8 * length words + 16
+  pub file_long : length (read_file s) ≡ 4 * length places + 8 * length words + 16
   unfolding read_file Named.net_named
-  file-long = let p = place-count in let a = arc-count in omega (arith, length-plan 1 (net_named s))
+  file_long = let p = place_count in let a = arc_count in omega (arith, length-plan 1 (net_named s))
 
-  pub file-stored : (b : List ℕ) {b₁ b₂ b₃ : List ℕ} → b₁ ≡ sets b 0 (places_bytes 1 (marking_in s places) (λ p. 0) 0 (length places))
+  pub file_stored : (b : List ℕ) {b₁ b₂ b₃ : List ℕ} → b₁ ≡ sets b 0 (places_bytes 1 (marking_in s places) (λ p. 0) 0 (length places))
       → b₂ ≡ sets b₁ (4 * length places) (arcs_bytes (arcs_in words))
       → b₃ ≡ sets b₂ (4 * length places + 8 * length words) (trailer_bytes 0 1 (4 * length places + 8 * length words) (length places) T (length words))
       → b₃ ≡ sets b 0 (read_file s)
   unfolding read_file Named.net_named
-  file-stored b {b₁} {b₂} f g h =
+  file_stored b {b₁} {b₂} f g h =
       plan_stored 1 (net_named s) b
-      (f ∙ (λ i. sets b 0 (places_bytes 1 (λ p. get_or (map number_of (r.places-are i)) p 0) (λ p. 0) 0 (place-count i))))
-      (g ∙ (λ i. sets b₁ (4 * place-count i) (arcs_bytes (r.arcs-are i))))
-      (h ∙ (λ i. sets b₂ (4 * place-count i + 8 * arc-count i) (trailer_bytes 0 1 (4 * place-count i + 8 * arc-count i) (place-count i) (r.transitions-are i) (arc-count i))))
+      (f ∙ (λ i. sets b 0 (places_bytes 1 (λ p. get_or (map number_of (r.places_are i)) p 0) (λ p. 0) 0 (place_count i))))
+      (g ∙ (λ i. sets b₁ (4 * place_count i) (arcs_bytes (r.arcs_are i))))
+      (h ∙ (λ i. sets b₂ (4 * place_count i + 8 * arc_count i) (trailer_bytes 0 1 (4 * place_count i + 8 * arc_count i) (place_count i) (r.transitions_are i) (arc_count i))))
 
 -- ---- what refusal 20 tests
 
@@ -113,8 +113,8 @@ pub unfit-is : (s : List ℕ) (off : Bool) {P T A : ℕ} {counts markings : Bool
 unfit-is s off p t a c m = λ i. (c ∙ (λ j. counts_off (p j) (t j) (a j))) i || m i || off
 
 -- the places' part of the table
-pub places-part : {s table : List ℕ} {P T : ℕ} → Listing s table P T → entries_in Places s (take (2 + P - 2) (drop 2 table)) ≡ entries Places s
-places-part {s} {table} {P} g = let e : 2 + P - 2 ≡ P = omega arith in ap (λ (i : ℕ). entries_in Places s (take i (drop 2 table))) e ∙ g.places
+pub places_part : {s table : List ℕ} {P T : ℕ} → Listing s table P T → entries_in Places s (take (2 + P - 2) (drop 2 table)) ≡ entries Places s
+places_part {s} {table} {P} g = let e : 2 + P - 2 ≡ P = omega arith in ap (λ (i : ℕ). entries_in Places s (take i (drop 2 table))) e ∙ g.places
 
 module _ (s : List ℕ) (fit : unfit s ≡ false) where
   pub parts : (counts_off (length (entries Places s)) (length (entries Transitions s)) (length (entries Arcs s)) ≡ false) × (any_off 0 4294967295 (entries Places s) ≡ false) × (any_off 1 65535 (entries Arcs s) ≡ false)
@@ -146,24 +146,24 @@ module _ (s : List ℕ) (fit : unfit s ≡ false) where
   unfolding Named.arcs_named end_wrong
   words_are joins {words} e =
       let l = limits in
-      let fine = fine-sorted (length (ids Places s)) (length (ids Transitions s)) (arcs_named s) (arcs-fine (ids Places s) (ids Transitions s) (entries Arcs s) joins parts.2) in
+      let fine = fine_sorted (length (ids Places s)) (length (ids Transitions s)) (arcs_named s) (arcs_fine (ids Places s) (ids Transitions s) (entries Arcs s) joins parts.2) in
       record {
         fit = fit;
-        count = ap length e ∙ length-map (sorted (arcs_named s)) word_of ∙ length-sorted (arcs_named s) ∙ arcs-count (ids Places s) (ids Transitions s) (entries Arcs s) joins;
-        arcs-are =
+        count = ap length e ∙ length-map (sorted (arcs_named s)) word_of ∙ length-sorted (arcs_named s) ∙ arcs_count (ids Places s) (ids Transitions s) (entries Arcs s) joins;
+        arcs_are =
             ap arcs_in e
-            ∙ arcs-back (sorted (arcs_named s)) (omega (arith, length-map (entries Places s) id_of, l.0)) (omega (arith, length-map (entries Transitions s) id_of, l.1)) fine;
+            ∙ arcs_back (sorted (arcs_named s)) (omega (arith, length-map (entries Places s) id_of, l.0)) (omega (arith, length-map (entries Transitions s) id_of, l.1)) fine;
       }
 
 pub ready : {s table : List ℕ} {P T : ℕ} {words : List ℕ} → Listing s table P T → Sorted s words → Ready s (take (2 + P - 2) (drop 2 table)) T words
 ready {s} {table} {P} {T} g w =
     let l = limits s w.fit in
-    let p = places-part g in
+    let p = places_part g in
     record {
-      few-places = omega (arith, sym (length-map (take (2 + P - 2) (drop 2 table)) (wanted_read Places s)) ∙ ap length p, l.0);
-      few-transitions = omega (arith, g.transition-count, l.1);
-      few-arcs = omega (arith, w.count, l.2);
-      places-are = p;
-      transitions-are = g.transition-count;
-      arcs-are = w.arcs-are;
+      few_places = omega (arith, sym (length-map (take (2 + P - 2) (drop 2 table)) (wanted_read Places s)) ∙ ap length p, l.0);
+      few_transitions = omega (arith, g.transition_count, l.1);
+      few_arcs = omega (arith, w.count, l.2);
+      places_are = p;
+      transitions_are = g.transition_count;
+      arcs_are = w.arcs_are;
     }

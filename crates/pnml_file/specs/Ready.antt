@@ -24,12 +24,12 @@ arcs_in words = map arc_of words
 
 -- the parts of the net that a text names, each within its limit
 pub record Ready (s places : List ℕ) (T : ℕ) (words : List ℕ) : Type 0 where
-  pub few-places : length places ≤ 1024
-  pub few-transitions : T ≤ 1024
-  pub few-arcs : length words ≤ 4096
-  pub places-are : entries_in Places s places ≡ entries Places s
-  pub transitions-are : T ≡ length (entries Transitions s)
-  pub arcs-are : arcs_in words ≡ sorted (arcs_named s)
+  pub few_places : length places ≤ 1024
+  pub few_transitions : T ≤ 1024
+  pub few_arcs : length words ≤ 4096
+  pub places_are : entries_in Places s places ≡ entries Places s
+  pub transitions_are : T ≡ length (entries Transitions s)
+  pub arcs_are : arcs_in words ≡ sorted (arcs_named s)
 
 -- refusal 20, where `off` says whether a weight is 0 or past its limit
 abbrev pub unfit_but : List ℕ → Bool → Bool
@@ -39,4 +39,4 @@ unfit_but s off = counts_off (length (entries Places s)) (length (entries Transi
 pub record Sorted (s words : List ℕ) : Type 0 where
   pub fit : unfit s ≡ false
   pub count : length words ≡ length (entries Arcs s)
-  pub arcs-are : arcs_in words ≡ sorted (arcs_named s)
+  pub arcs_are : arcs_in words ≡ sorted (arcs_named s)

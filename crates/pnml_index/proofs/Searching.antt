@@ -15,7 +15,7 @@ use Rattle.pnml_page.specs.Meant.{id_at}
 use Rattle.pnml_names.specs.Names.{same_id, position, among, repeats}
 use Rattle.pnml_names.specs.Tables.{first_of}
 use Rattle.pnml_names.specs.Tables.{ids_in}
-use Rattle.pnml_names.proofs.Ids.{Starts, starts, empty, character, same-eq, among-at, position_at, position-none, repeats-more, repeats-front, map_more, map-append}
+use Rattle.pnml_names.proofs.Ids.{Starts, starts, empty, character, same_eq, among-at, position_at, position-none, repeats-more, repeats-front, map_more, map-append}
 use Rattle.pnml_index.specs.Rows.{sum_of, Has, here, later, Row, Sought, Blank, Indexed}
 
 -- the loop that sums
@@ -81,17 +81,17 @@ module _ {s : List ℕ} {a : ℕ} {names next : List ℕ} {from m : ℕ} (row : 
   }
 
 -- the search in an index
-pub found-is : {s : List ℕ} {a : ℕ} {names head next : List ℕ} {h from r : ℕ} → Indexed s names head next → h ≡ sum_of 0 (id_at s a) → from ≡ get_or head h 0
+pub found_is : {s : List ℕ} {a : ℕ} {names head next : List ℕ} {h from r : ℕ} → Indexed s names head next → h ≡ sum_of 0 (id_at s a) → from ≡ get_or head h 0
     → Sought s a names next from r → r ≡ position (id_at s a) (ids_in s names)
-found-is {s} {a} {names} {head} {next} {h} {from} {r} i e f w = go (dec_lt r (length names))
+found_is {s} {a} {names} {head} {next} {h} {from} {r} i e f w = go (dec_lt r (length names))
   where
     go : Dec (r < length names) → r ≡ position (id_at s a) (ids_in s names)
-    go (yes g) = let q = same-eq (id_at s a) (id_at s (get_or names r 0)) (w.found g).1 in sym (ap (λ (x : List ℕ). position x (ids_in s names)) q ∙ position_at (id_at s) names r i.once g)
+    go (yes g) = let q = same_eq (id_at s a) (id_at s (get_or names r 0)) (w.found g).1 in sym (ap (λ (x : List ℕ). position x (ids_in s names)) q ∙ position_at (id_at s) names r i.once g)
     go (no g) =
         let n : r ≡ length names = (let b = w.below in omega (arith, g)) in
         n ∙ sym (position-none (id_at s) names (id_at s a) (λ j l. by_cases (same_id (id_at s a) (id_at s (get_or names j 0)))
         (λ t.
-        let q : sum_of 0 (id_at s (get_or names j 0)) ≡ h = ap (sum_of 0) (sym (same-eq (id_at s a) (id_at s (get_or names j 0)) t)) ∙ sym e in
+        let q : sum_of 0 (id_at s (get_or names j 0)) ≡ h = ap (sum_of 0) (sym (same_eq (id_at s a) (id_at s (get_or names j 0)) t)) ∙ sym e in
         w.none (omega arith) j (subst (λ (k : ℕ). Has next k j) (ap (λ (k : ℕ). get_or head k 0) q ∙ sym f) (i.all j l)))
         (λ t. t)))
 
@@ -141,7 +141,7 @@ module _ {s names head next : List ℕ} {k : ℕ} (inv : Indexing s names head n
       let m : r < k = omega (arith, q.0) in
       let t = length-take-le k names (omega arith) in
       let u : get_or (take k names) r 0 ≡ get_or names r 0 = get_or-take k names r 0 m in
-      ap (λ (x : List ℕ). among x (ids_in s (take k names))) (same-eq (id_at s a) (id_at s (get_or names r 0)) q.1 ∙ ap (id_at s) (sym u))
+      ap (λ (x : List ℕ). among x (ids_in s (take k names))) (same_eq (id_at s a) (id_at s (get_or names r 0)) q.1 ∙ ap (id_at s) (sym u))
       ∙ among-at (id_at s) (take k names) r (omega arith)
 
   more : ids_in s (take (k + 1) names) ≡ ids_in s (take k names) ++ (id_at s a ∷ [])
@@ -159,12 +159,12 @@ module _ {s names head next : List ℕ} {k : ℕ} (inv : Indexing s names head n
   fresh : length names ≤ r → (j : ℕ) → j < k → same_id (id_at s a) (id_at s (get_or names j 0)) ≡ false
   fresh g j d = by_cases (same_id (id_at s a) (id_at s (get_or names j 0)))
       (λ t.
-      let q : sum_of 0 (id_at s (get_or names j 0)) ≡ h = ap (sum_of 0) (sym (same-eq (id_at s a) (id_at s (get_or names j 0)) t)) ∙ sym eh in
+      let q : sum_of 0 (id_at s (get_or names j 0)) ≡ h = ap (sum_of 0) (sym (same_eq (id_at s a) (id_at s (get_or names j 0)) t)) ∙ sym eh in
       w.none g j (subst (λ (i : ℕ). Has next i j) (ap (λ (i : ℕ). get_or head i 0) q ∙ sym el) (inv.all j d)))
       (λ t. t)
 
-  none-among : length names ≤ r → among (id_at s a) (ids_in s (take k names)) ≡ false
-  none-among g = not-among (id_at s) (id_at s a) (take k names) (λ j d.
+  none_among : length names ≤ r → among (id_at s a) (ids_in s (take k names)) ≡ false
+  none_among g = not-among (id_at s) (id_at s a) (take k names) (λ j d.
       let t = length-take-le k names (omega arith) in
       ap (λ (y : ℕ). same_id (id_at s a) (id_at s y)) (get_or-take k names j 0 (omega arith)) ∙ fresh g j (omega arith))
 
@@ -180,7 +180,7 @@ module _ {s names head next : List ℕ} {k : ℕ} (inv : Indexing s names head n
     head-room = omega (arith, length-set head h (k + 1), inv.head-room);
     room = omega (arith, length-set next k last, inv.room);
     all = λ j d. in_row j (dec_lt j k) d;
-    once = ap repeats more ∙ repeats-more (id_at s a) (ids_in s (take k names)) ∙ rw inv.once (none-among g);
+    once = ap repeats more ∙ repeats-more (id_at s a) (ids_in s (take k names)) ∙ rw inv.once (none_among g);
   }
     where
       first : get_or (set head h (k + 1)) h 0 ≡ suc k

@@ -17,8 +17,8 @@ use Rattle.pnml_page.specs.Profile.{Element}
 use Rattle.pnml_page.proofs.Tags.{id-at}
 use Rattle.net.proofs.Numbers.{by_cases}
 use Rattle.pnml_text.specs.Words.{bytes}
-use Rattle.pnml_page.proofs.Sizes.{size, word_size, spaces-size, arc-size, element-size, inside-size, net-size, rest-size, page-size, page-read}
-use Rattle.pnml_page.proofs.Enough.{elements-size}
+use Rattle.pnml_page.proofs.Sizes.{size, word_size, spaces-size, arc-size, element-size, inside-size, net-size, rest_size, page-size, page-read}
+use Rattle.pnml_page.proofs.Enough.{elements_size}
 use Rattle.pnml_names.specs.Names.{entries_of}
 use Rattle.pnml_names.specs.Tables.{is_wanted, ids_in, wanted_read, entries_in, Collected}
 use Rattle.pnml_names.specs.declared.Which.{Which}
@@ -38,21 +38,21 @@ module _ (s : List ℕ) (short : length s ≤ 65536) (of : Steps.read_whole s �
   page-fits a e =
       let m = page-read s of in
       let q = ap size (e ∙ ap Steps.page (start s)) in
-      omega (arith, rest-size s a)
+      omega (arith, rest_size s a)
 
   pub net-fits : (a : ℕ) → rest_at s a ≡ Steps.net (rest_at s 0) → a < 65536
   net-fits a e =
       let m = page-read s of in
       let n = page-size (more s) in
       let q = ap size (e ∙ ap Steps.net (start s)) in
-      omega (arith, rest-size s a)
+      omega (arith, rest_size s a)
 
 -- each element is of one kind at most
-split-kinds : (l : List Element) → length (entries_of Places l) + length (entries_of Transitions l) + length (entries_of Arcs l) ≤ length l
+split_kinds : (l : List Element) → length (entries_of Places l) + length (entries_of Transitions l) + length (entries_of Arcs l) ≤ length l
 unfolding entries_of
-split-kinds [] = omega arith
-split-kinds (e ∷ l) =
-    let k = split-kinds l in
+split_kinds [] = omega arith
+split_kinds (e ∷ l) =
+    let k = split_kinds l in
     by_cases (eqb e.sort 0)
     (λ t.
     let q = eqb-true e.sort 0 t in
@@ -62,11 +62,11 @@ split-kinds (e ∷ l) =
     (λ g. by_cases (eqb e.sort 2) (λ t. rw (f, g, t) (omega arith)) (λ h. rw (f, g, h) (omega arith))))
 
 -- an element takes 15 bytes or more
-pub few-ids : (s : List ℕ) → length (entries Places s) + length (entries Transitions s) + length (entries Arcs s) ≤ length s / 15
+pub few_ids : (s : List ℕ) → length (entries Places s) + length (entries Transitions s) + length (entries Arcs s) ≤ length s / 15
 unfolding Named.entries read_of
-few-ids s =
-    let a = split-kinds (read_of s).elements in
-    let b = elements-size Steps.most (Steps.inside (more s)) in
+few_ids s =
+    let a = split_kinds (read_of s).elements in
+    let b = elements_size Steps.most (Steps.inside (more s)) in
     let c = inside-size (more s) in
     let d = page-size (more s) in
     let e = net-size (more s) in
@@ -86,10 +86,10 @@ arc-size_of r = go (word (bytes "<place id=\"") r) (word (bytes "<transition id=
         let b = arc-size (word (bytes "<arc id=\"") r) in
         omega arith
 
-arcs-size : (n : ℕ) (r : Rest) → 35 * length (entries_of Arcs (Steps.content n r).elements) ≤ size r
+arcs_size : (n : ℕ) (r : Rest) → 35 * length (entries_of Arcs (Steps.content n r).elements) ≤ size r
 unfolding Steps.content entries_of
-arcs-size zero r = omega arith
-arcs-size (suc n) r = go (Steps.element r).rest (element-size r) (arc-size_of r) (λ x. arcs-size n (spaces x))
+arcs_size zero r = omega arith
+arcs_size (suc n) r = go (Steps.element r).rest (element-size r) (arc-size_of r) (λ x. arcs_size n (spaces x))
   where
     go : (x : Rest) → size x ≤ size r - 15 → (is_wanted Arcs (Steps.element r).element ≡ true → size x ≤ size r - 35)
         → ((y : Rest) → 35 * length (entries_of Arcs (Steps.content n (spaces y)).elements) ≤ size (spaces y))
@@ -102,10 +102,10 @@ arcs-size (suc n) r = go (Steps.element r).rest (element-size r) (arc-size_of r)
         (λ e. let m = k e in rw e (omega arith))
         (λ e. rw e (omega arith))
 
-pub few-arcs : (s : List ℕ) → length s ≤ 65536 → length (entries Arcs s) ≤ 2048
+pub few_arcs : (s : List ℕ) → length s ≤ 65536 → length (entries Arcs s) ≤ 2048
 unfolding Named.entries read_of
-few-arcs s h =
-    let a = arcs-size Steps.most (Steps.inside (more s)) in
+few_arcs s h =
+    let a = arcs_size Steps.most (Steps.inside (more s)) in
     let b = inside-size (more s) in
     let c = page-size (more s) in
     let d = net-size (more s) in
@@ -131,16 +131,16 @@ two_set [] a b h = absurd (omega arith)
 two_set (x ∷ []) a b h = absurd (omega arith)
 two_set (x ∷ y ∷ l) a b h = refl
 
-pub long-set : (l : List ℕ) (a b : ℕ) → length (set (set l 0 a) 1 b) ≡ length l
-long-set l a b = length-set (set l 0 a) 1 b ∙ length-set l 0 a
+pub long_set : (l : List ℕ) (a b : ℕ) → length (set (set l 0 a) 1 b) ≡ length l
+long_set l a b = length-set (set l 0 a) 1 b ∙ length-set l 0 a
 
 -- room for what is left to be listed
 pub room_for : (w : Which) (s : List ℕ) (first k size : ℕ) → rest_at s first ≡ Steps.inside (rest_at s 0) → k + length (entries w s) ≤ size
     → k + length (entries_of w (Steps.content Steps.most (rest_at s first)).elements) ≤ size
 room_for w s first k size e h = omega (arith, ap length (entries_at w s first e))
 
-pub found-count : (w : Which) (s : List ℕ) (first : ℕ) {table later : List ℕ} {k r : ℕ} → rest_at s first ≡ Steps.inside (rest_at s 0) → Collected s first w table k later r → r ≡ k + length (entries w s)
-found-count w s first e c = omega (arith, c.count, sym (length-map c.found (wanted_read w s)) ∙ ap length (c.entries ∙ entries_at w s first e))
+pub found_count : (w : Which) (s : List ℕ) (first : ℕ) {table later : List ℕ} {k r : ℕ} → rest_at s first ≡ Steps.inside (rest_at s 0) → Collected s first w table k later r → r ≡ k + length (entries w s)
+found_count w s first e c = omega (arith, c.count, sym (length-map c.found (wanted_read w s)) ∙ ap length (c.entries ∙ entries_at w s first e))
 
 module _ (s : List ℕ) (a b first : ℕ) {t₀ t₁ t₂ t₃ : List ℕ} {p t n : ℕ} (short : length s ≤ 65536) (room : 2 + length s / 15 ≤ length t₀) (heads : take 2 t₀ ≡ a ∷ b ∷ [])
     (ea : rest_at s a ≡ Steps.net (rest_at s 0)) (eb : rest_at s b ≡ Steps.page (rest_at s 0)) (ef : rest_at s first ≡ Steps.inside (rest_at s 0))
@@ -180,7 +180,7 @@ module _ (s : List ℕ) (a b first : ℕ) {t₀ t₁ t₂ t₃ : List ℕ} {p t 
       let np = counted Places ps cp.entries in
       let nt = counted Transitions ts ct.entries in
       let na = counted Arcs as' ca.entries in
-      let f = few-ids s in
+      let f = few_ids s in
       let kp = cp.count in
       let kt = ct.count in
       let ka = ca.count in
@@ -193,8 +193,8 @@ module _ (s : List ℕ) (a b first : ℕ) {t₀ t₁ t₂ t₃ : List ℕ} {p t 
         table = record {
           ids = ap (ids_in s) table ∙ all_ids;
           few = (let q : n ≤ length t₃ = omega arith in omega (arith, length-take-le n t₃ q, ap (λ (i : ℕ). length (take i t₃)) e));
-          place-count = omega arith;
-          transition-count = omega arith;
+          place_count = omega arith;
+          transition_count = omega arith;
           places =
               ap (λ (y : List ℕ). entries_in Places s (take (p - 2) (drop 2 y))) (table ∙ append_assoc (a ∷ b ∷ ps) ts as')
               ∙ ap (entries_in Places s) (take_at ps (ts ++ as') (p - 2) (omega arith))
@@ -204,5 +204,5 @@ module _ (s : List ℕ) (a b first : ℕ) {t₀ t₁ t₂ t₃ : List ℕ} {p t 
               ∙ ap (entries_in Arcs s) (drop_at ((a ∷ b ∷ ps) ++ ts) as' (2 + (p - 2) + (t - p)) l)
               ∙ ca.entries ∙ entries_at Arcs s first ef;
         };
-        arc-count = omega arith;
+        arc_count = omega arith;
       }

@@ -9,8 +9,8 @@ use Rattle.pnml_list.specs.declared.Counts.{Counts}
 pub record Listing (s table : List ℕ) (P T : ℕ) : Type 0 where
   pub ids : ids_in s table ≡ names s
   pub few : length table ≤ 4372
-  pub place-count : P ≡ length (entries Places s)
-  pub transition-count : T ≡ length (entries Transitions s)
+  pub place_count : P ≡ length (entries Places s)
+  pub transition_count : T ≡ length (entries Transitions s)
   pub places : entries_in Places s (take P (drop 2 table)) ≡ entries Places s
   pub arcs : entries_in Arcs s (drop (2 + P + T) table) ≡ entries Arcs s
 
@@ -22,4 +22,4 @@ id_count r = 2 + r.places + r.transitions + r.arcs
 pub record Listed (s later : List ℕ) (r : Counts) : Type 0 where
   pub room : id_count r ≤ length later
   pub table : Listing s (take (id_count r) later) r.places r.transitions
-  pub arc-count : r.arcs ≡ length (entries Arcs s)
+  pub arc_count : r.arcs ≡ length (entries Arcs s)

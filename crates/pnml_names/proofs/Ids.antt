@@ -31,9 +31,9 @@ module _ (s : List ℕ) (i : ℕ) where
   unfolding id_at
   character_not h g = rw (front-stop Id s i h g)
 
-  zero-not : (b : ℕ) → b ≡ 0 → goes_on Id (kind_of b) ≡ true → ⊥
+  zero_not : (b : ℕ) → b ≡ 0 → goes_on Id (kind_of b) ≡ true → ⊥
   unfolding kind_of
-  zero-not b e g = let z : false ≡ true = (rw e at g) in let w : ◌≡◌ {A = ℕ} 0 1 = cc in omega arith
+  zero_not b e g = let z : false ≡ true = (rw e at g) in let w : ◌≡◌ {A = ℕ} 0 1 = cc in omega arith
 
   -- an id is empty, or has a first character, which is not 0
   pub data Starts : Type 0 where
@@ -48,7 +48,7 @@ module _ (s : List ℕ) (i : ℕ) where
       (λ f.
       let h : i < length s = leb-false (length s) i f in
       by_cases (goes_on Id (kind_of (get_or s i 0)))
-      (λ g. character (get_or s i 0) h (λ z. zero-not (get_or s i 0) z g) (front-on Id s i h g))
+      (λ g. character (get_or s i 0) h (λ z. zero_not (get_or s i 0) z g) (front-on Id s i h g))
       (λ g. empty (front-stop Id s i h g)))
 
 pub record Comparing (s : List ℕ) (i j : ℕ) (answer : Bool) : Type 0 where
@@ -100,15 +100,15 @@ unfolding same_id
 same_refl [] = refl
 same_refl (a ∷ x) = rw (eq-eqb a a refl) (same_refl x)
 
-pub same-eq : (x y : List ℕ) → same_id x y ≡ true → x ≡ y
+pub same_eq : (x y : List ℕ) → same_id x y ≡ true → x ≡ y
 unfolding same_id
-same-eq [] [] e = refl
-same-eq [] (b ∷ y) e = let z : ◌≡◌ {A = ℕ} 0 1 = cc in absurd (omega arith)
-same-eq (a ∷ x) [] e = let z : ◌≡◌ {A = ℕ} 0 1 = cc in absurd (omega arith)
-same-eq (a ∷ x) (b ∷ y) e =
+same_eq [] [] e = refl
+same_eq [] (b ∷ y) e = let z : ◌≡◌ {A = ℕ} 0 1 = cc in absurd (omega arith)
+same_eq (a ∷ x) [] e = let z : ◌≡◌ {A = ℕ} 0 1 = cc in absurd (omega arith)
+same_eq (a ∷ x) (b ∷ y) e =
     let t = and-true (eqb a b) (same_id x y) e in
     let p = eqb-true a b t.0 in
-    let q = same-eq x y t.1 in
+    let q = same_eq x y t.1 in
     λ i. p i ∷ q i
 
 -- ids in a list
@@ -152,7 +152,7 @@ repeats-more x [] = refl
 repeats-more x (y ∷ l) =
     by_cases (same_id x y)
     (λ e.
-    let q = same-eq x y e in
+    let q = same_eq x y e in
     let a : among y (l ++ (x ∷ [])) ≡ true = ap (λ (z : List ℕ). among z (l ++ (x ∷ []))) (sym q) ∙ among-append x l (x ∷ []) ∙ last (among x l) (same_id x x) (same_refl x) in
     rw (e, a) (sym (ends (among y l || repeats l))))
     (λ e.
@@ -176,7 +176,7 @@ repeats-more x (y ∷ l) =
     assoc false b d = refl
 
     other : same_id x y ≡ false → same_id y x ≡ false
-    other e = by_cases (same_id y x) (λ f. let g : same_id x y ≡ true = ap (λ (z : List ℕ). same_id x z) (same-eq y x f) ∙ same_refl x in absurd (true≢false (sym g ∙ e))) (λ f. f)
+    other e = by_cases (same_id y x) (λ f. let g : same_id x y ≡ true = ap (λ (z : List ℕ). same_id x z) (same_eq y x f) ∙ same_refl x in absurd (true≢false (sym g ∙ e))) (λ f. f)
 
 pub repeats-front : (l m : List (List ℕ)) → repeats (l ++ m) ≡ false → repeats l ≡ false
 unfolding repeats
@@ -198,7 +198,7 @@ no_other x (y ∷ l) m e f =
     let a = or-false (among y (l ++ m)) (repeats (l ++ m)) e in
     let b = (or-false (among y l) (among y m) (sym (among-append y l m) ∙ a.0)).1 in
     by_cases (same_id x y)
-    (λ t. let q : among y m ≡ true = ap (λ (z : List ℕ). among z m) (sym (same-eq x y t)) ∙ f in absurd (true≢false (sym q ∙ b)))
+    (λ t. let q : among y m ≡ true = ap (λ (z : List ℕ). among z m) (sym (same_eq x y t)) ∙ f in absurd (true≢false (sym q ∙ b)))
     (λ t. rw t (no_other x l m a.1 f))
 
 -- ids at the positions of a table
@@ -232,7 +232,7 @@ position_at f (y ∷ l) (suc r) e h =
     let a = or-false (among (f y) (map f l)) (repeats (map f l)) e in
     by_cases (same_id (f (get_or l r 0)) (f y))
     (λ t.
-    let q : among (f y) (map f l) ≡ true = ap (λ (z : List ℕ). among z (map f l)) (sym (same-eq (f (get_or l r 0)) (f y) t)) ∙ among-at f l r (omega arith) in
+    let q : among (f y) (map f l) ≡ true = ap (λ (z : List ℕ). among z (map f l)) (sym (same_eq (f (get_or l r 0)) (f y) t)) ∙ among-at f l r (omega arith) in
     absurd (true≢false (sym q ∙ a.0)))
     (λ t. rw t (ap suc (position_at f l r a.1 (omega arith))))
 

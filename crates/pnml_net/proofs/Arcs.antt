@@ -76,21 +76,21 @@ in_range P T [] f = tt
 in_range P T (a ∷ l) f = (f.0.good, in_range P T l f.1)
 
 -- sorting keeps them
-fine-insert : (P T : ℕ) (a : Arc) (l : List Arc) → Fine P T a → AllFine P T l → AllFine P T (insert a l)
+fine_insert : (P T : ℕ) (a : Arc) (l : List Arc) → Fine P T a → AllFine P T l → AllFine P T (insert a l)
 unfolding insert
-fine-insert P T a [] f g = (f, tt)
-fine-insert P T a (b ∷ l) f g =
+fine_insert P T a [] f g = (f, tt)
+fine_insert P T a (b ∷ l) f g =
     by_cases (ltb (key a) (key b))
     (λ e. rw e (f, g))
-    (λ e. rw e (g.0, fine-insert P T a l f g.1))
+    (λ e. rw e (g.0, fine_insert P T a l f g.1))
 
-fine-onto : (P T : ℕ) (done l : List Arc) → AllFine P T done → AllFine P T l → AllFine P T (sort_onto done l)
+fine_onto : (P T : ℕ) (done l : List Arc) → AllFine P T done → AllFine P T l → AllFine P T (sort_onto done l)
 unfolding sort_onto
-fine-onto P T done [] f g = f
-fine-onto P T done (a ∷ l) f g = fine-onto P T (insert a done) l (fine-insert P T a done g.0 f) g.1
+fine_onto P T done [] f g = f
+fine_onto P T done (a ∷ l) f g = fine_onto P T (insert a done) l (fine_insert P T a done g.0 f) g.1
 
-pub fine-sorted : (P T : ℕ) (l : List Arc) → AllFine P T l → AllFine P T (sorted l)
-fine-sorted P T l g = fine-onto P T [] l tt g
+pub fine_sorted : (P T : ℕ) (l : List Arc) → AllFine P T l → AllFine P T (sorted l)
+fine_sorted P T l g = fine_onto P T [] l tt g
 
 length-insert : (a : Arc) (l : List Arc) → length (insert a l) ≡ suc (length l)
 unfolding insert
@@ -121,13 +121,13 @@ next-ltb m n =
 
 module _ (places transitions : List (List ℕ)) where
   -- the arcs of elements that all join, of which no weight is off
-  pub arcs-fine : (l : List Element) → any_apart places transitions l ≡ false → any_off 1 65535 l ≡ false → AllFine (length places) (length transitions) (arcs_of places transitions l)
+  pub arcs_fine : (l : List Element) → any_apart places transitions l ≡ false → any_off 1 65535 l ≡ false → AllFine (length places) (length transitions) (arcs_of places transitions l)
   unfolding any_apart arcs_of
-  arcs-fine [] f g = tt
-  arcs-fine (e ∷ l) f g =
+  arcs_fine [] f g = tt
+  arcs_fine (e ∷ l) f g =
       let a = or-false (is_none (joined places transitions e)) (any_apart places transitions l) f in
       let b = not-off 1 65535 e l g in
-      go (one_of places transitions e) a.0 (arcs-fine l a.1 b.2) b.0 b.1
+      go (one_of places transitions e) a.0 (arcs_fine l a.1 b.2) b.0 b.1
     where
       go : One places transitions e → is_none (joined places transitions e) ≡ false → AllFine (length places) (length transitions) (arcs_of places transitions l) → 1 ≤ number_of e → number_of e ≤ 65535
           → AllFine (length places) (length transitions) (joined places transitions e ++ arcs_of places transitions l)
@@ -136,12 +136,12 @@ module _ (places transitions : List (List ℕ)) where
           let w = k.weight in
           rw q (record { good = record { direction = k.direction; place = k.place; transition = k.transition; weight = omega arith }; light = omega arith }, i)
 
-  pub arcs-count : (l : List Element) → any_apart places transitions l ≡ false → length (arcs_of places transitions l) ≡ length l
+  pub arcs_count : (l : List Element) → any_apart places transitions l ≡ false → length (arcs_of places transitions l) ≡ length l
   unfolding any_apart arcs_of
-  arcs-count [] f = refl
-  arcs-count (e ∷ l) f =
+  arcs_count [] f = refl
+  arcs_count (e ∷ l) f =
       let a = or-false (is_none (joined places transitions e)) (any_apart places transitions l) f in
-      go (one_of places transitions e) a.0 (arcs-count l a.1)
+      go (one_of places transitions e) a.0 (arcs_count l a.1)
     where
       go : One places transitions e → is_none (joined places transitions e) ≡ false → length (arcs_of places transitions l) ≡ length l
           → length (joined places transitions e ++ arcs_of places transitions l) ≡ suc (length l)
@@ -149,19 +149,19 @@ module _ (places transitions : List (List ℕ)) where
       go (one x q k) h i = rw q (ap suc i)
 
   -- elements of which one does not join have fewer arcs than they are
-  few-arcs : (l : List Element) → length (arcs_of places transitions l) ≤ length l
+  few_arcs : (l : List Element) → length (arcs_of places transitions l) ≤ length l
   unfolding arcs_of
-  few-arcs [] = omega arith
-  few-arcs (e ∷ l) = go (one_of places transitions e) (few-arcs l)
+  few_arcs [] = omega arith
+  few_arcs (e ∷ l) = go (one_of places transitions e) (few_arcs l)
     where
       go : One places transitions e → length (arcs_of places transitions l) ≤ length l → length (joined places transitions e ++ arcs_of places transitions l) ≤ suc (length l)
       go (none q) i = rw q (omega arith)
       go (one x q k) i = rw q (omega arith)
 
-  pub apart-is : (l : List Element) → any_apart places transitions l ≡ ltb (length (arcs_of places transitions l)) (length l)
+  pub apart_is : (l : List Element) → any_apart places transitions l ≡ ltb (length (arcs_of places transitions l)) (length l)
   unfolding any_apart arcs_of
-  apart-is [] = refl
-  apart-is (e ∷ l) = go (one_of places transitions e) (few-arcs l) (apart-is l)
+  apart_is [] = refl
+  apart_is (e ∷ l) = go (one_of places transitions e) (few_arcs l) (apart_is l)
     where
       go : One places transitions e → length (arcs_of places transitions l) ≤ length l → any_apart places transitions l ≡ ltb (length (arcs_of places transitions l)) (length l)
           → (is_none (joined places transitions e) || any_apart places transitions l) ≡ ltb (length (joined places transitions e ++ arcs_of places transitions l)) (suc (length l))

@@ -12,7 +12,7 @@ use Rattle.net.specs.declared.Arc.{Arc}
 use Rattle.net.proofs.Numbers.{by_cases, and-true}
 use Rattle.pnml_page.specs.Profile.{Element}
 use Rattle.pnml_names.specs.Names.{same_id, position, among, repeats}
-use Rattle.pnml_names.proofs.Ids.{same-eq, same_refl, or-false, no_other, repeats-front, repeats-back}
+use Rattle.pnml_names.proofs.Ids.{same_eq, same_refl, or-false, no_other, repeats-front, repeats-back}
 use Rattle.pnml_net.specs.Read.{is_none, any_apart}
 use Rattle.pnml_net.specs.Named.{joined, arcs_of}
 use Rattle.pnml_net.specs.Drawn.{drawn}
@@ -35,21 +35,21 @@ same_number x (y ∷ l) (suc i) r a h =
     let once = or-false (among y l) (repeats l) r in
     by_cases (same_id x y)
     (λ e.
-    let q = same-eq x y e in
-    let f : same_id x (get_or l i []) ≡ false = by_cases (same_id x (get_or l i [])) (λ t. absurd (true≢false (sym (ap (λ (z : List ℕ). among z l) (sym q ∙ same-eq x (get_or l i []) t) ∙ among-id l i (omega arith)) ∙ once.0))) (λ t. t) in
+    let q = same_eq x y e in
+    let f : same_id x (get_or l i []) ≡ false = by_cases (same_id x (get_or l i [])) (λ t. absurd (true≢false (sym (ap (λ (z : List ℕ). among z l) (sym q ∙ same_eq x (get_or l i []) t) ∙ among-id l i (omega arith)) ∙ once.0))) (λ t. t) in
     rw e (ne_eqb 0 (suc i) (λ z. omega arith) ∙ sym f))
     (λ e. rw e (next (position x l) i ∙ same_number x l i once.1 (rw e at a) (omega arith)))
   where
     next : (m n : ℕ) → eqb (suc m) (suc n) ≡ eqb m n
     next m n = by_cases (eqb m n) (λ t. let q = eqb-true m n t in eq-eqb (suc m) (suc n) (ap suc q) ∙ sym t) (λ t. ne_eqb (suc m) (suc n) (λ q. true≢false (sym (eq-eqb m n (omega arith)) ∙ t)) ∙ sym t)
 
-other-id : (x : List ℕ) (l : List (List ℕ)) (i : ℕ) → among x l ≡ false → i < length l → same_id x (get_or l i []) ≡ false
-other-id x l i a h = by_cases (same_id x (get_or l i [])) (λ t. absurd (true≢false (sym (ap (λ (z : List ℕ). among z l) (same-eq x (get_or l i []) t) ∙ among-id l i h) ∙ a))) (λ t. t)
+other_id : (x : List ℕ) (l : List (List ℕ)) (i : ℕ) → among x l ≡ false → i < length l → same_id x (get_or l i []) ≡ false
+other_id x l i a h = by_cases (same_id x (get_or l i [])) (λ t. absurd (true≢false (sym (ap (λ (z : List ℕ). among z l) (same_eq x (get_or l i []) t) ∙ among-id l i h) ∙ a))) (λ t. t)
 
-weight-append : (d p t : ℕ) (l m : List Arc) → weight_on d p t (l ++ m) ≡ weight_on d p t l + weight_on d p t m
+weight_append : (d p t : ℕ) (l m : List Arc) → weight_on d p t (l ++ m) ≡ weight_on d p t l + weight_on d p t m
 unfolding weight_on
-weight-append d p t [] m = omega arith
-weight-append d p t (a ∷ l) m = let i = weight-append d p t l m in omega arith
+weight_append d p t [] m = omega arith
+weight_append d p t (a ∷ l) m = let i = weight_append d p t l m in omega arith
 
 and_turn : (a b : Bool) → (a && true && b) ≡ (b && a)
 and_turn true true = refl
@@ -78,11 +78,11 @@ module _ (ps ts : List (List ℕ)) (once : repeats (ps ++ ts) ≡ false) (p t : 
   no_transition : (x : List ℕ) → among x ps ≡ true → among x ts ≡ false
   no_transition x a = by_cases (among x ts) (λ e. absurd (true≢false (sym a ∙ no_place x e))) (λ e. e)
 
-  is-place : (x : List ℕ) → among x ps ≡ true → eqb (position x ps) p ≡ same_id x place
-  is-place x a = same_number x ps p (repeats-front ps ts once) a hp
+  is_place : (x : List ℕ) → among x ps ≡ true → eqb (position x ps) p ≡ same_id x place
+  is_place x a = same_number x ps p (repeats-front ps ts once) a hp
 
-  is-transition : (x : List ℕ) → among x ts ≡ true → eqb (position x ts) t ≡ same_id x transition
-  is-transition x a = same_number x ts t (repeats-back ps ts once) a ht
+  is_transition : (x : List ℕ) → among x ts ≡ true → eqb (position x ts) t ≡ same_id x transition
+  is_transition x a = same_number x ts t (repeats-back ps ts once) a ht
 
   -- one arc
   module _ (a : Element) (there : is_none (joined ps ts a) ≡ false) where
@@ -100,11 +100,11 @@ module _ (ps ts : List (List ℕ)) (once : repeats (ps ++ ts) ≡ false) (p t : 
     one-taken = by_cases (among x ps && among y ts)
         (λ e.
         let u = and-true (among x ps) (among y ts) e in
-        rw (e, is-place x u.0, is-transition y u.1, and_turn (same_id y transition) (same_id x place)) (plus_none _))
+        rw (e, is_place x u.0, is_transition y u.1, and_turn (same_id y transition) (same_id x place)) (plus_none _))
         (λ f. by_cases (among y ps && among x ts)
         (λ e.
         let u = and-true (among y ps) (among x ts) e in
-        rw (f, e, other-id x ps p (no_place x u.1) hp, and_not (eqb (position x ts) t) (eqb (position y ps) p)))
+        rw (f, e, other_id x ps p (no_place x u.1) hp, and_not (eqb (position x ts) t) (eqb (position y ps) p)))
         (λ e. absurd (true≢false (rw (f, e) at there))))
       where
         plus_none : (k : ℕ) → k + 0 ≡ k
@@ -115,28 +115,28 @@ module _ (ps ts : List (List ℕ)) (once : repeats (ps ++ ts) ≡ false) (p t : 
     one-given = by_cases (among x ps && among y ts)
         (λ e.
         let u = and-true (among x ps) (among y ts) e in
-        rw (e, other-id x ts t (no_transition x u.0) ht, and_not (eqb (position y ts) t) (eqb (position x ps) p)))
+        rw (e, other_id x ts t (no_transition x u.0) ht, and_not (eqb (position y ts) t) (eqb (position x ps) p)))
         (λ f. by_cases (among y ps && among x ts)
         (λ e.
         let u = and-true (among y ps) (among x ts) e in
-        rw (f, e, is-place y u.0, is-transition x u.1, and_same (same_id x transition) (same_id y place)) (plus_none _))
+        rw (f, e, is_place y u.0, is_transition x u.1, and_same (same_id x transition) (same_id y place)) (plus_none _))
         (λ e. absurd (true≢false (rw (f, e) at there))))
       where
         plus_none : (k : ℕ) → k + 0 ≡ k
         plus_none k = omega arith
 
-  pub taken-drawn : (l : List Element) → any_apart ps ts l ≡ false → weight_on 0 p t (arcs_of ps ts l) ≡ drawn place transition l
+  pub taken_drawn : (l : List Element) → any_apart ps ts l ≡ false → weight_on 0 p t (arcs_of ps ts l) ≡ drawn place transition l
   unfolding any_apart arcs_of drawn weight_on
-  taken-drawn [] f = refl
-  taken-drawn (e ∷ l) f =
+  taken_drawn [] f = refl
+  taken_drawn (e ∷ l) f =
       let a = or-false (is_none (joined ps ts e)) (any_apart ps ts l) f in
-      let w = weight-append 0 p t (joined ps ts e) (arcs_of ps ts l) in
-      w ∙ (λ j. one-taken e a.0 j + taken-drawn l a.1 j)
+      let w = weight_append 0 p t (joined ps ts e) (arcs_of ps ts l) in
+      w ∙ (λ j. one-taken e a.0 j + taken_drawn l a.1 j)
 
   pub given-drawn : (l : List Element) → any_apart ps ts l ≡ false → weight_on 1 p t (arcs_of ps ts l) ≡ drawn transition place l
   unfolding any_apart arcs_of drawn weight_on
   given-drawn [] f = refl
   given-drawn (e ∷ l) f =
       let a = or-false (is_none (joined ps ts e)) (any_apart ps ts l) f in
-      let w = weight-append 1 p t (joined ps ts e) (arcs_of ps ts l) in
+      let w = weight_append 1 p t (joined ps ts e) (arcs_of ps ts l) in
       w ∙ (λ j. one-given e a.0 j + given-drawn l a.1 j)

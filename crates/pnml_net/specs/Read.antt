@@ -72,6 +72,6 @@ unfoldable pub any_apart : List (List ℕ) → List (List ℕ) → List Element 
 any_apart places transitions [] = false
 any_apart places transitions (e ∷ l) = is_none (joined places transitions e) || any_apart places transitions l
 
--- the same as wrong_in (proofs/Arcs, apart-is)
+-- the same as wrong_in (proofs/Arcs, apart_is)
 unfoldable pub end_wrong : List ℕ → Bool
 end_wrong s = any_apart (ids Places s) (ids Transitions s) (entries Arcs s)

@@ -37,10 +37,10 @@ most-enough s m h g =
     enough 4370 m (Steps.inside (more s)) g (omega arith)
 
 -- each takes 15 bytes or more
-pub elements-size : (n : ℕ) (r : Rest) → 15 * length (Steps.content n r).elements ≤ size r
+pub elements_size : (n : ℕ) (r : Rest) → 15 * length (Steps.content n r).elements ≤ size r
 unfolding Steps.content
-elements-size zero r = omega arith
-elements-size (suc n) r = go (Steps.element r).rest (element-size r) (λ x. elements-size n (spaces x))
+elements_size zero r = omega arith
+elements_size (suc n) r = go (Steps.element r).rest (element-size r) (λ x. elements_size n (spaces x))
   where
     go : (x : Rest) → size x ≤ size r - 15 → ((y : Rest) → 15 * length (Steps.content n (spaces y)).elements ≤ size (spaces y))
         → 15 * length (Steps.if_read x (record { elements = []; rest = r }) (Steps.before (Steps.element r).element (Steps.content n (spaces x)))).elements ≤ size r

@@ -145,15 +145,15 @@ element-size r = go (word (bytes "<place id=\"") r) (word_size (bytes "<place id
         omega arith
 
 -- what is left at a position
-pub rest-size : (s : List ℕ) (a : ℕ) → size (rest_at s a) ≡ suc (length s) - a
-rest-size s a =
+pub rest_size : (s : List ℕ) (a : ℕ) → size (rest_at s a) ≡ suc (length s) - a
+rest_size s a =
     by_cases (leb a (length s))
     (λ t. let h = leb-true a (length s) t in let l = length-drop a s in ap size (rest_in s a h) ∙ omega arith)
     (λ f. let h = leb-false a (length s) f in ap size (rest_out s a h) ∙ omega arith)
 
 -- a position before which more of the text is left than at one within the text is within it too
 pub before-within : (s : List ℕ) (a b k : ℕ) → size (rest_at s b) ≤ size (rest_at s a) - suc k → b ≤ length s → a + k ≤ length s
-before-within s a b k h i = omega (arith, rest-size s a, rest-size s b)
+before-within s a b k h i = omega (arith, rest_size s a, rest_size s b)
 
 pub content-size : (n : ℕ) (r : Rest) → size (Steps.content n r).rest ≤ size r
 unfolding Steps.content

@@ -99,8 +99,8 @@ module _ (s : List ℕ) (p : ℕ) {x : Rest} (e : rest_at s p ≡ x) where
   pub stands : (f : Rest → Steps.Read) (other : Steps.Read) → p ≤ length s → Steps.if_stands x f other ≡ f (rest_at s p)
   stands f other i = rw (← e, rest_in s p i)
 
-  pub stands-not : (f : Rest → Steps.Read) (other : Steps.Read) → length s < p → Steps.if_stands x f other ≡ other
-  stands-not f other o = rw (← e, rest_out s p o)
+  pub stands_not : (f : Rest → Steps.Read) (other : Steps.Read) → length s < p → Steps.if_stands x f other ≡ other
+  stands_not f other o = rw (← e, rest_out s p o)
 
   pub is_read : (none some : Steps.Content) → p ≤ length s → Steps.if_read x none some ≡ some
   is_read none some i = rw (← e, rest_in s p i)
@@ -143,7 +143,7 @@ module _ (s : List ℕ) (a p : ℕ) (e1 : rest_at s p ≡ word (bytes "<place id
         → Reads s (record { element = Transition t; next = next }) (Steps.element (rest_at s a))
     unfolding Steps.element
     transition-read {next} i g =
-        let w = stands-not s p e1 Steps.place_read _ o ∙ stands s t e2 Steps.transition_read _ i in
+        let w = stands_not s p e1 Steps.place_read _ o ∙ stands s t e2 Steps.transition_read _ i in
         record {
           here = ap Steps.a_transition (id-at s t);
           element = ap Steps.a_transition (id-at s t) ∙ ap (λ (y : Steps.Read). y.element) (sym w);
@@ -155,7 +155,7 @@ module _ (s : List ℕ) (a p : ℕ) (e1 : rest_at s p ≡ word (bytes "<place id
         → Reads s (record { element = Arc r h.source h.target h.number; next = h.next }) (Steps.element (rest_at s a))
     unfolding Steps.element
     arc-read r {h} n e3 g =
-        let w = stands-not s p e1 Steps.place_read _ o ∙ stands-not s t e2 Steps.transition_read _ n ∙ ap Steps.arc_read (sym e3) in
+        let w = stands_not s p e1 Steps.place_read _ o ∙ stands_not s t e2 Steps.transition_read _ n ∙ ap Steps.arc_read (sym e3) in
         let b : id_at s h.source ≡ id_of (Steps.source (rest_at s r)) = id-at s h.source ∙ ap id_of g.source in
         let d : id_at s h.target ≡ id_of (Steps.target (rest_at s r)) = id-at s h.target ∙ ap id_of g.target in
         record {

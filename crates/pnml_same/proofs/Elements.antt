@@ -24,16 +24,16 @@ module _ (sort ids missing : ℕ) (w : String) (l : List Piece) (others : List F
   abbrev form : Form
   form = record { sort = sort; ids = ids; missing = missing; pieces = tag w ∷ l }
 
-  read-so : reads (parsed [] s) (tag w ∷ l) ≡ parse (held r l) (steps r l)
-  read-so = reads-are (tag w ∷ l) [] (more s) ∙ ap (λ (x : Rest). parse (held x l) (steps x l)) e
+  read_so : reads (parsed [] s) (tag w ∷ l) ≡ parse (held r l) (steps r l)
+  read_so = reads-are (tag w ∷ l) [] (more s) ∙ ap (λ (x : Rest). parse (held x l) (steps x l)) e
 
-  form-no : steps r l ≡ outside → element (form ∷ others) s ≡ element others s
+  form_no : steps r l ≡ outside → element (form ∷ others) s ≡ element others s
   unfolding element
-  form-no q = let p : reads (parsed [] s) (tag w ∷ l) ≡ failed = read-so ∙ ap (parse (held r l)) q in rw (p, element)
+  form_no q = let p : reads (parsed [] s) (tag w ∷ l) ≡ failed = read_so ∙ ap (parse (held r l)) q in rw (p, element)
 
-  form-yes : {x : List ℕ} → steps r l ≡ more x → element (form ∷ others) s ≡ stands (made form (held r l)) x
+  form_yes : {x : List ℕ} → steps r l ≡ more x → element (form ∷ others) s ≡ stands (made form (held r l)) x
   unfolding element
-  form-yes {x} q = let p : reads (parsed [] s) (tag w ∷ l) ≡ parsed (held r l) x = read-so ∙ ap (parse (held r l)) q in rw (p, element)
+  form_yes {x} q = let p : reads (parsed [] s) (tag w ∷ l) ≡ parsed (held r l) x = read_so ∙ ap (parse (held r l)) q in rw (p, element)
 
 -- ---- the three ways in which a place or an arc ends
 
@@ -110,8 +110,8 @@ data Agrees (n : Next) (r : Read) : Type 0 where
   neither : n ≡ none → r.rest ≡ outside → Agrees n r
   both : (e : Element) (x : List ℕ) → n ≡ stands e x → r.rest ≡ more x → cap e ≡ r.element → Agrees n r
 
-abbrev empty-transition : List Piece
-empty-transition = tag "\">" ∷ blank ∷ tag "</transition>" ∷ []
+abbrev empty_transition_lem : List Piece
+empty_transition_lem = tag "\">" ∷ blank ∷ tag "</transition>" ∷ []
 
 abbrev markings : List Piece
 markings = full "<initialMarking>" "</initialMarking>" "</place>" 0 refl
@@ -127,7 +127,7 @@ of_arcs =
     ∷ []
 
 abbrev of_transitions : List Form
-of_transitions = Profile.transition (tag "\"/>" ∷ []) ∷ Profile.transition empty-transition ∷ of_arcs
+of_transitions = Profile.transition (tag "\"/>" ∷ []) ∷ Profile.transition empty_transition_lem ∷ of_arcs
 
 abbrev ends_of : List Piece → List Piece
 ends_of l = name ∷ tag "\" source=\"" ∷ name ∷ tag "\" target=\"" ∷ name ∷ l
@@ -135,66 +135,66 @@ ends_of l = name ∷ tag "\" source=\"" ∷ name ∷ tag "\" target=\"" ∷ name
 module _ (s : List ℕ) where
   no_places : word (bytes "<place id=\"") (more s) ≡ outside → element forms s ≡ element of_transitions s
   no_places e =
-      form-no 0 1 0 "<place id=\"" (name ∷ tag "\"/>" ∷ []) _ s e (steps_outside (name ∷ tag "\"/>" ∷ []))
-      ∙ form-no 0 1 0 "<place id=\"" (name ∷ tag "\">" ∷ blank ∷ tag "</place>" ∷ []) _ s e (steps_outside (name ∷ tag "\">" ∷ blank ∷ tag "</place>" ∷ []))
-      ∙ form-no 0 1 0 "<place id=\"" (name ∷ markings) _ s e (steps_outside (name ∷ markings))
+      form_no 0 1 0 "<place id=\"" (name ∷ tag "\"/>" ∷ []) _ s e (steps_outside (name ∷ tag "\"/>" ∷ []))
+      ∙ form_no 0 1 0 "<place id=\"" (name ∷ tag "\">" ∷ blank ∷ tag "</place>" ∷ []) _ s e (steps_outside (name ∷ tag "\">" ∷ blank ∷ tag "</place>" ∷ []))
+      ∙ form_no 0 1 0 "<place id=\"" (name ∷ markings) _ s e (steps_outside (name ∷ markings))
 
   no_transitions : word (bytes "<transition id=\"") (more s) ≡ outside → element of_transitions s ≡ element of_arcs s
   no_transitions e =
-      form-no 1 1 0 "<transition id=\"" (name ∷ tag "\"/>" ∷ []) _ s e (steps_outside (name ∷ tag "\"/>" ∷ []))
-      ∙ form-no 1 1 0 "<transition id=\"" (name ∷ empty-transition) _ s e (steps_outside (name ∷ empty-transition))
+      form_no 1 1 0 "<transition id=\"" (name ∷ tag "\"/>" ∷ []) _ s e (steps_outside (name ∷ tag "\"/>" ∷ []))
+      ∙ form_no 1 1 0 "<transition id=\"" (name ∷ empty_transition_lem) _ s e (steps_outside (name ∷ empty_transition_lem))
 
   no_arcs : {r : Rest} → word (bytes "<arc id=\"") (more s) ≡ r → steps r (ends_of (tag "\"/>" ∷ [])) ≡ outside → steps r (ends_of (tag "\">" ∷ blank ∷ tag "</arc>" ∷ [])) ≡ outside → steps r (ends_of weights) ≡ outside
       → element of_arcs s ≡ none
   unfolding element
   no_arcs e f g h =
-      form-no 2 3 1 "<arc id=\"" (ends_of (tag "\"/>" ∷ [])) (Profile.arc (tag "\">" ∷ blank ∷ tag "</arc>" ∷ []) ∷ Profile.arc weights ∷ []) s e f
-      ∙ form-no 2 3 1 "<arc id=\"" (ends_of (tag "\">" ∷ blank ∷ tag "</arc>" ∷ [])) (Profile.arc weights ∷ []) s e g
-      ∙ form-no 2 3 1 "<arc id=\"" (ends_of weights) [] s e h
+      form_no 2 3 1 "<arc id=\"" (ends_of (tag "\"/>" ∷ [])) (Profile.arc (tag "\">" ∷ blank ∷ tag "</arc>" ∷ []) ∷ Profile.arc weights ∷ []) s e f
+      ∙ form_no 2 3 1 "<arc id=\"" (ends_of (tag "\">" ∷ blank ∷ tag "</arc>" ∷ [])) (Profile.arc weights ∷ []) s e g
+      ∙ form_no 2 3 1 "<arc id=\"" (ends_of weights) [] s e h
 
   none_left : word (bytes "<arc id=\"") (more s) ≡ outside → element of_arcs s ≡ none
   none_left e = no_arcs e (steps_outside (ends_of (tag "\"/>" ∷ []))) (steps_outside (ends_of (tag "\">" ∷ blank ∷ tag "</arc>" ∷ []))) (steps_outside (ends_of weights))
 
   -- an arc
-  abbrev at-arc : Rest
-  at-arc = word (bytes "<arc id=\"") (more s)
+  abbrev at_arc : Rest
+  at_arc = word (bytes "<arc id=\"") (more s)
 
-  arc-agrees : Agrees (element of_arcs s) (arc_read at-arc)
+  arc-agrees : Agrees (element of_arcs s) (arc_read at_arc)
   unfolding Steps.source Steps.target Steps.arc
-  arc-agrees = go (tail-ends "<inscription>" "</inscription>" "</arc>" 1 refl (id (Steps.target at-arc)))
+  arc-agrees = go (tail-ends "<inscription>" "</inscription>" "</arc>" 1 refl (id (Steps.target at_arc)))
     where
-      go : Ended "<inscription>" "</inscription>" "</arc>" 1 refl (id (Steps.target at-arc)) → Agrees (element of_arcs s) (arc_read at-arc)
+      go : Ended "<inscription>" "</inscription>" "</arc>" 1 refl (id (Steps.target at_arc)) → Agrees (element of_arcs s) (arc_read at_arc)
       go (by_closed x q n m) =
-          both _ x (form-yes 2 3 1 "<arc id=\"" (ends_of (tag "\"/>" ∷ [])) _ s refl q) m
-          (ap (an_arc (id_of at-arc) (id_of (Steps.source at-arc)) (id_of (Steps.target at-arc))) (sym n))
+          both _ x (form_yes 2 3 1 "<arc id=\"" (ends_of (tag "\"/>" ∷ [])) _ s refl q) m
+          (ap (an_arc (id_of at_arc) (id_of (Steps.source at_arc)) (id_of (Steps.target at_arc))) (sym n))
       go (by_void x p q n m) =
           both _ x
-          (form-no 2 3 1 "<arc id=\"" (ends_of (tag "\"/>" ∷ [])) _ s refl p ∙ form-yes 2 3 1 "<arc id=\"" (ends_of (tag "\">" ∷ blank ∷ tag "</arc>" ∷ [])) _ s refl q) m
-          (ap (an_arc (id_of at-arc) (id_of (Steps.source at-arc)) (id_of (Steps.target at-arc))) (sym n))
+          (form_no 2 3 1 "<arc id=\"" (ends_of (tag "\"/>" ∷ [])) _ s refl p ∙ form_yes 2 3 1 "<arc id=\"" (ends_of (tag "\">" ∷ blank ∷ tag "</arc>" ∷ [])) _ s refl q) m
+          (ap (an_arc (id_of at_arc) (id_of (Steps.source at_arc)) (id_of (Steps.target at_arc))) (sym n))
       go (by_full x o p q n m) =
           both _ x
-          (form-no 2 3 1 "<arc id=\"" (ends_of (tag "\"/>" ∷ [])) _ s refl o
-          ∙ form-no 2 3 1 "<arc id=\"" (ends_of (tag "\">" ∷ blank ∷ tag "</arc>" ∷ [])) _ s refl p
-          ∙ form-yes 2 3 1 "<arc id=\"" (ends_of weights) _ s refl q)
+          (form_no 2 3 1 "<arc id=\"" (ends_of (tag "\"/>" ∷ [])) _ s refl o
+          ∙ form_no 2 3 1 "<arc id=\"" (ends_of (tag "\">" ∷ blank ∷ tag "</arc>" ∷ [])) _ s refl p
+          ∙ form_yes 2 3 1 "<arc id=\"" (ends_of weights) _ s refl q)
           m
-          (ap (an_arc (id_of at-arc) (id_of (Steps.source at-arc)) (id_of (Steps.target at-arc))) (sym n))
+          (ap (an_arc (id_of at_arc) (id_of (Steps.source at_arc)) (id_of (Steps.target at_arc))) (sym n))
       go (nowhere o p q m) = neither (no_arcs refl o p q) m
 
   -- a transition
   module _ (b : List ℕ) (e : word (bytes "<transition id=\"") (more s) ≡ more b) where
-    apart-arc : word (bytes "<arc id=\"") (more s) ≡ outside
-    apart-arc = clash_word (bytes "<transition id=\"") (bytes "<arc id=\"") (more s) b refl e
+    apart_arc : word (bytes "<arc id=\"") (more s) ≡ outside
+    apart_arc = clash_word (bytes "<transition id=\"") (bytes "<arc id=\"") (more s) b refl e
 
     transition-by : (x y : Rest) → word (bytes "\"/>") (id (more b)) ≡ x → word (bytes "</transition>") (spaces (word (bytes "\">") (id (more b)))) ≡ y → Agrees (element of_transitions s) (transition_read (more b))
     unfolding Steps.transition
     transition-by (more x) y p q =
-        both _ x (form-yes 1 1 0 "<transition id=\"" (name ∷ tag "\"/>" ∷ []) _ s e p) (ap (λ (z : Rest). or_else z (word (bytes "</transition>") (spaces (word (bytes "\">") (id (more b)))))) p) refl
+        both _ x (form_yes 1 1 0 "<transition id=\"" (name ∷ tag "\"/>" ∷ []) _ s e p) (ap (λ (z : Rest). or_else z (word (bytes "</transition>") (spaces (word (bytes "\">") (id (more b)))))) p) refl
     transition-by outside (more y) p q =
-        both _ y (form-no 1 1 0 "<transition id=\"" (name ∷ tag "\"/>" ∷ []) _ s e p ∙ form-yes 1 1 0 "<transition id=\"" (name ∷ empty-transition) _ s e q)
+        both _ y (form_no 1 1 0 "<transition id=\"" (name ∷ tag "\"/>" ∷ []) _ s e p ∙ form_yes 1 1 0 "<transition id=\"" (name ∷ empty_transition_lem) _ s e q)
         (ap (λ (z : Rest). or_else z (word (bytes "</transition>") (spaces (word (bytes "\">") (id (more b)))))) p ∙ q) refl
     transition-by outside outside p q =
         neither
-        (form-no 1 1 0 "<transition id=\"" (name ∷ tag "\"/>" ∷ []) _ s e p ∙ form-no 1 1 0 "<transition id=\"" (name ∷ empty-transition) _ s e q ∙ none_left apart-arc)
+        (form_no 1 1 0 "<transition id=\"" (name ∷ tag "\"/>" ∷ []) _ s e p ∙ form_no 1 1 0 "<transition id=\"" (name ∷ empty_transition_lem) _ s e q ∙ none_left apart_arc)
         (ap (λ (z : Rest). or_else z (word (bytes "</transition>") (spaces (word (bytes "\">") (id (more b)))))) p ∙ q)
 
   -- a place
@@ -209,30 +209,30 @@ module _ (s : List ℕ) where
     place-agrees = go (tail-ends "<initialMarking>" "</initialMarking>" "</place>" 0 refl (id (more a)))
       where
         go : Ended "<initialMarking>" "</initialMarking>" "</place>" 0 refl (id (more a)) → Agrees (element forms s) (place_read (more a))
-        go (by_closed x q n m) = both _ x (form-yes 0 1 0 "<place id=\"" (name ∷ tag "\"/>" ∷ []) _ s e q) m (ap (a_place (front Id a)) (sym n))
+        go (by_closed x q n m) = both _ x (form_yes 0 1 0 "<place id=\"" (name ∷ tag "\"/>" ∷ []) _ s e q) m (ap (a_place (front Id a)) (sym n))
         go (by_void x p q n m) =
             both _ x
-            (form-no 0 1 0 "<place id=\"" (name ∷ tag "\"/>" ∷ []) _ s e p ∙ form-yes 0 1 0 "<place id=\"" (name ∷ tag "\">" ∷ blank ∷ tag "</place>" ∷ []) _ s e q) m
+            (form_no 0 1 0 "<place id=\"" (name ∷ tag "\"/>" ∷ []) _ s e p ∙ form_yes 0 1 0 "<place id=\"" (name ∷ tag "\">" ∷ blank ∷ tag "</place>" ∷ []) _ s e q) m
             (ap (a_place (front Id a)) (sym n))
         go (by_full x o p q n m) =
             both _ x
-            (form-no 0 1 0 "<place id=\"" (name ∷ tag "\"/>" ∷ []) _ s e o
-            ∙ form-no 0 1 0 "<place id=\"" (name ∷ tag "\">" ∷ blank ∷ tag "</place>" ∷ []) _ s e p
-            ∙ form-yes 0 1 0 "<place id=\"" (name ∷ markings) _ s e q)
+            (form_no 0 1 0 "<place id=\"" (name ∷ tag "\"/>" ∷ []) _ s e o
+            ∙ form_no 0 1 0 "<place id=\"" (name ∷ tag "\">" ∷ blank ∷ tag "</place>" ∷ []) _ s e p
+            ∙ form_yes 0 1 0 "<place id=\"" (name ∷ markings) _ s e q)
             m
             (ap (a_place (front Id a)) (sym n))
         go (nowhere o p q m) =
             neither
-            (form-no 0 1 0 "<place id=\"" (name ∷ tag "\"/>" ∷ []) _ s e o
-            ∙ form-no 0 1 0 "<place id=\"" (name ∷ tag "\">" ∷ blank ∷ tag "</place>" ∷ []) _ s e p
-            ∙ form-no 0 1 0 "<place id=\"" (name ∷ markings) _ s e q
+            (form_no 0 1 0 "<place id=\"" (name ∷ tag "\"/>" ∷ []) _ s e o
+            ∙ form_no 0 1 0 "<place id=\"" (name ∷ tag "\">" ∷ blank ∷ tag "</place>" ∷ []) _ s e p
+            ∙ form_no 0 1 0 "<place id=\"" (name ∷ markings) _ s e q
             ∙ others_none)
             m
 
 -- agreement along equations
-agrees-as : {n n' : Next} {r r' : Read} → n' ≡ n → r' ≡ r → Agrees n r → Agrees n' r'
-agrees-as p q (neither a b) = neither (p ∙ a) (ap (λ (y : Read). y.rest) q ∙ b)
-agrees-as p q (both e x a b c) = both e x (p ∙ a) (ap (λ (y : Read). y.rest) q ∙ b) (c ∙ sym (ap (λ (y : Read). y.element) q))
+agrees_as : {n n' : Next} {r r' : Read} → n' ≡ n → r' ≡ r → Agrees n r → Agrees n' r'
+agrees_as p q (neither a b) = neither (p ∙ a) (ap (λ (y : Read). y.rest) q ∙ b)
+agrees_as p q (both e x a b c) = both e x (p ∙ a) (ap (λ (y : Read). y.rest) q ∙ b) (c ∙ sym (ap (λ (y : Read). y.element) q))
 
 element-agrees : (s : List ℕ) → Agrees (element forms s) (Steps.element (more s))
 unfolding Steps.element
@@ -240,12 +240,12 @@ element-agrees s = first (word (bytes "<place id=\"") (more s)) refl
   where
     second : (y : Rest) → word (bytes "<transition id=\"") (more s) ≡ y → Agrees (element of_transitions s) (if_stands y transition_read (arc_read (word (bytes "<arc id=\"") (more s))))
     second (more b) e = transition-by s b e (word (bytes "\"/>") (id (more b))) (word (bytes "</transition>") (spaces (word (bytes "\">") (id (more b))))) refl refl
-    second outside e = agrees-as (no_transitions s e) refl (arc-agrees s)
+    second outside e = agrees_as (no_transitions s e) refl (arc-agrees s)
 
     first : (x : Rest) → word (bytes "<place id=\"") (more s) ≡ x → Agrees (element forms s) (if_stands (word (bytes "<place id=\"") (more s)) place_read (if_stands (word (bytes "<transition id=\"") (more s)) transition_read (arc_read (word (bytes "<arc id=\"") (more s)))))
-    first (more a) e = agrees-as refl (ap (λ (z : Rest). if_stands z place_read (if_stands (word (bytes "<transition id=\"") (more s)) transition_read (arc_read (word (bytes "<arc id=\"") (more s))))) e) (place-agrees s a e)
+    first (more a) e = agrees_as refl (ap (λ (z : Rest). if_stands z place_read (if_stands (word (bytes "<transition id=\"") (more s)) transition_read (arc_read (word (bytes "<arc id=\"") (more s))))) e) (place-agrees s a e)
     first outside e =
-        agrees-as (no_places s e) (ap (λ (z : Rest). if_stands z place_read (if_stands (word (bytes "<transition id=\"") (more s)) transition_read (arc_read (word (bytes "<arc id=\"") (more s))))) e)
+        agrees_as (no_places s e) (ap (λ (z : Rest). if_stands z place_read (if_stands (word (bytes "<transition id=\"") (more s)) transition_read (arc_read (word (bytes "<arc id=\"") (more s))))) e)
         (second (word (bytes "<transition id=\"") (more s)) refl)
 
 -- ---- all of them

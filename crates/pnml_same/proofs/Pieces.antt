@@ -156,28 +156,28 @@ module _ (s : List ℕ) where
   digits-yes : eqb (length (run is_digit s)) 0 ≡ false → digits (more s) ≡ more (Rest.past Digits s)
   digits-yes f = rw (front-is is_digit Digits digit-is s, f)
 
-next-is : (h : List (List ℕ)) (s : List ℕ) (p : Piece) → next (parsed h s) p ≡ parse (h ++ holds (more s) p) (step (more s) p)
+next_is : (h : List (List ℕ)) (s : List ℕ) (p : Piece) → next (parsed h s) p ≡ parse (h ++ holds (more s) p) (step (more s) p)
 unfolding next
-next-is h s (tag w) = by_cases (starts (bytes w) s)
+next_is h s (tag w) = by_cases (starts (bytes w) s)
     (λ t. rw (t, next) ((λ j. parsed (sym (append-nil h) j) (drop (length (bytes w)) s)) ∙ sym (ap (parse (h ++ [])) (strip-yes (bytes w) s t))))
     (λ f. rw (f, next) (sym (ap (parse (h ++ [])) (strip-no (bytes w) s f))))
-next-is h s blank = λ j. parsed (sym (append-nil h) j) (sym (past_is is_space Spaces space_is s) j)
-next-is h s name = by_cases (eqb (length (run is_id s)) 0 || ltb 32 (length (run is_id s)))
+next_is h s blank = λ j. parsed (sym (append-nil h) j) (sym (past_is is_space Spaces space_is s) j)
+next_is h s name = by_cases (eqb (length (run is_id s)) 0 || ltb 32 (length (run is_id s)))
     (λ t. rw (t, next) (sym (ap (parse (h ++ (front Id s ∷ []))) (id-no s t))))
     (λ f. rw (f, next) ((λ j. parsed (h ++ (sym (front-is is_id Id id-is s) j ∷ [])) (sym (past_is is_id Id id-is s) j)) ∙ sym (ap (parse (h ++ (front Id s ∷ []))) (id-yes s f))))
-next-is h s number = by_cases (eqb (length (run is_digit s)) 0)
+next_is h s number = by_cases (eqb (length (run is_digit s)) 0)
     (λ t. rw (t, next) (sym (ap (parse (h ++ (front Digits s ∷ []))) (digits-no s t))))
     (λ f. rw (f, next) ((λ j. parsed (h ++ (sym (front-is is_digit Digits digit-is s) j ∷ [])) (sym (past_is is_digit Digits digit-is s) j)) ∙ sym (ap (parse (h ++ (front Digits s ∷ []))) (digits-yes s f))))
 
-step-outside : (p : Piece) → step outside p ≡ outside
-step-outside (tag w) = refl
-step-outside blank = refl
-step-outside name = refl
-step-outside number = refl
+step_outside : (p : Piece) → step outside p ≡ outside
+step_outside (tag w) = refl
+step_outside blank = refl
+step_outside name = refl
+step_outside number = refl
 
 pub steps_outside : (l : List Piece) → steps outside l ≡ outside
 steps_outside [] = refl
-steps_outside (p ∷ l) = ap (λ (r : Rest). steps r l) (step-outside p) ∙ steps_outside l
+steps_outside (p ∷ l) = ap (λ (r : Rest). steps r l) (step_outside p) ∙ steps_outside l
 
 reads-failed : (l : List Piece) → reads failed l ≡ failed
 unfolding reads next
@@ -191,7 +191,7 @@ reads-are [] h outside = refl
 reads-are [] h (more s) = ap (λ (y : List (List ℕ)). parsed y s) (sym (append-nil h))
 reads-are (p ∷ l) h outside = reads-failed l ∙ sym (ap (parse (h ++ held outside (p ∷ l))) (steps_outside (p ∷ l)))
 reads-are (p ∷ l) h (more s) =
-    ap (λ (y : Parse). reads y l) (next-is h s p)
+    ap (λ (y : Parse). reads y l) (next_is h s p)
     ∙ reads-are l (h ++ holds (more s) p) (step (more s) p)
     ∙ ap (λ (y : List (List ℕ)). parse y (steps (step (more s) p) l)) (append_assoc h (holds (more s) p) (held (step (more s) p) l))
 

@@ -14,7 +14,7 @@ use Rattle.pnml_text.specs.Words.{bytes}
 use Rattle.pnml_text.specs.Characters.{is_space, is_digit, is_id}
 use Rattle.pnml_page.specs.Profile
 use Rattle.pnml_page.specs.Profile.{Piece, tag, blank, name, number, Parse, failed, parsed, starts, run, past, next, reads, Form, made, forms, Next, none, stands, element, content, head, foot, body, of_profile, drawing}
-use Rattle.pnml_same.proofs.Reading.{body-so, heads-so, profile_so}
+use Rattle.pnml_same.proofs.Reading.{body-so, heads_so, profile_so}
 use Rattle.pnml_same.specs.Spelled.{one_of, Each, RightId, RightDigits, White, Spelling, closed_place, empty_place, marked_place, closed_transition, empty_transition, closed_arc, empty_arc, inscribed_arc, meaning, Right, AllRight, spelled, spelled_all, spelled_end, spelled_text, Returns}
 
 -- ---- runs
@@ -52,21 +52,21 @@ starts-own (a ∷ v) s = rw (eq-eqb a a refl) (starts-own v s)
 
 -- ---- pieces
 
-tag-ok : (h : List (List ℕ)) (t : String) (s : List ℕ) → next (parsed h (bytes t ++ s)) (tag t) ≡ parsed h s
+tag_ok : (h : List (List ℕ)) (t : String) (s : List ℕ) → next (parsed h (bytes t ++ s)) (tag t) ≡ parsed h s
 unfolding next
-tag-ok h t s = rw (starts-own (bytes t) s, next) (ap (parsed h) (drop_at (bytes t) s (length (bytes t)) refl))
+tag_ok h t s = rw (starts-own (bytes t) s, next) (ap (parsed h) (drop_at (bytes t) s (length (bytes t)) refl))
 
-tag-no : (h : List (List ℕ)) (t : String) (s : List ℕ) → starts (bytes t) s ≡ false → next (parsed h s) (tag t) ≡ failed
+tag_no : (h : List (List ℕ)) (t : String) (s : List ℕ) → starts (bytes t) s ≡ false → next (parsed h s) (tag t) ≡ failed
 unfolding next
-tag-no h t s e = rw (e, next)
+tag_no h t s e = rw (e, next)
 
 blank_ok : (h : List (List ℕ)) (w s : List ℕ) → White w → stops is_space s ≡ true → next (parsed h (w ++ s)) blank ≡ parsed h s
 unfolding next
 blank_ok h w s v q = ap (parsed h) (past-over is_space (9 ∷ 10 ∷ 13 ∷ 32 ∷ []) refl w s v q)
 
-name-ok : (h : List (List ℕ)) (x s : List ℕ) → RightId x → stops is_id s ≡ true → next (parsed h (x ++ s)) name ≡ parsed (h ++ (x ∷ [])) s
+name_ok : (h : List (List ℕ)) (x s : List ℕ) → RightId x → stops is_id s ≡ true → next (parsed h (x ++ s)) name ≡ parsed (h ++ (x ∷ [])) s
 unfolding next
-name-ok h x s g q =
+name_ok h x s g q =
     let r = run-over is_id (bytes "ABCDEFGHIJKLMNOPQRSTUVWXYZabcdefghijklmnopqrstuvwxyz0123456789-_.") refl x s g.right q in
     let d = past-over is_id (bytes "ABCDEFGHIJKLMNOPQRSTUVWXYZabcdefghijklmnopqrstuvwxyz0123456789-_.") refl x s g.right q in
     let a : eqb (length (run is_id (x ++ s))) 0 ≡ false = ap (λ (y : List ℕ). eqb (length y) 0) r ∙ ne_eqb (length x) 0 (λ z. omega (arith, z, g.some)) in
@@ -110,11 +110,11 @@ module _ (w r : List ℕ) (v : White w) where
   reads-written : (l : List Piece) (h acc : List (List ℕ)) → Good l h w r → reads (parsed acc (written l h w r)) l ≡ parsed (acc ++ h) r
   unfolding reads
   reads-written [] h acc g = ap (λ (y : List (List ℕ)). parsed y r) (sym (append-nil acc) ∙ ap (λ (y : List (List ℕ)). acc ++ y) (sym g))
-  reads-written (tag t ∷ l) h acc g = reads_on (parsed acc (bytes t ++ written l h w r)) (tag t) l (tag-ok acc t (written l h w r)) (reads-written l h acc g)
+  reads-written (tag t ∷ l) h acc g = reads_on (parsed acc (bytes t ++ written l h w r)) (tag t) l (tag_ok acc t (written l h w r)) (reads-written l h acc g)
   reads-written (blank ∷ l) h acc g = reads_on (parsed acc (w ++ written l h w r)) blank l (blank_ok acc w (written l h w r) v g.0) (reads-written l h acc g.1)
   reads-written (name ∷ l) [] acc g = absurd g
   reads-written (name ∷ l) (x ∷ h) acc g =
-      reads_on (parsed acc (x ++ written l h w r)) name l (name-ok acc x (written l h w r) g.0 g.1.0) (reads-written l h (acc ++ (x ∷ [])) g.1.1)
+      reads_on (parsed acc (x ++ written l h w r)) name l (name_ok acc x (written l h w r) g.0 g.1.0) (reads-written l h (acc ++ (x ∷ [])) g.1.1)
       ∙ ap (λ (y : List (List ℕ)). parsed y r) (append_assoc acc (x ∷ []) h)
   reads-written (number ∷ l) [] acc g = absurd g
   reads-written (number ∷ l) (x ∷ h) acc g =
@@ -137,10 +137,10 @@ reads-fail : (w r : List ℕ) → White w → (l : List Piece) (h : List (List �
 reads-fail w r v l h t m g e =
     reads-append (parsed [] (written l h w r)) l (tag t ∷ m)
     ∙ ap (λ (p : Parse). reads p (tag t ∷ m)) (reads-written w r v l h [] g)
-    ∙ reads_on (parsed h r) (tag t) m (tag-no h t r e) (reads-failed m)
+    ∙ reads_on (parsed h r) (tag t) m (tag_no h t r e) (reads-failed m)
 
 first-fail : (s : List ℕ) (t : String) (m : List Piece) → starts (bytes t) s ≡ false → reads (parsed [] s) (tag t ∷ m) ≡ failed
-first-fail s t m e = reads_on (parsed [] s) (tag t) m (tag-no [] t s e) (reads-failed m)
+first-fail s t m e = reads_on (parsed [] s) (tag t) m (tag_no [] t s e) (reads-failed m)
 
 -- ---- elements
 
@@ -155,14 +155,14 @@ no f others s e = rw (e, element)
 abbrev label : String → String → String → List Piece
 label start stop finish = tag "\">" ∷ blank ∷ tag start ∷ blank ∷ tag "<text>" ∷ number ∷ tag "</text>" ∷ blank ∷ tag stop ∷ blank ∷ tag finish ∷ []
 
-abbrev to-place : List Piece
-to-place = tag "<place id=\"" ∷ name ∷ []
+abbrev to_place : List Piece
+to_place = tag "<place id=\"" ∷ name ∷ []
 
-abbrev to-transition : List Piece
-to-transition = tag "<transition id=\"" ∷ name ∷ []
+abbrev to_transition : List Piece
+to_transition = tag "<transition id=\"" ∷ name ∷ []
 
-abbrev to-arc : List Piece
-to-arc = tag "<arc id=\"" ∷ name ∷ tag "\" source=\"" ∷ name ∷ tag "\" target=\"" ∷ name ∷ []
+abbrev to_arc : List Piece
+to_arc = tag "<arc id=\"" ∷ name ∷ tag "\" source=\"" ∷ name ∷ tag "\" target=\"" ∷ name ∷ []
 
 abbrev close : List Piece
 close = tag "\"/>" ∷ []
@@ -198,11 +198,11 @@ module _ (w r : List ℕ) (v : White w) where
   element-back (closed_place i) g = yes (Profile.place close) _ (i ∷ []) w r v (g, (refl, refl))
   element-back (empty_place i) g =
       let s = spelled w (empty_place i) r in
-      no (Profile.place close) _ s (reads-fail w (written (void "</place>") [] w r) v to-place (i ∷ []) "\"/>" [] (g, (refl, refl)) refl)
+      no (Profile.place close) _ s (reads-fail w (written (void "</place>") [] w r) v to_place (i ∷ []) "\"/>" [] (g, (refl, refl)) refl)
       ∙ yes (Profile.place (void "</place>")) _ (i ∷ []) w r v (g, (refl, (refl, refl)))
   element-back (marked_place i n) g =
       let s = spelled w (marked_place i n) r in
-      no (Profile.place close) _ s (reads-fail w (written marked (n ∷ []) w r) v to-place (i ∷ []) "\"/>" [] (g.0, (refl, refl)) refl)
+      no (Profile.place close) _ s (reads-fail w (written marked (n ∷ []) w r) v to_place (i ∷ []) "\"/>" [] (g.0, (refl, refl)) refl)
       ∙ no (Profile.place (void "</place>")) _ s
       (reads-fail w (written (tag "<initialMarking>" ∷ blank ∷ tag "<text>" ∷ number ∷ tag "</text>" ∷ blank ∷ tag "</initialMarking>" ∷ blank ∷ tag "</place>" ∷ []) (n ∷ []) w r) v (tag "<place id=\"" ∷ name ∷ tag "\">" ∷ blank ∷ []) (i ∷ []) "</place>" [] (g.0, (refl, (refl, refl))) refl)
       ∙ yes (Profile.place marked) _ (i ∷ n ∷ []) w r v (g.0, (refl, (refl, (refl, (g.1, (refl, (refl, (refl, refl))))))))
@@ -210,7 +210,7 @@ module _ (w r : List ℕ) (v : White w) where
   element-back (empty_transition i) g =
       let s = spelled w (empty_transition i) r in
       no_place s refl
-      ∙ no (Profile.transition close) _ s (reads-fail w (written (void "</transition>") [] w r) v to-transition (i ∷ []) "\"/>" [] (g, (refl, refl)) refl)
+      ∙ no (Profile.transition close) _ s (reads-fail w (written (void "</transition>") [] w r) v to_transition (i ∷ []) "\"/>" [] (g, (refl, refl)) refl)
       ∙ yes (Profile.transition (void "</transition>")) _ (i ∷ []) w r v (g, (refl, (refl, refl)))
   element-back (closed_arc i a b) g =
       no_transition (spelled w (closed_arc i a b) r) refl refl
@@ -218,12 +218,12 @@ module _ (w r : List ℕ) (v : White w) where
   element-back (empty_arc i a b) g =
       let s = spelled w (empty_arc i a b) r in
       no_transition s refl refl
-      ∙ no (Profile.arc close) _ s (reads-fail w (written (void "</arc>") [] w r) v to-arc (i ∷ a ∷ b ∷ []) "\"/>" [] (g.0, (refl, (g.1, (refl, (g.2, (refl, refl)))))) refl)
+      ∙ no (Profile.arc close) _ s (reads-fail w (written (void "</arc>") [] w r) v to_arc (i ∷ a ∷ b ∷ []) "\"/>" [] (g.0, (refl, (g.1, (refl, (g.2, (refl, refl)))))) refl)
       ∙ yes (Profile.arc (void "</arc>")) _ (i ∷ a ∷ b ∷ []) w r v (g.0, (refl, (g.1, (refl, (g.2, (refl, (refl, refl)))))))
   element-back (inscribed_arc i a b n) g =
       let s = spelled w (inscribed_arc i a b n) r in
       no_transition s refl refl
-      ∙ no (Profile.arc close) _ s (reads-fail w (written inscribed (n ∷ []) w r) v to-arc (i ∷ a ∷ b ∷ []) "\"/>" [] (g.0, (refl, (g.1, (refl, (g.2, (refl, refl)))))) refl)
+      ∙ no (Profile.arc close) _ s (reads-fail w (written inscribed (n ∷ []) w r) v to_arc (i ∷ a ∷ b ∷ []) "\"/>" [] (g.0, (refl, (g.1, (refl, (g.2, (refl, refl)))))) refl)
       ∙ no (Profile.arc (void "</arc>")) _ s
       (reads-fail w (written (tag "<inscription>" ∷ blank ∷ tag "<text>" ∷ number ∷ tag "</text>" ∷ blank ∷ tag "</inscription>" ∷ blank ∷ tag "</arc>" ∷ []) (n ∷ []) w r) v
       (tag "<arc id=\"" ∷ name ∷ tag "\" source=\"" ∷ name ∷ tag "\" target=\"" ∷ name ∷ tag "\">" ∷ blank ∷ []) (i ∷ a ∷ b ∷ []) "</arc>" [] (g.0, (refl, (g.1, (refl, (g.2, (refl, (refl, refl))))))) refl)
@@ -264,24 +264,24 @@ module _ (w : List ℕ) (v : White w) where
 tail-long : (a b : List ℕ) → length b ≤ length (a ++ b)
 tail-long a b = omega (arith, length-append a b)
 
-long-written : (l : List Piece) (h : List (List ℕ)) (w r : List ℕ) → length r ≤ length (written l h w r)
-long-written [] h w r = omega arith
-long-written (tag t ∷ l) h w r = let i = long-written l h w r in let j = tail-long (bytes t) (written l h w r) in omega arith
-long-written (blank ∷ l) h w r = let i = long-written l h w r in let j = tail-long w (written l h w r) in omega arith
-long-written (name ∷ l) [] w r = long-written l [] w r
-long-written (name ∷ l) (x ∷ h) w r = let i = long-written l h w r in let j = tail-long x (written l h w r) in omega arith
-long-written (number ∷ l) [] w r = long-written l [] w r
-long-written (number ∷ l) (x ∷ h) w r = let i = long-written l h w r in let j = tail-long x (written l h w r) in omega arith
+long_written : (l : List Piece) (h : List (List ℕ)) (w r : List ℕ) → length r ≤ length (written l h w r)
+long_written [] h w r = omega arith
+long_written (tag t ∷ l) h w r = let i = long_written l h w r in let j = tail-long (bytes t) (written l h w r) in omega arith
+long_written (blank ∷ l) h w r = let i = long_written l h w r in let j = tail-long w (written l h w r) in omega arith
+long_written (name ∷ l) [] w r = long_written l [] w r
+long_written (name ∷ l) (x ∷ h) w r = let i = long_written l h w r in let j = tail-long x (written l h w r) in omega arith
+long_written (number ∷ l) [] w r = long_written l [] w r
+long_written (number ∷ l) (x ∷ h) w r = let i = long_written l h w r in let j = tail-long x (written l h w r) in omega arith
 
 longer : (w : List ℕ) (x : Spelling) (s : List ℕ) → length s < length (spelled w x s)
-longer w (closed_place i) s = let h = long-written (name ∷ close) (i ∷ []) w s in omega arith
-longer w (empty_place i) s = let h = long-written (name ∷ void "</place>") (i ∷ []) w s in omega arith
-longer w (marked_place i n) s = let h = long-written (name ∷ marked) (i ∷ n ∷ []) w s in omega arith
-longer w (closed_transition i) s = let h = long-written (name ∷ close) (i ∷ []) w s in omega arith
-longer w (empty_transition i) s = let h = long-written (name ∷ void "</transition>") (i ∷ []) w s in omega arith
-longer w (closed_arc i a b) s = let h = long-written (name ∷ tag "\" source=\"" ∷ name ∷ tag "\" target=\"" ∷ name ∷ close) (i ∷ a ∷ b ∷ []) w s in omega arith
-longer w (empty_arc i a b) s = let h = long-written (name ∷ tag "\" source=\"" ∷ name ∷ tag "\" target=\"" ∷ name ∷ void "</arc>") (i ∷ a ∷ b ∷ []) w s in omega arith
-longer w (inscribed_arc i a b n) s = let h = long-written (name ∷ tag "\" source=\"" ∷ name ∷ tag "\" target=\"" ∷ name ∷ inscribed) (i ∷ a ∷ b ∷ n ∷ []) w s in omega arith
+longer w (closed_place i) s = let h = long_written (name ∷ close) (i ∷ []) w s in omega arith
+longer w (empty_place i) s = let h = long_written (name ∷ void "</place>") (i ∷ []) w s in omega arith
+longer w (marked_place i n) s = let h = long_written (name ∷ marked) (i ∷ n ∷ []) w s in omega arith
+longer w (closed_transition i) s = let h = long_written (name ∷ close) (i ∷ []) w s in omega arith
+longer w (empty_transition i) s = let h = long_written (name ∷ void "</transition>") (i ∷ []) w s in omega arith
+longer w (closed_arc i a b) s = let h = long_written (name ∷ tag "\" source=\"" ∷ name ∷ tag "\" target=\"" ∷ name ∷ close) (i ∷ a ∷ b ∷ []) w s in omega arith
+longer w (empty_arc i a b) s = let h = long_written (name ∷ tag "\" source=\"" ∷ name ∷ tag "\" target=\"" ∷ name ∷ void "</arc>") (i ∷ a ∷ b ∷ []) w s in omega arith
+longer w (inscribed_arc i a b n) s = let h = long_written (name ∷ tag "\" source=\"" ∷ name ∷ tag "\" target=\"" ∷ name ∷ inscribed) (i ∷ a ∷ b ∷ n ∷ []) w s in omega arith
 
 few : (w : List ℕ) (l : List Spelling) → length l ≤ length (spelled_all w l (spelled_end w))
 unfolding spelled_all
@@ -301,7 +301,7 @@ module _ (w n g : List ℕ) (l : List Spelling) (v : White w) (rn : RightId n) (
 
   many : length l ≤ length s
   unfolding spelled_text
-  many = omega (arith, few w l, long-written head (n ∷ g ∷ []) w inside)
+  many = omega (arith, few w l, long_written head (n ∷ g ∷ []) w inside)
 
   body_back : body s ≡ record { elements = map meaning l; rest = spelled_end w }
   body_back = body-so s (parsed (n ∷ g ∷ []) inside) head-back ∙ content-back w v (length s) l right many
@@ -315,6 +315,6 @@ module _ (w n g : List ℕ) (l : List Spelling) (v : White w) (rn : RightId n) (
   unfolding drawing
   returns = record {
     taken = profile_so s (parsed [] []) (ap (λ (b : Profile.Body). reads (parsed [] b.rest) foot) body_back ∙ end_back);
-    heads = heads-so s (parsed (n ∷ g ∷ []) inside) head-back;
+    heads = heads_so s (parsed (n ∷ g ∷ []) inside) head-back;
     elements = ap (λ (b : Profile.Body). b.elements) body_back;
   }

@@ -36,18 +36,18 @@ back (suc (suc zero)) = Mark
 back (suc (suc (suc zero))) = Space
 back (suc (suc (suc (suc n)))) = Other
 
-back-nth : (k : Kind) → back (nth k) ≡ k
-back-nth Letter = refl
-back-nth Digit = refl
-back-nth Mark = refl
-back-nth Space = refl
-back-nth Other = refl
+back_nth : (k : Kind) → back (nth k) ≡ k
+back_nth Letter = refl
+back_nth Digit = refl
+back_nth Mark = refl
+back_nth Space = refl
+back_nth Other = refl
 
 abbrev same : Kind → Kind → Bool
 same a b = eqb (nth a) (nth b)
 
 is_same : (a b : Kind) → T (same a b) → a ≡ b
-is_same a b t = sym (back-nth a) ∙ ap back (eqb→eq (nth a) (nth b) t) ∙ back-nth b
+is_same a b t = sym (back_nth a) ∙ ap back (eqb→eq (nth a) (nth b) t) ∙ back_nth b
 
 -- the kind of each of n bytes from lo on, but for two
 abbrev kinds : Kind → ℕ → ℕ → ℕ → Bool
@@ -59,7 +59,7 @@ but false true v t e f = let z : ◌≡◌ {A = ℕ} 0 1 = cc in absurd (omega a
 but false false true t e f = let z : ◌≡◌ {A = ℕ} 0 1 = cc in absurd (omega arith)
 but false false false t e f = elim t [ ]
 
-pub kind-from : (k : Kind) (lo n x y : ℕ) → T (each (kinds k x y) lo n) → (b : ℕ) → lo ≤ b → b < lo + n → (b ≡ x → ⊥) → (b ≡ y → ⊥)
+pub kind_from : (k : Kind) (lo n x y : ℕ) → T (each (kinds k x y) lo n) → (b : ℕ) → lo ≤ b → b < lo + n → (b ≡ x → ⊥) → (b ≡ y → ⊥)
     → k ≡ Characters.kind_of b
-kind-from k lo n x y t b h g p q =
+kind_from k lo n x y t b h g p q =
     is_same k (Characters.kind_of b) (but (same k (Characters.kind_of b)) (eqb b x) (eqb b y) (each_at (kinds k x y) lo n b t h g) (ne_eqb b x p) (ne_eqb b y q))

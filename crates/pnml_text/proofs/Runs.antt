@@ -85,16 +85,16 @@ module _ (s w : List ℕ) (a i : ℕ) where
   strip-all g = rw (drop_of_length-le w g)
 
 -- numbers
-pub cap-low : (n : ℕ) → n ≤ 4294967296 → capped n ≡ n
-cap-low n h = rw (le-leb n 4294967296 h)
+pub cap_low : (n : ℕ) → n ≤ 4294967296 → capped n ≡ n
+cap_low n h = rw (le-leb n 4294967296 h)
 
-pub cap-high : (n : ℕ) → 4294967296 ≤ n → capped n ≡ 4294967296
-cap-high n h = by_cases (leb n 4294967296)
+pub cap_high : (n : ℕ) → 4294967296 ≤ n → capped n ≡ 4294967296
+cap_high n h = by_cases (leb n 4294967296)
     (λ e. rw e (let g = leb-true n 4294967296 e in omega arith))
     (λ e. rw e)
 
-pub cap-most : (n : ℕ) → capped n ≤ 4294967296
-cap-most n = by_cases (leb n 4294967296) (λ e. rw e (leb-true n 4294967296 e)) (λ e. rw e (omega arith))
+pub cap_most : (n : ℕ) → capped n ≤ 4294967296
+cap_most n = by_cases (leb n 4294967296) (λ e. rw e (leb-true n 4294967296 e)) (λ e. rw e (omega arith))
 
 decimal-more : (n : ℕ) (l : List ℕ) → n ≤ decimal n l
 unfolding decimal
@@ -105,12 +105,12 @@ decimal-more n (b ∷ l) = let i = decimal-more (10 * n + (b - 48)) l in omega a
 pub decimal-cap : (n : ℕ) (l : List ℕ) → capped (decimal (capped n) l) ≡ capped (decimal n l)
 decimal-cap n l =
     by_cases (leb n 4294967296)
-    (λ e. ap (λ (k : ℕ). capped (decimal k l)) (cap-low n (leb-true n 4294967296 e)))
+    (λ e. ap (λ (k : ℕ). capped (decimal k l)) (cap_low n (leb-true n 4294967296 e)))
     (λ e.
     let h = leb-false n 4294967296 e in
-    ap (λ (k : ℕ). capped (decimal k l)) (cap-high n (omega arith))
-    ∙ cap-high (decimal 4294967296 l) (decimal-more 4294967296 l)
-    ∙ sym (cap-high (decimal n l) (let g = decimal-more n l in omega arith)))
+    ap (λ (k : ℕ). capped (decimal k l)) (cap_high n (omega arith))
+    ∙ cap_high (decimal 4294967296 l) (decimal-more 4294967296 l)
+    ∙ sym (cap_high (decimal n l) (let g = decimal-more n l in omega arith)))
 
 pub decimal-on : (n b : ℕ) (l : List ℕ) → decimal n (b ∷ l) ≡ decimal (10 * n + (b - 48)) l
 unfolding decimal
@@ -140,14 +140,14 @@ pub record Numbering (s : List ℕ) (a n m : ℕ) : Type 0 where
   pub so : capped (decimal n (front Digits (drop a s))) ≡ m
 
 module _ {s : List ℕ} {a n m : ℕ} (inv : Numbering s a n m) where
-  pub number-stop : a < length s → goes_on Digits (kind_of (get_or s a 0)) ≡ false → n ≡ m
-  number-stop h g = sym (cap-low n inv.most) ∙ ap capped (sym (decimal-end n) ∙ ap (decimal n) (sym (front-stop Digits s a h g))) ∙ inv.so
+  pub number_stop : a < length s → goes_on Digits (kind_of (get_or s a 0)) ≡ false → n ≡ m
+  number_stop h g = sym (cap_low n inv.most) ∙ ap capped (sym (decimal-end n) ∙ ap (decimal n) (sym (front-stop Digits s a h g))) ∙ inv.so
 
-  pub number-end : length s ≤ a → n ≡ m
-  number-end h = sym (cap-low n inv.most) ∙ ap capped (sym (decimal-end n) ∙ ap (decimal n) (sym (front-end Digits s a h))) ∙ inv.so
+  pub number_end : length s ≤ a → n ≡ m
+  number_end h = sym (cap_low n inv.most) ∙ ap capped (sym (decimal-end n) ∙ ap (decimal n) (sym (front-end Digits s a h))) ∙ inv.so
 
-  pub number-on : a < length s → goes_on Digits (kind_of (get_or s a 0)) ≡ true → {k : ℕ} → k ≤ 4294967296 → k ≡ capped (10 * n + (get_or s a 0 - 48)) → Numbering s (a + 1) k m
-  number-on h g l e = record {
+  pub number_on : a < length s → goes_on Digits (kind_of (get_or s a 0)) ≡ true → {k : ℕ} → k ≤ 4294967296 → k ≡ capped (10 * n + (get_or s a 0 - 48)) → Numbering s (a + 1) k m
+  number_on h g l e = record {
     most = l;
     so =
         ap (λ (x : ℕ). capped (decimal x (front Digits (drop (a + 1) s)))) e
@@ -164,8 +164,8 @@ left-rest s a =
     (λ e. rw e)
     (λ e. let h : length s ≤ a = (let g = leb-false a (length s) e in omega arith) in rw e (sym (drop_of_length-le s h)))
 
-pub number-of : (s : List ℕ) (a : ℕ) → number_of (rest_at s a) ≡ capped (decimal 0 (front Digits (drop a s)))
-number-of s a = ap (λ (l : List ℕ). capped (decimal 0 (front Digits l))) (left-rest s a)
+pub number_of_lem : (s : List ℕ) (a : ℕ) → number_of (rest_at s a) ≡ capped (decimal 0 (front Digits (drop a s)))
+number_of_lem s a = ap (λ (l : List ℕ). capped (decimal 0 (front Digits l))) (left-rest s a)
 
 -- white space, ids and digits, from the end of the run
 module _ (s : List ℕ) (a r : ℕ) where

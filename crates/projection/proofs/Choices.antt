@@ -111,8 +111,8 @@ module _ {table list : List ℕ} where
             ∙ d.whole;
       }
 
-  pub last-at : {end : ℕ} → Dropped table list end → (get_or table (get_or list (end - 1) 0) 0 ≡ 0 → ⊥) → Last table list end
-  last-at d z = record { within = d.within; whole = d.whole; chosen = λ l. z }
+  pub last_at : {end : ℕ} → Dropped table list end → (get_or table (get_or list (end - 1) 0) 0 ≡ 0 → ⊥) → Last table list end
+  last_at d z = record { within = d.within; whole = d.whole; chosen = λ l. z }
 
   pub last_none : {end : ℕ} → Dropped table list end → end ≤ 0 → Last table list 0
   last_none {end} d l =

@@ -19,8 +19,8 @@ use Rattle.file_words.specs.Refusal.{refuse}
 use Rattle.file.specs.Refusal.{file_refusal}
 use Rattle.file_header.specs.declared.Due.{Due}
 use Rattle.file_header.specs.declared.Due.TheVariants as due
-use Rattle.file.proofs.Caps.{marking-lt}
-use Rattle.file_arcs.proofs.Rows.{weight-le}
+use Rattle.file.proofs.Caps.{marking_lt}
+use Rattle.file_arcs.proofs.Rows.{weight_le}
 use Rattle.file_words.proofs.Laws.{refuse-0}
 use Rattle.file.proofs.Opening.{sound}
 use Rattle.promise.specs.Firing.{list_refusal}
@@ -28,7 +28,7 @@ use Rattle.promise.specs.Promise.{EffectRange, Bounded}
 
 -- of a file that can be read, in(p,t) and out(p,t) are sums of at most 4,096 weights
 pub sum-small : (kind : Due) (file : List ℕ) → Bytes file → file_refusal kind file ≡ 0 → (d p t : ℕ) → weight_on d p t (net_of file).arcs ≤ 268431360
-sum-small kind file b e d p t = omega (arith, (sound kind file e).placed.arcs, weight-le d p t file b (header_of file).arcstart (header_of file).arcs)
+sum-small kind file b e d p t = omega (arith, (sound kind file e).placed.arcs, weight_le d p t file b (header_of file).arcstart (header_of file).arcs)
 
 -- a difference is not below minus what is taken away
 difference_low : (n a b : ℕ) → b ≤ suc n → negsuc n ≤ℤ (pos a -ℤ pos b)
@@ -61,4 +61,4 @@ pub bounded : (file list : List ℕ) → Bytes file → file_refusal due.Either 
 unfolding replay output list_refusal
 bounded file list b e l =
     let short = ltb-false 65535 (length list) (refuse-0 (ltb 65535 (length list)) 10 (refuse (any (λ t. leb (net_of file).transitions t) list) 12 0) l).0 in
-    record { tokens-low = λ p. omega (arith, short, marking-lt file b (header_of file) p, replay-low (net_of file) (sum-small due.Either file b e 1) 0 (net_of file).marking list p) }
+    record { tokens_low = λ p. omega (arith, short, marking_lt file b (header_of file) p, replay-low (net_of file) (sum-small due.Either file b e 1) 0 (net_of file).marking list p) }

@@ -15,38 +15,38 @@ use Rattle.net.specs.declared.Arc.{Arc}
 use Rattle.file_words.specs.Word.{le16, le32, Bytes, bytes16, bytes32}
 use Rattle.file_header.specs.Layout.{trailer_of, header_of}
 use Rattle.file.specs.Layout.{words_from, net_of, slice_of}
-use Rattle.file_header.proofs.Laws.{places-none}
+use Rattle.file_header.proofs.Laws.{places_none}
 use Rattle.file.specs.Refusal.{file_refusal}
 use Rattle.file.specs.Criterion.{places_refusal, criterion_refusal, criterion_of}
 use Rattle.file_writing.specs.Writing.{places_bytes, arcs_bytes, origins_bytes, slice_body, trailer_bytes, slice_bytes}
 use Rattle.file_header.specs.declared.Due.TheVariants as due
 use Rattle.promise.specs.Calls.{cut_of, safety_file, branching_file, cut_refusal, write_refusal, cut_answer, written, safety_answer, safety_buffer, branching_answer, branching_buffer, Accepts}
 use Rattle.promise.specs.Promise.{empty_slice, EmptyCriterion}
-use Rattle.promise.proofs.Demands.{safety-cut-accepted, contained, even_bytes}
+use Rattle.promise.proofs.Demands.{safety-cut_accepted, contained, even_bytes}
 
 -- no number passes
-pub none-selected : (f : ℕ → Bool) (a n : ℕ) → ((x : ℕ) → f x ≡ false) → selected f a n ≡ []
+pub none_selected : (f : ℕ → Bool) (a n : ℕ) → ((x : ℕ) → f x ≡ false) → selected f a n ≡ []
 unfolding selected
-none-selected f a zero h = refl
-none-selected f a (suc n) h = rw (h a, selected) (none-selected f (suc a) n h)
+none_selected f a zero h = refl
+none_selected f a (suc n) h = rw (h a, selected) (none_selected f (suc a) n h)
 
 -- what grows from no place
 module _ (N : Net) (draws : ℕ → ℕ → Bool) where
   abbrev G : Growth
   G = growth N [] draws
 
-  none-drawn : drawn_by G [] ≡ []
+  none_drawn : drawn_by G [] ≡ []
   unfolding drawn_by any
-  none-drawn = none-selected (λ t. any (λ p. G.draws p t) []) 0 G.transitions (λ x. refl)
+  none_drawn = none_selected (λ t. any (λ p. G.draws p t) []) 0 G.transitions (λ x. refl)
 
-  none-grown : grown G [] ≡ []
+  none_grown : grown G [] ≡ []
   unfolding grown among any
-  none-grown = rw none-drawn (none-selected (λ p. among p [] || any (λ t. G.needs t p) []) 0 G.places (λ x. refl))
+  none_grown = rw none_drawn (none_selected (λ p. among p [] || any (λ t. G.needs t p) []) 0 G.places (λ x. refl))
 
   no_round : (n : ℕ) → rounds G n ≡ []
   unfolding rounds growth among
-  no_round zero = none-selected (λ p. among p []) 0 N.places (λ x. refl)
-  no_round (suc n) = ap (grown G) (no_round n) ∙ none-grown
+  no_round zero = none_selected (λ p. among p []) 0 N.places (λ x. refl)
+  no_round (suc n) = ap (grown G) (no_round n) ∙ none_grown
 
   no_place : kept_places G ≡ []
   unfolding kept_places
@@ -54,7 +54,7 @@ module _ (N : Net) (draws : ℕ → ℕ → Bool) where
 
   no_transition : kept_transitions G ≡ []
   unfolding kept_transitions
-  no_transition = ap (drawn_by G) no_place ∙ none-drawn
+  no_transition = ap (drawn_by G) no_place ∙ none_drawn
 
   nothing-kept : cut N G ≡ keeping N [] []
   unfolding cut
@@ -67,12 +67,12 @@ no_arc (a ∷ l) = no_arc l
 
 pub nothing_written : (ed : ℕ) (N : Net) → slice_bytes ed (keeping N [] []) ≡ empty_slice ed
 unfolding keeping slice_bytes places_bytes arcs_bytes origins_bytes slice_body trailer_bytes bytes16 bytes32 empty_slice
-nothing_written ed N = rw (no_arc N.arcs, places-none ed) refl
+nothing_written ed N = rw (no_arc N.arcs, places_none ed) refl
 
 -- the two cuts, and their files
-safety-slice : (plan : List ℕ) → cut_of safety plan [] ≡ keeping (net_of plan) [] []
+safety_slice : (plan : List ℕ) → cut_of safety plan [] ≡ keeping (net_of plan) [] []
 unfolding cut_of safety
-safety-slice plan = nothing-kept (net_of plan) (λ p t. among p [] && changes (net_of plan) t p || raises (net_of plan) t p)
+safety_slice plan = nothing-kept (net_of plan) (λ p t. among p [] && changes (net_of plan) t p || raises (net_of plan) t p)
 
 branching-slice : (plan : List ℕ) → cut_of branching plan [] ≡ keeping (net_of plan) [] []
 unfolding cut_of branching
@@ -80,7 +80,7 @@ branching-slice plan = nothing-kept (net_of plan) (λ p t. changes (net_of plan)
 
 pub safety-file : (plan : List ℕ) → safety_file plan [] ≡ empty_slice (header_of plan).edition
 unfolding safety_file
-safety-file plan = ap (slice_bytes (header_of plan).edition) (safety-slice plan) ∙ nothing_written (header_of plan).edition (net_of plan)
+safety-file plan = ap (slice_bytes (header_of plan).edition) (safety_slice plan) ∙ nothing_written (header_of plan).edition (net_of plan)
 
 branching-file : (plan : List ℕ) → branching_file plan [] ≡ empty_slice (header_of plan).edition
 unfolding branching_file
@@ -119,20 +119,20 @@ module _ (plan : List ℕ) (bytes : Bytes plan) (read : file_refusal due.Plan pl
   buffer file f entry h = rw (f, fits (length entry) h)
 
   own-accepted : Accepts plan empty []
-  own-accepted = subst⁻¹ (λ (file : List ℕ). Accepts plan file []) (sym (safety-file plan)) (safety-cut-accepted plan [] bytes passes)
+  own-accepted = subst⁻¹ (λ (file : List ℕ). Accepts plan file []) (sym (safety-file plan)) (safety-cut_accepted plan [] bytes passes)
 
   contained_here : (slice : List ℕ) → Accepts plan slice [] → Contains (slice_of slice) (slice_of empty)
   contained_here slice a = subst⁻¹ (λ (file : List ℕ). Contains (slice_of slice) (slice_of file)) (sym (safety-file plan)) (contained plan [] bytes passes slice a)
 
-  pub empty-criterion : EmptyCriterion plan
+  pub empty_criterion : EmptyCriterion plan
   unfolding safety_answer safety_buffer branching_answer branching_buffer project own criterion_of words_from
-  empty-criterion = record {
-    safety-answer = λ room h. answer (safety_file plan []) (cut_of safety plan []) (safety-file plan) (safety-slice plan) room (omega (arith, h));
-    safety-buffer = λ entry h. buffer (safety_file plan []) (safety-file plan) entry (omega (arith, h));
-    branching-answer = λ room h. answer (branching_file plan []) (cut_of branching plan []) (branching-file plan) (branching-slice plan) room (omega (arith, h));
-    branching-buffer = λ entry h. buffer (branching_file plan []) (branching-file plan) entry (omega (arith, h));
+  empty_criterion = record {
+    safety_answer_row = λ room h. answer (safety_file plan []) (cut_of safety plan []) (safety-file plan) (safety_slice plan) room (omega (arith, h));
+    safety_buffer_row = λ entry h. buffer (safety_file plan []) (safety-file plan) entry (omega (arith, h));
+    branching_answer_row = λ room h. answer (branching_file plan []) (cut_of branching plan []) (branching-file plan) (branching-slice plan) room (omega (arith, h));
+    branching_buffer_row = λ entry h. buffer (branching_file plan []) (branching-file plan) entry (omega (arith, h));
     shadow = λ list. ap (λ (os : List ℕ). own os (strike os list)) (no_origin (header_of plan).edition) ∙ ap (own []) (none_stays list);
     accepted = own-accepted;
-    accepted-bytes = even_bytes plan empty [] refl ∙ own-accepted;
+    accepted_bytes = even_bytes plan empty [] refl ∙ own-accepted;
     smallest = search contained_here;
   }

@@ -25,36 +25,36 @@ use Rattle.promise.specs.FullExample.{full_plan, zero_plan, FullRows}
 use Rattle.net.specs.Run.{marking_after, raised_on, raised, with_inputs, go_back, fed, fired_at, run_cut}
 use Rattle.promise.specs.RunCut.{run_file, run_chosen, run_room, run_refusal, run_outcome, run_answer, run_buffer, run_positions}
 
-pub full-rows : FullRows
+pub full_rows : FullRows
 unfolding among position any selected first below weight_on input output effect changes raises takes_from adds_to capped fire short_place full_place test_inputs test_caps test_firing replay_from replay tokens growth safety branching drawn_by grown rounds kept_places kept_transitions strike own project renumber restrict arcs_of slice_run plan_run place_of transition_of keeping cut breaks breaker same_arc same_arcs lacks_input lacks_output rule1 rule2 rule3 rule4 rule5 rule6 rule7 rule8 rule9 rule10 rules verdict_from verdict le16 le32 bytes16 bytes32 trailer_of header_of arcs_from words_from trailer_refusal arcs_refusal table_refusal origins_refusal links_refusal caps_refusal body_refusal file_refusal places_refusal criterion_refusal places_bytes arc_bytes arcs_bytes origins_bytes slice_body trailer_bytes slice_bytes cut_of safety_file branching_file check_refusal checked small_plan effect_refusal effect_answer list_refusal replay_refusal replay_answer replay_marking shadow_of lent_refusal shadow_refusal shadow_answer shadow_marking shadow_output after plan_tokens slice_tokens cut_refusal write_refusal safety_answer criterion_of criterion_bytes_refusal checked_bytes before run_in arc_run has_caps marking_after raised_on raised with_inputs go_back fed fired_at run_cut run_file run_chosen run_room run_refusal run_outcome run_answer run_buffer run_positions empty_slice full_plan zero_plan
-full-rows = record {
+full_rows = record {
   read = refl;
-  fourth-full = refl;
+  fourth_full = refl;
   before = refl;
-  short-first = refl;
+  short_first = refl;
   no_cap = refl;
-  safety-cut = record { read = refl; places = refl; transitions = refl; arc-count = refl; byte_count = refl };
-  branching-cut = record { read = refl; places = refl; transitions = refl; arc-count = refl; byte_count = refl };
-  own-cut = refl;
-  zero-caps = record { read = refl; places = refl; transitions = refl; arc-count = refl; byte_count = refl };
+  safety_cut = record { read = refl; places = refl; transitions = refl; arc_count = refl; byte_count = refl };
+  branching_cut_row = record { read = refl; places = refl; transitions = refl; arc_count = refl; byte_count = refl };
+  own_cut = refl;
+  zero_caps = record { read = refl; places = refl; transitions = refl; arc_count = refl; byte_count = refl };
   no_place = refl;
   no_output = refl;
   no_changer = refl;
-  other-cap = refl;
+  other_cap = refl;
   older_slice = refl;
   newer_slice = refl;
   shadow = refl;
-  full-shadow = refl;
-  edition-3 = refl;
+  full_shadow = refl;
+  edition_3 = refl;
   over = refl;
   at_cap = refl;
-  after-5 = refl;
-  before-6 = refl;
+  after_5 = refl;
+  before_6 = refl;
   slice_over = refl;
   in_check = refl;
   in_effect = refl;
-  capped-run = refl;
-  over-run = refl;
-  zero-run = record { read = refl; places = refl; transitions = refl; arc-count = refl; byte_count = refl };
+  capped_run = refl;
+  over_run = refl;
+  zero_run = record { read = refl; places = refl; transitions = refl; arc_count = refl; byte_count = refl };
   keeps_edition = (refl, refl);
 }

@@ -12,7 +12,7 @@ use Rattle.net.specs.Net.{counted, joins, weight_on}
 use Rattle.net.specs.Normal.{joined_to, joined}
 use Rattle.net.specs.declared.Arc.{Arc}
 use Rattle.net.proofs.Numbers.{by_cases, by_order}
-use Rattle.net.proofs.Normal.{Parallel, joins-parallel, joined-one, joined-more, weight-joined}
+use Rattle.net.proofs.Normal.{Parallel, joins-parallel, joined-one, joined-more, weight_joined}
 use Rattle.file_words.specs.Refusal.{refuse}
 use Rattle.file_words.proofs.Laws.{refuse-0}
 use Rattle.file_arcs.specs.Refusal.{key}
@@ -22,9 +22,9 @@ use Rattle.file_writing.proofs.Bytes.{AllFit}
 use Rattle.promise.specs.Normal.{weights_refusal}
 
 -- strictly rising is rising
-pub rising-ordered : (least : ℕ) (l : List ℕ) → RisingFrom least l → OrderedFrom least l
-rising-ordered least [] o = tt
-rising-ordered least (x ∷ l) o = (o.0, rising-ordered x l (looser x l o.1))
+pub rising_ordered : (least : ℕ) (l : List ℕ) → RisingFrom least l → OrderedFrom least l
+rising_ordered least [] o = tt
+rising_ordered least (x ∷ l) o = (o.0, rising_ordered x l (looser x l o.1))
   where
     looser : (y : ℕ) (m : List ℕ) → RisingFrom (y + 1) m → RisingFrom y m
     looser y [] q = tt
@@ -66,10 +66,10 @@ module _ (P T : ℕ) (few : P ≤ 65536) where
 
   -- ---- joined arcs
 
-  range-to : (a : Arc) (l : List Arc) → ArcGood P T a → InRange P T l → InRange P T (joined_to a l)
+  range_to : (a : Arc) (l : List Arc) → ArcGood P T a → InRange P T l → InRange P T (joined_to a l)
   unfolding joined_to
-  range-to a [] g r = (g, tt)
-  range-to a (b ∷ rest) g r =
+  range_to a [] g r = (g, tt)
+  range_to a (b ∷ rest) g r =
       by_cases (joins a.direction a.place a.transition b)
       (λ e. subst⁻¹ (InRange P T) (joined-one a b rest e) (record { direction = g.direction; place = g.place; transition = g.transition; weight = let w = g.weight in omega arith }, r.1))
       (λ e. subst⁻¹ (InRange P T) (joined-more a b rest e) (g, r))
@@ -77,12 +77,12 @@ module _ (P T : ℕ) (few : P ≤ 65536) where
   pub joined-range : (l : List Arc) → InRange P T l → InRange P T (joined l)
   unfolding joined
   joined-range [] r = tt
-  joined-range (a ∷ rest) r = range-to a (joined rest) r.0 (joined-range rest r.1)
+  joined-range (a ∷ rest) r = range_to a (joined rest) r.0 (joined-range rest r.1)
 
-  rise-to : (least : ℕ) (a : Arc) (l : List Arc) → least ≤ key a → ArcGood P T a → InRange P T l → RisingFrom (key a) (map key l) → RisingFrom least (map key (joined_to a l))
+  rise_to : (least : ℕ) (a : Arc) (l : List Arc) → least ≤ key a → ArcGood P T a → InRange P T l → RisingFrom (key a) (map key l) → RisingFrom least (map key (joined_to a l))
   unfolding joined_to
-  rise-to least a [] h g r o = (h, tt)
-  rise-to least a (b ∷ rest) h g r o =
+  rise_to least a [] h g r o = (h, tt)
+  rise_to least a (b ∷ rest) h g r o =
       by_cases (joins a.direction a.place a.transition b)
       (λ e. let x = joins-parallel a b e in
       let same : key b ≡ key a = omega (arith, x.transition, x.direction, x.place) in
@@ -103,7 +103,7 @@ module _ (P T : ℕ) (few : P ≤ 65536) where
   pub joined-rise : (least : ℕ) (l : List Arc) → InRange P T l → OrderedFrom least (map key l) → RisingFrom least (map key (joined l))
   unfolding joined
   joined-rise least [] r o = tt
-  joined-rise least (a ∷ rest) r o = rise-to least a (joined rest) o.0 r.0 (joined-range rest r.1) (joined-rise (key a) rest r.1 o.1)
+  joined-rise least (a ∷ rest) r o = rise_to least a (joined rest) o.0 r.0 (joined-range rest r.1) (joined-rise (key a) rest r.1 o.1)
 
   -- ---- strictly rising arcs are their weights
 
@@ -122,12 +122,12 @@ module _ (P T : ℕ) (few : P ≤ 65536) where
       let w = same a.direction a.place a.transition g.direction g.place g.transition in
       omega (arith, w, first-weight a l o, absent a.direction a.place a.transition least m o' (omega (arith, h)), g.weight)
 
-  pub rising-same : (k k' : ℕ) (l m : List Arc) → InRange P T l → InRange P T m → RisingFrom k (map key l) → RisingFrom k' (map key m) → Alike l m → l ≡ m
+  pub rising_same : (k k' : ℕ) (l m : List Arc) → InRange P T l → InRange P T m → RisingFrom k (map key l) → RisingFrom k' (map key m) → Alike l m → l ≡ m
   unfolding weight_on
-  rising-same k k' [] [] r r' o o' same = refl
-  rising-same k k' [] (b ∷ m) r r' o o' same = absurd (missing b m [] (key b + 1) r'.0 o'.1 tt (omega arith) (λ d p t x y z. sym (same d p t x y z)))
-  rising-same k k' (a ∷ l) [] r r' o o' same = absurd (missing a l [] (key a + 1) r.0 o.1 tt (omega arith) same)
-  rising-same k k' (a ∷ l) (b ∷ m) r r' o o' same =
+  rising_same k k' [] [] r r' o o' same = refl
+  rising_same k k' [] (b ∷ m) r r' o o' same = absurd (missing b m [] (key b + 1) r'.0 o'.1 tt (omega arith) (λ d p t x y z. sym (same d p t x y z)))
+  rising_same k k' (a ∷ l) [] r r' o o' same = absurd (missing a l [] (key a + 1) r.0 o.1 tt (omega arith) same)
+  rising_same k k' (a ∷ l) (b ∷ m) r r' o o' same =
       by_order (key a) (key b)
       (λ h. absurd (missing a l (b ∷ m) (key b) r.0 o.1 (omega arith, o'.1) h same))
       (λ e. let x = by_key a b r.0 r'.0 e in
@@ -135,7 +135,7 @@ module _ (P T : ℕ) (few : P ≤ 65536) where
       sym (first-weight a l o.1) ∙ same a.direction a.place a.transition r.0.direction r.0.place r.0.transition
       ∙ (λ i. weight_on (x.direction i) (x.place i) (x.transition i) (b ∷ m)) ∙ first-weight b m o'.1 in
       let a≡ : a ≡ b = λ i. record { transition = x.transition i; direction = x.direction i; place = x.place i; weight = w≡ i } in
-      let l≡ = rising-same (key a + 1) (key b + 1) l m r.1 r'.1 o.1 o'.1 (rest a≡) in
+      let l≡ = rising_same (key a + 1) (key b + 1) l m r.1 r'.1 o.1 o'.1 (rest a≡) in
       λ i. a≡ i ∷ l≡ i)
       (λ h. absurd (missing b m (a ∷ l) (key a) r'.0 o'.1 (omega arith, o.1) h (λ d p t x y z. sym (same d p t x y z))))
     where
@@ -145,7 +145,7 @@ module _ (P T : ℕ) (few : P ≤ 65536) where
   -- strictly rising arcs are joined
   pub joined_same : (least : ℕ) (l : List Arc) → InRange P T l → RisingFrom least (map key l) → joined l ≡ l
   joined_same least l r o =
-      rising-same least least (joined l) l (joined-range l r) r (joined-rise least l r (rising-ordered least (map key l) o)) o (λ d p t x y z. weight-joined d p t l)
+      rising_same least least (joined l) l (joined-range l r) r (joined-rise least l r (rising_ordered least (map key l) o)) o (λ d p t x y z. weight_joined d p t l)
 
 length_to : (a : Arc) (l : List Arc) → length (joined_to a l) ≤ suc (length l)
 unfolding joined_to
@@ -163,41 +163,41 @@ joined_length (a ∷ rest) = omega (arith, length_to a (joined rest), joined_len
 -- ---- 25
 
 -- it is the only refusal of weights
-pub weights-25 : (l : List Arc) → weights_refusal l ≢ 0 → weights_refusal l ≡ 25
+pub weights_25 : (l : List Arc) → weights_refusal l ≢ 0 → weights_refusal l ≡ 25
 unfolding weights_refusal
-weights-25 [] h = absurd (h refl)
-weights-25 (a ∷ l) h =
+weights_25 [] h = absurd (h refl)
+weights_25 (a ∷ l) h =
     by_cases (ltb 65535 a.weight)
     (λ e. ap (λ (b : Bool). refuse b 25 (weights_refusal l)) e)
-    (λ e. let same = ap (λ (b : Bool). refuse b 25 (weights_refusal l)) e in same ∙ weights-25 l (λ z. h (same ∙ z)))
+    (λ e. let same = ap (λ (b : Bool). refuse b 25 (weights_refusal l)) e in same ∙ weights_25 l (λ z. h (same ∙ z)))
 
 -- of strictly rising arcs none is heavy exactly where no sum is
-pub light-sums : (least : ℕ) (l : List Arc) → RisingFrom least (map key l) → weights_refusal l ≡ 0 → (d p t : ℕ) → weight_on d p t l ≤ 65535
+pub light_sums : (least : ℕ) (l : List Arc) → RisingFrom least (map key l) → weights_refusal l ≡ 0 → (d p t : ℕ) → weight_on d p t l ≤ 65535
 unfolding weights_refusal weight_on
-light-sums least [] o e d p t = omega arith
-light-sums least (a ∷ l) o e d p t =
+light_sums least [] o e d p t = omega arith
+light_sums least (a ∷ l) o e d p t =
     let x = refuse-0 (ltb 65535 a.weight) 24 _ e in
     by_cases (joins d p t a)
     (λ j. omega (arith, ap (λ (b : Bool). counted b a.weight) j, ltb-false 65535 a.weight x.0, absent d p t (key a + 1) l o.1 (omega (arith, joins-key d p t a j))))
-    (λ j. omega (arith, ap (λ (b : Bool). counted b a.weight) j, light-sums (key a + 1) l o.1 x.1 d p t))
+    (λ j. omega (arith, ap (λ (b : Bool). counted b a.weight) j, light_sums (key a + 1) l o.1 x.1 d p t))
 
-pub sums-light : (P T : ℕ) (l : List Arc) → InRange P T l → ((d p t : ℕ) → d ≤ 1 → p < P → t < T → weight_on d p t l ≤ 65535) → weights_refusal l ≡ 0
+pub sums_light : (P T : ℕ) (l : List Arc) → InRange P T l → ((d p t : ℕ) → d ≤ 1 → p < P → t < T → weight_on d p t l ≤ 65535) → weights_refusal l ≡ 0
 unfolding weights_refusal weight_on
-sums-light P T [] r h = refl
-sums-light P T (a ∷ l) r h =
+sums_light P T [] r h = refl
+sums_light P T (a ∷ l) r h =
     let g = r.0 in
     let w = h a.direction a.place a.transition g.direction g.place g.transition in
     let o = ap (λ (b : Bool). counted b a.weight) (own a) in
-    rw (le-ltb 65535 a.weight (omega (arith, w, o))) (sums-light P T l r.1 (λ d p t x y z. omega (arith, h d p t x y z)))
+    rw (le-ltb 65535 a.weight (omega (arith, w, o))) (sums_light P T l r.1 (λ d p t x y z. omega (arith, h d p t x y z)))
 
-pub weights-fit : (P T : ℕ) (l : List Arc) → P ≤ 1024 → T ≤ 1024 → InRange P T l → weights_refusal l ≡ 0 → AllFit l
+pub weights_fit : (P T : ℕ) (l : List Arc) → P ≤ 1024 → T ≤ 1024 → InRange P T l → weights_refusal l ≡ 0 → AllFit l
 unfolding weights_refusal
-weights-fit P T [] hp ht r e = tt
-weights-fit P T (a ∷ l) hp ht r e =
+weights_fit P T [] hp ht r e = tt
+weights_fit P T (a ∷ l) hp ht r e =
     let x = refuse-0 (ltb 65535 a.weight) 24 _ e in
     let w = ltb-false 65535 a.weight x.0 in
     let g = r.0 in
     let d = g.direction in
     let p = g.place in
     let t = g.transition in
-    (record { direction = omega arith; place = omega arith; transition = omega arith; weight = omega arith }, weights-fit P T l hp ht r.1 x.1)
+    (record { direction = omega arith; place = omega arith; transition = omega arith; weight = omega arith }, weights_fit P T l hp ht r.1 x.1)

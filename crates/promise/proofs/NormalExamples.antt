@@ -19,9 +19,9 @@ use Rattle.promise.specs.Example.{small_plan, parallel_plan}
 use Rattle.promise.specs.FullExample.{full_plan, zero_plan}
 use Rattle.promise.specs.NormalExample.{two_arcs, NormalRows}
 
-pub normal-rows : NormalRows
+pub normal_rows : NormalRows
 unfolding among position any selected below weight_on input output changes raises takes_from adds_to capped growth safety drawn_by grown rounds kept_places kept_transitions renumber restrict keeping cut joined_to joined normal_of le16 le32 bytes16 bytes32 trailer_of header_of arcs_from trailer_refusal arcs_refusal table_refusal origins_refusal links_refusal caps_refusal body_refusal file_refusal places_bytes arc_bytes arcs_bytes origins_bytes slice_body trailer_bytes slice_bytes plan_body plan_bytes cut_of safety_file weights_refusal normal_refusal normal_file normal_write_refusal normal_answer normal_buffer small_plan parallel_plan full_plan zero_plan two_arcs
-normal-rows = record {
+normal_rows = record {
   small = refl;
   long = refl;
   twin = refl;
@@ -35,7 +35,7 @@ normal-rows = record {
   joined = refl;
   one_more = refl;
   a_slice = refl;
-  slice-above = refl;
+  slice_above = refl;
   no_room_above = refl;
   little_room = refl;
   kept = refl;

@@ -30,30 +30,30 @@ files : FileOrder
 unfolding any le16 le32 trailer_of header_of trailer_refusal arcs_refusal table_refusal origins_refusal links_refusal caps_refusal body_refusal file_refusal among position selected first below weight_on input output raises changes takes_from adds_to capped growth safety drawn_by grown rounds kept_places kept_transitions renumber restrict keeping cut arcs_from bytes16 bytes32 places_bytes arc_bytes arcs_bytes origins_bytes slice_body trailer_bytes slice_bytes cut_of safety_file small_plan
 files = record {
   letters_before_kind = refl;
-  kind-before_counts = refl;
-  range-before_order = refl;
-  arc-by_arc = refl;
-  arcs-before_origins = refl;
+  kind_before_counts = refl;
+  range_before_order = refl;
+  arc_by_arc = refl;
+  arcs_before_origins = refl;
 }
 
 calls : CallOrder
 unfolding any le16 le32 trailer_of header_of trailer_refusal arcs_refusal table_refusal origins_refusal links_refusal caps_refusal body_refusal file_refusal words_from places_refusal criterion_refusal criterion_of criterion_bytes_refusal cut_refusal write_refusal safety_answer branching_answer check_refusal checked checked_bytes effect_refusal effect_answer list_refusal replay_refusal replay_answer lent_refusal shadow_refusal shadow_answer together_refusal together_answer run_refusal run_answer small_plan one_place_cut among position selected first below weight_on input output raises changes takes_from adds_to capped growth safety drawn_by grown rounds kept_places kept_transitions renumber restrict keeping cut arcs_from bytes16 bytes32 places_bytes arc_bytes arcs_bytes origins_bytes slice_body trailer_bytes slice_bytes cut_of safety_file branching branching_file
 calls = record {
-  effect-file = refl;
-  replay-file = refl;
-  replay-list = refl;
-  shadow-plan = refl;
-  shadow-slice = refl;
-  together-plan = refl;
-  safety-plan = refl;
-  safety-criterion = refl;
-  branching-plan = refl;
-  branching-criterion = refl;
-  run-plan = refl;
-  check-plan = refl;
-  check-slice = refl;
-  bytes-plan = refl;
-  bytes-slice = refl;
+  effect_file = refl;
+  replay_file = refl;
+  replay_list = refl;
+  shadow_plan = refl;
+  shadow_slice = refl;
+  together_plan = refl;
+  safety_plan = refl;
+  safety_criterion = refl;
+  branching_plan = refl;
+  branching_criterion = refl;
+  run_plan = refl;
+  check_plan = refl;
+  check_slice = refl;
+  bytes_plan = refl;
+  bytes_slice = refl;
   odd_before_place = refl;
 }
 
@@ -62,13 +62,13 @@ eleven : (T : ℕ) (list : List ℕ) → 65535 < length list → list_refusal T 
 unfolding list_refusal
 eleven T list h = rw (lt-ltb 65535 (length list) h)
 
-long-list : (list : List ℕ) → 65535 < length list → LongList list
+long_list : (list : List ℕ) → 65535 < length list → LongList list
 unfolding replay_refusal replay_answer lent_refusal shadow_refusal shadow_answer run_answer
-long-list list h = record {
+long_list list h = record {
   replayed = λ file room read. rw (read, eleven (net_of file).transitions list h);
   shadowed = λ plan slice room space read read'. rw (read, read', eleven (net_of plan).transitions list h);
   cut = λ plan Q room entries read. rw (read, eleven (net_of plan).transitions list h);
 }
 
-pub refusal-order : RefusalOrder
-refusal-order = record { files = files; calls = calls; long-list = long-list }
+pub refusal_order : RefusalOrder
+refusal_order = record { files = files; calls = calls; long_list = long_list }

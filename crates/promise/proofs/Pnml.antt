@@ -28,8 +28,8 @@ use Rattle.pnml_names.specs.declared.Which.TheVariants.{Places, Transitions, Arc
 use Rattle.pnml_names.proofs.Ids.{or-false, repeats-front, repeats-back}
 use Rattle.pnml_net.specs.Named.{entries, ids, names, misnamed, unfit, any_off, arcs_named, net_named}
 use Rattle.pnml_net.proofs.Sorted.{sorted-ordered, sorted-stable, sum-sorted}
-use Rattle.pnml_net.proofs.Arcs.{AllFine, in_range, fine-sorted, length-sorted, not-off, arcs-fine, arcs-count, apart-is}
-use Rattle.pnml_net.proofs.Drawing.{taken-drawn, given-drawn}
+use Rattle.pnml_net.proofs.Arcs.{AllFine, in_range, fine_sorted, length-sorted, not-off, arcs_fine, arcs_count, apart_is}
+use Rattle.pnml_net.proofs.Drawing.{taken_drawn, given-drawn}
 use Rattle.promise.specs.Calls.{written}
 use Rattle.promise.specs.Normal.{FileAnswer, file_answer}
 use Rattle.promise.specs.Pnml.{pnml_refusal, pnml_file, pnml_write_refusal, pnml_answer, pnml_buffer, NetOfText, WritesNamed, OneNet, Within, TextLimits}
@@ -58,7 +58,7 @@ module _ (s : List ℕ) (none : pnml_refusal s ≡ 0) where
 
   apart : any_apart (ids Places (drawing s)) (ids Transitions (drawing s)) (entries Arcs (drawing s)) ≡ false
   unfolding arcs_named
-  apart = apart-is (ids Places (drawing s)) (ids Transitions (drawing s)) (entries Arcs (drawing s)) ∙ joins
+  apart = apart_is (ids Places (drawing s)) (ids Transitions (drawing s)) (entries Arcs (drawing s)) ∙ joins
 
   fits : (counts_off (length (entries Places (drawing s))) (length (entries Transitions (drawing s))) (length (entries Arcs (drawing s))) ≡ false) × (any_off 0 4294967295 (entries Places (drawing s)) ≡ false) × (any_off 1 65535 (entries Arcs (drawing s)) ≡ false)
   unfolding unfit
@@ -95,36 +95,36 @@ module _ (s : List ℕ) (none : pnml_refusal s ≡ 0) where
   id-count : length (ids Places (drawing s)) ≡ length (entries Places (drawing s))
   id-count = length-map (entries Places (drawing s)) id_of
 
-  transition-count : length (ids Transitions (drawing s)) ≡ length (entries Transitions (drawing s))
-  transition-count = length-map (entries Transitions (drawing s)) id_of
+  transition_count : length (ids Transitions (drawing s)) ≡ length (entries Transitions (drawing s))
+  transition_count = length-map (entries Transitions (drawing s)) id_of
 
   fine : AllFine (length (ids Places (drawing s))) (length (ids Transitions (drawing s))) (sorted (arcs_named (drawing s)))
   unfolding arcs_named
-  fine = fine-sorted (length (ids Places (drawing s))) (length (ids Transitions (drawing s))) (arcs_named (drawing s)) (arcs-fine (ids Places (drawing s)) (ids Transitions (drawing s)) (entries Arcs (drawing s)) apart fits.2)
+  fine = fine_sorted (length (ids Places (drawing s))) (length (ids Transitions (drawing s))) (arcs_named (drawing s)) (arcs_fine (ids Places (drawing s)) (ids Transitions (drawing s)) (entries Arcs (drawing s)) apart fits.2)
 
-  fine-net : AllFine (length (entries Places (drawing s))) (length (entries Transitions (drawing s))) (sorted (arcs_named (drawing s)))
-  fine-net = subst⁻¹ (λ (n : ℕ). AllFine n (length (entries Transitions (drawing s))) (sorted (arcs_named (drawing s)))) (sym id-count) (subst⁻¹ (λ (n : ℕ). AllFine (length (ids Places (drawing s))) n (sorted (arcs_named (drawing s)))) (sym transition-count) fine)
+  fine_net : AllFine (length (entries Places (drawing s))) (length (entries Transitions (drawing s))) (sorted (arcs_named (drawing s)))
+  fine_net = subst⁻¹ (λ (n : ℕ). AllFine n (length (entries Transitions (drawing s))) (sorted (arcs_named (drawing s)))) (sym id-count) (subst⁻¹ (λ (n : ℕ). AllFine (length (ids Places (drawing s))) n (sorted (arcs_named (drawing s)))) (sym transition_count) fine)
 
-  arc-count : length (sorted (arcs_named (drawing s))) ≡ length (entries Arcs (drawing s))
+  arc_count : length (sorted (arcs_named (drawing s))) ≡ length (entries Arcs (drawing s))
   unfolding arcs_named
-  arc-count = length-sorted (arcs_named (drawing s)) ∙ arcs-count (ids Places (drawing s)) (ids Transitions (drawing s)) (entries Arcs (drawing s)) apart
+  arc_count = length-sorted (arcs_named (drawing s)) ∙ arcs_count (ids Places (drawing s)) (ids Transitions (drawing s)) (entries Arcs (drawing s)) apart
 
   pub writable : NetWritable 1 (net_named (drawing s))
   unfolding net_named Uncapped WithinCaps capped
   writable = record {
-    edition-known = refl;
-    edition-small = omega arith;
+    edition_known = refl;
+    edition_small_lem = omega arith;
     places = counts.0;
     transitions = counts.1;
-    arcs = omega (arith, arc-count, counts.2);
+    arcs = omega (arith, arc_count, counts.2);
     markings = λ p h. small (entries Places (drawing s)) p fits.1;
     no_others = λ p h. get_or-eq_default (map number_of (entries Places (drawing s))) 0 {n = p} (omega (arith, length-map (entries Places (drawing s)) number_of));
     caps = λ p h. omega arith;
     no_other_caps = λ p h. refl;
     no_caps = λ e p. refl;
     within = λ p h c. absurd c;
-    in_range = in_range (length (entries Places (drawing s))) (length (entries Transitions (drawing s))) (sorted (arcs_named (drawing s))) fine-net;
-    fit = fit (sorted (arcs_named (drawing s))) fine-net;
+    in_range = in_range (length (entries Places (drawing s))) (length (entries Transitions (drawing s))) (sorted (arcs_named (drawing s))) fine_net;
+    fit = fit (sorted (arcs_named (drawing s))) fine_net;
     order = sorted-ordered (arcs_named (drawing s));
   }
     where
@@ -163,28 +163,28 @@ module _ (s : List ℕ) (none : pnml_refusal s ≡ 0) where
     transitions = refl;
     marking = λ p h. refl;
     uncapped = λ p. refl;
-    taken = λ p t hp ht. sum-sorted 0 p t (arcs_named (drawing s)) ∙ taken-drawn (ids Places (drawing s)) (ids Transitions (drawing s)) nodes_once p t (omega (arith, id-count)) (omega (arith, transition-count)) (entries Arcs (drawing s)) apart;
-    given = λ p t hp ht. sum-sorted 1 p t (arcs_named (drawing s)) ∙ given-drawn (ids Places (drawing s)) (ids Transitions (drawing s)) nodes_once p t (omega (arith, id-count)) (omega (arith, transition-count)) (entries Arcs (drawing s)) apart;
+    taken = λ p t hp ht. sum-sorted 0 p t (arcs_named (drawing s)) ∙ taken_drawn (ids Places (drawing s)) (ids Transitions (drawing s)) nodes_once p t (omega (arith, id-count)) (omega (arith, transition_count)) (entries Arcs (drawing s)) apart;
+    given = λ p t hp ht. sum-sorted 1 p t (arcs_named (drawing s)) ∙ given-drawn (ids Places (drawing s)) (ids Transitions (drawing s)) nodes_once p t (omega (arith, id-count)) (omega (arith, transition_count)) (entries Arcs (drawing s)) apart;
     in_order = λ k. sorted-stable k (arcs_named (drawing s));
   }
 
   -- ---- the file
 
-  pub file-read : file_refusal due.Plan (pnml_file s) ≡ 0
+  pub file_read_lem : file_refusal due.Plan (pnml_file s) ≡ 0
   unfolding pnml_file net_named
-  file-read = plan_passes 1 (net_named (drawing s)) writable counts.3
+  file_read_lem = plan_passes 1 (net_named (drawing s)) writable counts.3
 
-  pub file-net : net_of (pnml_file s) ≡ net_named (drawing s)
+  pub file_net : net_of (pnml_file s) ≡ net_named (drawing s)
   unfolding pnml_file
-  file-net = plan_back 1 (net_named (drawing s)) writable
+  file_net = plan_back 1 (net_named (drawing s)) writable
 
-  pub file-edition : (header_of (pnml_file s)).edition ≡ 1
+  pub file_edition : (header_of (pnml_file s)).edition ≡ 1
   unfolding pnml_file
-  file-edition = ap (λ (h : Header). h.edition) (plan_header 1 (net_named (drawing s)) writable)
+  file_edition = ap (λ (h : Header). h.edition) (plan_header 1 (net_named (drawing s)) writable)
 
-  pub file-no_note : (header_of (pnml_file s)).markstart ≡ 0
+  pub file_no_note : (header_of (pnml_file s)).markstart ≡ 0
   unfolding pnml_file
-  file-no_note = ap (λ (h : Header). h.markstart) (plan_header 1 (net_named (drawing s)) writable)
+  file_no_note = ap (λ (h : Header). h.markstart) (plan_header 1 (net_named (drawing s)) writable)
 
 -- ---- at the call
 
@@ -210,9 +210,9 @@ module _ (s buffer : List ℕ) (passed : (pnml_answer s (length buffer)).refused
   length-told = ap (λ (n : ℕ). (file_answer n (length (pnml_file s))).length) none_of
 
   -- the buffer's first bytes, up to the length returned
-  pub file-written : take (pnml_answer s (length buffer)).length (pnml_buffer s buffer) ≡ pnml_file s
+  pub file_written : take (pnml_answer s (length buffer)).length (pnml_buffer s buffer) ≡ pnml_file s
   unfolding pnml_buffer
-  file-written =
+  file_written =
       ap (λ (n : ℕ). take (pnml_answer s (length buffer)).length (written n (pnml_file s) buffer)) none_of
       ∙ take_at (pnml_file s) (drop (length (pnml_file s)) buffer) (pnml_answer s (length buffer)).length (sym length-told)
 
@@ -224,11 +224,11 @@ module _ (s buffer : List ℕ) where
   writes : WritesNamed s (pnml_answer s (length buffer)) (pnml_buffer s buffer)
   writes = record {
     long = λ e. omega (arith, length-told s buffer e, room_for s buffer e);
-    read = λ e. ap (file_refusal due.Plan) (file-written s buffer e) ∙ file-read s (converted s buffer e);
-    net = λ e. ap net_of (file-written s buffer e) ∙ file-net s (converted s buffer e);
-    named = λ e. subst⁻¹ (NetOfText (drawing s)) (ap net_of (file-written s buffer e) ∙ file-net s (converted s buffer e)) (net-of_text s (converted s buffer e));
-    edition = λ e. ap (λ (l : List ℕ). (header_of l).edition) (file-written s buffer e) ∙ file-edition s (converted s buffer e);
-    no_note = λ e. ap (λ (l : List ℕ). (header_of l).markstart) (file-written s buffer e) ∙ file-no_note s (converted s buffer e);
+    read = λ e. ap (file_refusal due.Plan) (file_written s buffer e) ∙ file_read_lem s (converted s buffer e);
+    net = λ e. ap net_of (file_written s buffer e) ∙ file_net s (converted s buffer e);
+    named = λ e. subst⁻¹ (NetOfText (drawing s)) (ap net_of (file_written s buffer e) ∙ file_net s (converted s buffer e)) (net-of_text s (converted s buffer e));
+    edition = λ e. ap (λ (l : List ℕ). (header_of l).edition) (file_written s buffer e) ∙ file_edition s (converted s buffer e);
+    no_note = λ e. ap (λ (l : List ℕ). (header_of l).markstart) (file_written s buffer e) ∙ file_no_note s (converted s buffer e);
   }
 
   -- by the call's own answer and buffer
@@ -236,9 +236,9 @@ module _ (s buffer : List ℕ) where
   writes_named {a} {exit} e f =
       subst⁻¹ (λ (x : FileAnswer). WritesNamed s x exit) e (subst⁻¹ (λ (l : List ℕ). WritesNamed s (pnml_answer s (length buffer)) l) f writes)
 
-pub one-net : (d : Drawing) (N N' : Net) → NetOfText d N → NetOfText d N' → OneNet N N'
+pub one_net : (d : Drawing) (N N' : Net) → NetOfText d N → NetOfText d N' → OneNet N N'
 unfolding Uncapped
-one-net d N N' x y =
+one_net d N N' x y =
     let P : N.places ≡ N'.places = x.places ∙ sym y.places in
     let T : N.transitions ≡ N'.transitions = x.transitions ∙ sym y.transitions in
     record {
@@ -254,18 +254,18 @@ one-net d N N' x y =
     }
 
 -- two files that were written of one text
-pub one-net-written : (s : List ℕ) (a a' : FileAnswer) (exit exit' : List ℕ) → WritesNamed s a exit → WritesNamed s a' exit' → a.refused ≡ false → a'.refused ≡ false
+pub one-net_written : (s : List ℕ) (a a' : FileAnswer) (exit exit' : List ℕ) → WritesNamed s a exit → WritesNamed s a' exit' → a.refused ≡ false → a'.refused ≡ false
     → OneNet (net_of (take a.length exit)) (net_of (take a'.length exit'))
-one-net-written s a a' exit exit' x y e f = one-net (drawing s) (net_of (take a.length exit)) (net_of (take a'.length exit')) (x.named e) (y.named f)
+one-net_written s a a' exit exit' x y e f = one_net (drawing s) (net_of (take a.length exit)) (net_of (take a'.length exit')) (x.named e) (y.named f)
 
 -- ---- what 1 and 20 mean
 
-none-off : (least most : ℕ) (l : List Element) → ((k : ℕ) → k < length l → (least ≤ get_or (map number_of l) k 0) × (get_or (map number_of l) k 0 ≤ most)) → any_off least most l ≡ false
+none_off : (least most : ℕ) (l : List Element) → ((k : ℕ) → k < length l → (least ≤ get_or (map number_of l) k 0) × (get_or (map number_of l) k 0 ≤ most)) → any_off least most l ≡ false
 unfolding any_off
-none-off least most [] f = refl
-none-off least most (e ∷ l) f =
+none_off least most [] f = refl
+none_off least most (e ∷ l) f =
     let h = f 0 (omega arith) in
-    rw (le-ltb (number_of e) least h.0, le-ltb most (number_of e) h.1) (none-off least most l (λ k b. f (suc k) (omega arith)))
+    rw (le-ltb (number_of e) least h.0, le-ltb most (number_of e) h.1) (none_off least most l (λ k b. f (suc k) (omega arith)))
 
 all-on : (least most : ℕ) (l : List Element) → any_off least most l ≡ false → (k : ℕ) → k < length l → (least ≤ get_or (map number_of l) k 0) × (get_or (map number_of l) k 0 ≤ most)
 all-on least most [] e k b = absurd (omega arith)
@@ -295,7 +295,7 @@ module _ (s : List ℕ) where
         transitions = c.1;
         arcs = c.2;
         some = nodes (length (entries Places (drawing s))) (length (entries Transitions (drawing s))) c.3;
-        markings = λ k. low-marking (entries Places (drawing s)) (fits s e).1 k;
+        markings = λ k. low_marking (entries Places (drawing s)) (fits s e).1 k;
         weights = all-on 1 65535 (entries Arcs (drawing s)) (fits s e).2;
       }
     where
@@ -304,10 +304,10 @@ module _ (s : List ℕ) where
       nodes zero (suc T) x = omega arith
       nodes (suc P) T x = omega arith
 
-      low-marking : (l : List Element) → any_off 0 4294967295 l ≡ false → (k : ℕ) → get_or (map number_of l) k 0 ≤ 4294967295
-      low-marking [] x k = omega arith
-      low-marking (y ∷ l) x zero = (not-off 0 4294967295 y l x).1
-      low-marking (y ∷ l) x (suc k) = low-marking l (not-off 0 4294967295 y l x).2 k
+      low_marking : (l : List Element) → any_off 0 4294967295 l ≡ false → (k : ℕ) → get_or (map number_of l) k 0 ≤ 4294967295
+      low_marking [] x k = omega arith
+      low_marking (y ∷ l) x zero = (not-off 0 4294967295 y l x).1
+      low_marking (y ∷ l) x (suc k) = low_marking l (not-off 0 4294967295 y l x).2 k
 
   fitting : Within (drawing s) → unfit (drawing s) ≡ false
   unfolding unfit
@@ -317,8 +317,8 @@ module _ (s : List ℕ) where
         le-ltb 1024 (length (entries Transitions (drawing s))) w.transitions,
         le-ltb 4096 (length (entries Arcs (drawing s))) w.arcs,
         nobody (length (entries Places (drawing s))) (length (entries Transitions (drawing s))) w.some,
-        none-off 0 4294967295 (entries Places (drawing s)) (λ k b. (omega arith, w.markings k)),
-        none-off 1 65535 (entries Arcs (drawing s)) w.weights,
+        none_off 0 4294967295 (entries Places (drawing s)) (λ k b. (omega arith, w.markings k)),
+        none_off 1 65535 (entries Arcs (drawing s)) w.weights,
       ) refl
     where
       nobody : (P T : ℕ) → 0 < P + T → eqb P 0 && eqb T 0 ≡ false
@@ -326,9 +326,9 @@ module _ (s : List ℕ) where
       nobody zero (suc T) x = rw (ne_eqb (suc T) 0 (λ z. omega (arith, z))) refl
       nobody (suc P) T x = rw (ne_eqb (suc P) 0 (λ z. omega (arith, z))) refl
 
-  pub text-limits : TextLimits s
+  pub text_limits : TextLimits s
   unfolding pnml_refusal
-  text-limits = record {
+  text_limits = record {
     long = told-1;
     short = not-1;
     twenty = λ h p m. (inside-limits, λ w. rw (le-ltb 65536 (length s) h, p, m, fitting w) refl);

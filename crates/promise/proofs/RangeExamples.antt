@@ -16,18 +16,18 @@ use Rattle.promise.specs.Example.{small_plan, parallel_plan}
 use Rattle.promise.specs.FullExample.{full_plan, zero_plan}
 use Rattle.promise.specs.RangeExample.{RangeRows}
 
-pub range-rows : RangeRows
+pub range_rows : RangeRows
 unfolding any selected below weight_on input output capped has_caps tokens need covers extent le16 le32 trailer_of header_of arcs_from trailer_refusal arcs_refusal table_refusal origins_refusal links_refusal caps_refusal body_refusal file_refusal list_refusal upper_wrong range_refusal range_answer range_need small_plan parallel_plan full_plan zero_plan
-range-rows = record {
+range_rows = record {
   starred = record { answer = refl; need = refl };
   wide = record { answer = refl; need = refl };
   less = record { answer = refl; need = refl };
   no_firing = record { answer = refl; need = refl };
   third = record { answer = refl; need = refl };
   two_wanted = record { answer = refl; need = refl };
-  one-marking = record { answer = refl; need = refl };
-  given-first = record { answer = refl; need = refl };
-  given-later = record { answer = refl; need = refl };
+  one_marking = record { answer = refl; need = refl };
+  given_first = record { answer = refl; need = refl };
+  given_later = record { answer = refl; need = refl };
   given_back = record { answer = refl; need = refl };
   of_a_sum = record { answer = refl; need = refl };
   no_caps = record { answer = refl; need = refl };
@@ -38,6 +38,6 @@ range-rows = record {
   unknown = λ upper lent. record { answer = refl; kept = refl };
   four_entries = λ lent. record { answer = refl; kept = refl };
   six_entries = λ lent. record { answer = refl; kept = refl };
-  below-the_plan = λ lent. record { answer = refl; kept = refl };
+  below_the_plan = λ lent. record { answer = refl; kept = refl };
   little_room = record { answer = refl; kept = refl };
 }

@@ -26,28 +26,28 @@ use Rattle.promise.specs.Promise.{empty_slice}
 use Rattle.promise.specs.Example.{small_plan, parallel_plan}
 use Rattle.promise.specs.RunExample.{SmallRuns, again_plan, again_file, Printed, Again}
 
-pub small-runs : SmallRuns
+pub small_runs : SmallRuns
 unfolding among position any selected first below weight_on input output raises takes_from adds_to capped has_caps fire after short_place full_place test_inputs test_caps test_firing replay_from replay renumber restrict keeping marking_after raised_on raised with_inputs go_back fed fired_at run_cut le16 le32 bytes16 bytes32 trailer_of header_of arcs_from words_from trailer_refusal arcs_refusal table_refusal origins_refusal links_refusal caps_refusal body_refusal file_refusal places_refusal criterion_refusal places_bytes arc_bytes arcs_bytes origins_bytes slice_body trailer_bytes slice_bytes cut_refusal list_refusal run_file run_chosen run_room run_refusal run_outcome run_answer run_buffer run_positions small_plan parallel_plan empty_slice
-small-runs = record {
-  all-chosen = record { answer = refl; positions = refl };
+small_runs = record {
+  all_chosen = record { answer = refl; positions = refl };
   taker_left_out = record { answer = refl; positions = refl };
   only_what_feeds = record { answer = refl; positions = refl };
-  kept = record { read = refl; places = refl; transitions = refl; arc-count = refl; byte_count = refl };
-  nothing-fed = record { answer = refl; positions = refl };
-  empty-list = record { answer = refl; positions = refl };
+  kept = record { read = refl; places = refl; transitions = refl; arc_count = refl; byte_count = refl };
+  nothing_fed = record { answer = refl; positions = refl };
+  empty_list = record { answer = refl; positions = refl };
   no_place = record { answer = refl; positions = refl };
-  empty-slice = refl;
+  empty_slice_row = refl;
   given_back = record { answer = refl; positions = refl };
   by_sums = record { answer = refl; positions = refl };
   parallel = record { answer = refl; positions = refl };
   sticks = refl;
-  sticks-for_no_place = refl;
-  unknown-first = refl;
-  criterion-first = refl;
+  sticks_for_no_place = refl;
+  unknown_first = refl;
+  criterion_first = refl;
   no_room = refl;
   no_entries = refl;
-  file-kept = refl;
-  entries-kept = refl;
+  file_kept = refl;
+  entries_kept = refl;
 }
 
 -- the third of the kept firings 0, 1, 0 wants a token that is not there
@@ -62,13 +62,13 @@ pub again : Again
 unfolding among position any selected first below weight_on input output raises takes_from adds_to capped has_caps fire after short_place full_place test_inputs test_caps test_firing replay_from replay renumber restrict keeping marking_after raised_on raised with_inputs go_back fed fired_at run_cut tokens changes strike own project arcs_of slice_run plan_run place_of transition_of plan_tokens slice_tokens struck breaks breaker same_arc same_arcs lacks_input lacks_output rule1 rule2 rule3 rule4 rule5 rule6 rule7 rule8 rule9 rule10 rules verdict_from verdict le16 le32 bytes16 bytes32 trailer_of header_of arcs_from words_from trailer_refusal arcs_refusal table_refusal origins_refusal links_refusal caps_refusal body_refusal file_refusal places_refusal criterion_refusal places_bytes arc_bytes arcs_bytes origins_bytes slice_body trailer_bytes slice_bytes cut_refusal list_refusal run_file run_chosen run_room run_refusal run_outcome run_answer run_buffer run_positions check_refusal checked replay_refusal replay_answer again_plan again_file
 again = record {
   chosen = record { answer = refl; positions = refl };
-  kept = record { read = refl; places = refl; transitions = refl; arc-count = refl; byte_count = refl };
-  kept-firings = refl;
-  kept-stick = refl;
+  kept = record { read = refl; places = refl; transitions = refl; arc_count = refl; byte_count = refl };
+  kept_firings = refl;
+  kept_stick = refl;
   refuted = refuted;
   in_plan = refl;
   in_the_slice = refl;
-  more-in_slice = refl;
-  less-in_plan = refl;
-  not-accepted = refl;
+  more_in_slice = refl;
+  less_in_plan = refl;
+  not_accepted = refl;
 }

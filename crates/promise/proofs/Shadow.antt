@@ -22,8 +22,8 @@ use Rattle.promise.specs.Calls.{written, Accepts}
 use Rattle.promise.specs.Firing.{list_refusal}
 use Rattle.promise.specs.Shadow.{fired_part, shadow_of, lent_refusal, shadow_refusal, shadow_or, ShadowAnswer, shadow_answer, shadow_marking, shadow_output, FollowedIn}
 use Rattle.net.proofs.Markings.{length-tokens, get_d_tokens}
-use Rattle.promise.proofs.Replays.{list-known}
-use Rattle.promise.proofs.Demands.{check-passes, judges, demand_3}
+use Rattle.promise.proofs.Replays.{list_known}
+use Rattle.promise.proofs.Demands.{check_passes, judges, demand_3}
 
 -- ---- the part that a replay fires
 
@@ -45,11 +45,11 @@ module _ (N : Net) (list : List ℕ) (m : Marking) where
   part_of (short i p n) (k, e, s, w) = stuck-part i k e s
   part_of (full i p n) (k, e, s, w) = stuck-part i k e s
 
-pub fired-part : (N : Net) (list : List ℕ) → list_refusal N.transitions list ≡ 0 → FiredPart N (fired_part (replay N list).answer list) (replay N list).marking
+pub fired_part_lem : (N : Net) (list : List ℕ) → list_refusal N.transitions list ≡ 0 → FiredPart N (fired_part (replay N list).answer list) (replay N list).marking
 unfolding replay
-fired-part N list e =
+fired_part_lem N list e =
     let r = replay_from N 0 N.marking list in
-    part_of N list r.marking r.answer (replay-means N 0 N.marking list (list-known N.transitions list e))
+    part_of N list r.marking r.answer (replay-means N 0 N.marking list (list_known N.transitions list e))
 
 -- ---- its projection in a slice with the guarantee
 
@@ -57,16 +57,16 @@ module _ (plan slice list : List ℕ) (passes : list_refusal (net_of plan).trans
   abbrev done : List ℕ
   done = fired_part (replay (net_of plan) list).answer list
 
-  shadow-fires : Fires (slice_of slice).net (slice_of slice).net.marking (shadow_of (net_of plan) (slice_of slice) list)
+  shadow_fires : Fires (slice_of slice).net (slice_of slice).net.marking (shadow_of (net_of plan) (slice_of slice) list)
   unfolding shadow_of project SliceFires struck
-  shadow-fires = (g.shadow-fires done (fired-part (net_of plan) list passes).fires).1
+  shadow_fires = (g.shadow_fires done (fired_part_lem (net_of plan) list passes).fires).1
 
-  shadow-ends : (q : ℕ) → T (among q Q)
+  shadow_ends : (q : ℕ) → T (among q Q)
       → after (slice_of slice).net (slice_of slice).net.marking (shadow_of (net_of plan) (slice_of slice) list) (own_place (slice_of slice) q) ≡ (replay (net_of plan) list).marking q
   unfolding shadow_of project slice_tokens struck
-  shadow-ends q h =
-      let part = fired-part (net_of plan) list passes in
-      g.shadow-tokens done part.fires q h ∙ sym (part.ends q)
+  shadow_ends q h =
+      let part = fired_part_lem (net_of plan) list passes in
+      g.shadow_tokens done part.fires q h ∙ sym (part.ends q)
 
 -- ---- what is written
 
@@ -75,9 +75,9 @@ pub written_entry : (N : Net) (M : Marking) (rest : List ℕ) (q : ℕ) → q < 
 written_entry N M rest q l = get_or-append (tokens N M) rest 0 q (omega (arith, length-tokens N M, l)) ∙ get_d_tokens N M q l
 
 module _ (plan slice list marking output : List ℕ) (bytes : Bytes plan) (e : shadow_refusal plan slice list (length marking) (length output) ≡ 0) where
-  list-passes : list_refusal (net_of plan).transitions list ≡ 0
+  list_passes : list_refusal (net_of plan).transitions list ≡ 0
   unfolding shadow_refusal lent_refusal
-  list-passes = (or_else_0 (list_refusal (net_of plan).transitions list) _ (or_else_0 (file_refusal due.Slice slice) _ (or_else_0 (file_refusal due.Plan plan) _ e).1).1).0
+  list_passes = (or_else_0 (list_refusal (net_of plan).transitions list) _ (or_else_0 (file_refusal due.Slice slice) _ (or_else_0 (file_refusal due.Plan plan) _ e).1).1).0
 
   shadow : take (shadow_answer plan slice list (length marking) (length output)).count (shadow_output plan slice list marking output) ≡ shadow_of (net_of plan) (slice_of slice) list
   unfolding shadow_answer shadow_output
@@ -88,17 +88,17 @@ module _ (plan slice list marking output : List ℕ) (bytes : Bytes plan) (e : s
   entry q l = rw e (written_entry (net_of plan) (replay (net_of plan) list).marking _ q l)
 
   in_plan : (Q : List ℕ) → Accepts plan slice Q → (q : ℕ) → T (among q Q) → q < (net_of plan).places
-  in_plan Q a q h = (passed (net_of plan).places Q (check-passes plan slice Q ((judges plan slice Q).accepts.0 a).0).1).known q h
+  in_plan Q a q h = (passed (net_of plan).places Q (check_passes plan slice Q ((judges plan slice Q).accepts.0 a).0).1).known q h
 
   holds_of : (Q : List ℕ) → Accepts plan slice Q → Guarantee (net_of plan) (slice_of slice) Q
   holds_of Q a = (demand_3 plan slice Q [] bytes).guarantee a
 
   there : (Q : List ℕ) → Accepts plan slice Q → Fires (slice_of slice).net (slice_of slice).net.marking (shadow_of (net_of plan) (slice_of slice) list)
-  there Q a = shadow-fires plan slice list list-passes Q (holds_of Q a)
+  there Q a = shadow_fires plan slice list list_passes Q (holds_of Q a)
 
-  pub followed-in : FollowedIn plan slice (take (shadow_answer plan slice list (length marking) (length output)).count (shadow_output plan slice list marking output))
+  pub followed_in : FollowedIn plan slice (take (shadow_answer plan slice list (length marking) (length output)).count (shadow_output plan slice list marking output))
       (shadow_marking plan slice list marking output)
-  followed-in = subst⁻¹ (λ (l : List ℕ). FollowedIn plan slice l (shadow_marking plan slice list marking output)) shadow (record {
+  followed_in = subst⁻¹ (λ (l : List ℕ). FollowedIn plan slice l (shadow_marking plan slice list marking output)) shadow (record {
     fires = search there;
-    tokens = λ Q a q h. cc (shadow-ends plan slice list list-passes Q (holds_of Q a) q h ∙ sym (entry q (in_plan Q a q h)));
+    tokens = λ Q a q h. cc (shadow_ends plan slice list list_passes Q (holds_of Q a) q h ∙ sym (entry q (in_plan Q a q h)));
   })

@@ -32,14 +32,14 @@ rows = (
     sums = refl;
     most = refl;
     above_most = refl;
-    above-cap = refl;
+    above_cap = refl;
     stranded = refl;
     no_such_place = refl;
-    short-running = refl;
-    long-table = refl;
-    unknown-first = refl;
-    stranded-next = refl;
-    sum-next = refl;
+    short_running = refl;
+    long_table = refl;
+    unknown_first = refl;
+    stranded_next = refl;
+    sum_next = refl;
     no_room = refl;
     lent_kept = refl;
     old_first = refl;
@@ -49,35 +49,35 @@ rows = (
     fires = refl;
     ends = refl;
     sticks = refl;
-    file-first = refl;
-    short-start = refl;
-    short-and_large = refl;
+    file_first = refl;
+    short_start = refl;
+    short_and_large = refl;
     large_start = refl;
     then_list = refl;
     then_room = refl;
-    largest-start = refl;
-    above-cap = refl;
+    largest_start = refl;
+    above_cap = refl;
     lent_kept = refl;
     of_a_slice = refl;
     cut = refl;
     branches = refl;
     marked = refl;
     accepted = refl;
-    other-start = refl;
-    cut-plan = refl;
+    other_start = refl;
+    cut_plan = refl;
     cut_short = refl;
-    cut-large = refl;
-    cut-criterion = refl;
-    cut-room = refl;
-    branching-plan = refl;
-    branching-short = refl;
-    branching-large = refl;
-    branching-criterion = refl;
-    branching-room = refl;
+    cut_large = refl;
+    cut_criterion = refl;
+    cut_room = refl;
+    branching_plan = refl;
+    branching_short = refl;
+    branching_large = refl;
+    branching_criterion = refl;
+    branching_room = refl;
     plan_first = refl;
     slice_first = refl;
-    start-next = refl;
-    start-large = refl;
+    start_next = refl;
+    start_large = refl;
     then_criterion = refl;
     slices_length = refl;
   },
@@ -86,15 +86,15 @@ rows = (
     fires = refl;
     accepted = refl;
     moved_on = refl;
-    all-entries = refl;
+    all_entries = refl;
   },
 )
 
 pub transfers : Transfers
 transfers = rows.0
 
-pub from-there : FromThere
-from-there = rows.1
+pub from_there : FromThere
+from_there = rows.1
 
 pub all_the_way : AllTheWay
 all_the_way = rows.2

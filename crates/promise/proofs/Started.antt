@@ -17,7 +17,7 @@ use Rattle.net.proofs.Markings.{below_at, below-off, below-is, length-tokens, ge
 use Rattle.file_words.specs.Word.{byte_at, le16, le32, bytes16, bytes32, Bytes}
 use Rattle.file_words.specs.Refusal.{refuse, or_else, over_cap, table_refusal, caps_refusal}
 use Rattle.file_words.proofs.Laws.{refuse-0, or_else_0, or-false}
-use Rattle.file_words.proofs.Bytes.{Stands, stands-all, stands-left, stands-right, stands_at, length-32}
+use Rattle.file_words.proofs.Bytes.{Stands, stands_all, stands_left, stands_right, stands_at, length-32}
 use Rattle.file_arcs.specs.Layout.{arc_at, arcs_from}
 use Rattle.file_arcs.specs.Refusal.{key, arc_wrong, arcs_refusal}
 use Rattle.file_header.specs.Layout.{pick, places_length, in_slice, trailer_of, header_from, header_of}
@@ -28,72 +28,72 @@ use Rattle.file_header.specs.declared.Trailer.{Trailer}
 use Rattle.file.specs.Layout.{marking_at, cap_at, net_from, net_of}
 use Rattle.file.specs.Refusal.{length_wrong, origins_refusal, links_refusal, body_refusal, file_refusal}
 use Rattle.file.specs.Facts.{Sound, Opened}
-use Rattle.file.proofs.Opening.{sound, kind-due}
-use Rattle.file.proofs.Caps.{no_cap-by, cap-at, marking-lt, cap-lt}
+use Rattle.file.proofs.Opening.{sound, kind_due}
+use Rattle.file.proofs.Caps.{no_cap_by, cap_at_lem, marking_lt, cap_lt}
 use Rattle.file_writing.specs.Writing.{place_bytes, places_bytes}
-use Rattle.file_writing.proofs.Bytes.{pick_next, length-place, length-places, read-markings, read-caps}
-use Rattle.file_writing.proofs.Parts.{bytes-join, bytes-places, caps-pass}
+use Rattle.file_writing.proofs.Bytes.{pick_next, length-place, length-places, read_markings, read_caps}
+use Rattle.file_writing.proofs.Parts.{bytes-join, bytes-places, caps_pass}
 use Rattle.promise.specs.Together.{standing}
 use Rattle.promise.specs.Starts.{starting_at, started_from, started, too_many, overfull, start_refusal, own_start}
 
 -- two byte strings that agree from a on
 module _ (s s' : List ℕ) (a : ℕ) (same : (i : ℕ) → a ≤ i → byte_at s' i ≡ byte_at s i) where
-  same-16 : (i : ℕ) → a ≤ i → le16 s' i ≡ le16 s i
+  same_16 : (i : ℕ) → a ≤ i → le16 s' i ≡ le16 s i
   unfolding le16
-  same-16 i l = rw (same i l, same (i + 1) (omega arith))
+  same_16 i l = rw (same i l, same (i + 1) (omega arith))
 
-  same-32 : (i : ℕ) → a ≤ i → le32 s' i ≡ le32 s i
+  same_32 : (i : ℕ) → a ≤ i → le32 s' i ≡ le32 s i
   unfolding le32
-  same-32 i l = rw (same-16 i l, same-16 (i + 2) (omega arith))
+  same_32 i l = rw (same_16 i l, same_16 (i + 2) (omega arith))
 
-  same-arc : (i : ℕ) → a ≤ i → arc_at s' i ≡ arc_at s i
-  same-arc i l =
-      let t = same-16 i l in
+  same_arc_lem : (i : ℕ) → a ≤ i → arc_at s' i ≡ arc_at s i
+  same_arc_lem i l =
+      let t = same_16 i l in
       let d = same (i + 2) (omega arith) in
-      let p = same-16 (i + 4) (omega arith) in
-      let w = same-16 (i + 6) (omega arith) in
+      let p = same_16 (i + 4) (omega arith) in
+      let w = same_16 (i + 6) (omega arith) in
       λ x. record { transition = t x; direction = d x; place = p x; weight = w x }
 
-  same-arcs : (i n : ℕ) → a ≤ i → arcs_from s' i n ≡ arcs_from s i n
+  same_arcs_lem : (i n : ℕ) → a ≤ i → arcs_from s' i n ≡ arcs_from s i n
   unfolding arcs_from
-  same-arcs i zero l = refl
-  same-arcs i (suc n) l = let h = same-arc i l in let t = same-arcs (i + 8) n (omega arith) in λ x. h x ∷ t x
+  same_arcs_lem i zero l = refl
+  same_arcs_lem i (suc n) l = let h = same_arc_lem i l in let t = same_arcs_lem (i + 8) n (omega arith) in λ x. h x ∷ t x
 
-  same-arcs_refusal : (P T' i least n : ℕ) → a ≤ i → arcs_refusal s' P T' i least n ≡ arcs_refusal s P T' i least n
+  same_arcs_refusal : (P T' i least n : ℕ) → a ≤ i → arcs_refusal s' P T' i least n ≡ arcs_refusal s P T' i least n
   unfolding arcs_refusal
-  same-arcs_refusal P T' i least zero l = refl
-  same-arcs_refusal P T' i least (suc n) l =
-      let h = same-arc i l in
+  same_arcs_refusal P T' i least zero l = refl
+  same_arcs_refusal P T' i least (suc n) l =
+      let h = same_arc_lem i l in
       let z = same (i + 3) (omega arith) in
-      let r = ap (λ (b : Arc). arcs_refusal s' P T' (i + 8) (key b) n) h ∙ same-arcs_refusal P T' (i + 8) (key (arc_at s i)) n (omega arith) in
+      let r = ap (λ (b : Arc). arcs_refusal s' P T' (i + 8) (key b) n) h ∙ same_arcs_refusal P T' (i + 8) (key (arc_at s i)) n (omega arith) in
       λ x. refuse (arc_wrong P T' (h x) (z x)) 6 (refuse (ltb (key (h x)) least) 7 (r x))
 
-  same-table_refusal : (i least n : ℕ) → a ≤ i → table_refusal s' i least n ≡ table_refusal s i least n
+  same_table_refusal : (i least n : ℕ) → a ≤ i → table_refusal s' i least n ≡ table_refusal s i least n
   unfolding table_refusal
-  same-table_refusal i least zero l = refl
-  same-table_refusal i least (suc n) l =
-      let h = same-16 i l in
-      let r = ap (λ (b : ℕ). table_refusal s' (i + 2) (b + 1) n) h ∙ same-table_refusal (i + 2) (le16 s i + 1) n (omega arith) in
+  same_table_refusal i least zero l = refl
+  same_table_refusal i least (suc n) l =
+      let h = same_16 i l in
+      let r = ap (λ (b : ℕ). table_refusal s' (i + 2) (b + 1) n) h ∙ same_table_refusal (i + 2) (le16 s i + 1) n (omega arith) in
       λ x. refuse (ltb (h x) least) 8 (r x)
 
-  same-trailer : length s' ≡ length s → a ≤ length s - 16 → trailer_of s' ≡ trailer_of s
+  same_trailer : length s' ≡ length s → a ≤ length s - 16 → trailer_of s' ≡ trailer_of s
   unfolding trailer_of
-  same-trailer e l =
+  same_trailer e l =
       let at = length s - 16 in
       rw e (
-      let b = same-32 at l in
-      let p = same-16 (at + 4) (omega arith) in
-      let t = same-16 (at + 6) (omega arith) in
-      let n = same-16 (at + 8) (omega arith) in
+      let b = same_32 at l in
+      let p = same_16 (at + 4) (omega arith) in
+      let t = same_16 (at + 6) (omega arith) in
+      let n = same_16 (at + 8) (omega arith) in
       let k = same (at + 10) (omega arith) in
       let d = same (at + 11) (omega arith) in
-      let w = same-32 (at + 12) (omega arith) in
+      let w = same_32 (at + 12) (omega arith) in
       λ x. record { body = b x; places = p x; transitions = t x; arcs = n x; kind = k x; edition = d x; letters = w x })
 
 -- bytes that stand one after the other
-stands-join : (s : List ℕ) (at : ℕ) (l m : List ℕ) → Stands s at l → Stands s (at + length l) m → Stands s at (l ++ m)
+stands_join : (s : List ℕ) (at : ℕ) (l m : List ℕ) → Stands s at l → Stands s (at + length l) m → Stands s at (l ++ m)
 unfolding Stands
-stands-join s at l m sl sm k h = by_cases (ltb k (length l))
+stands_join s at l m sl sm k h = by_cases (ltb k (length l))
     (λ e. sl k (ltb-true k (length l) e) ∙ sym (get_or-append l m 0 k (ltb-true k (length l) e)))
     (λ e.
     let j = k - length l in
@@ -103,38 +103,38 @@ stands-join s at l m sl sm k h = by_cases (ltb k (length l))
     ap (byte_at s) i≡ ∙ sm j (omega (arith, past, length-append l m)) ∙ sym (get_or-append-add l m j 0) ∙ ap (byte_at (l ++ m)) (sym k≡))
 
 -- the bytes of a number that is read
-stands-32 : (s : List ℕ) → Bytes s → (at : ℕ) → Stands s at (bytes32 (le32 s at))
+stands_32 : (s : List ℕ) → Bytes s → (at : ℕ) → Stands s at (bytes32 (le32 s at))
 unfolding Stands Bytes bytes32 bytes16 le32 le16
-stands-32 s b at zero h = let z : at + 0 ≡ at = omega arith in ap (byte_at s) z ∙ omega (arith, b at, b (at + 1), b (at + 2), b (at + 2 + 1))
-stands-32 s b at (suc zero) h = omega (arith, b at, b (at + 1), b (at + 2), b (at + 2 + 1))
-stands-32 s b at (suc (suc zero)) h = omega (arith, b at, b (at + 1), b (at + 2), b (at + 2 + 1))
-stands-32 s b at (suc (suc (suc zero))) h = let z : at + 3 ≡ at + 2 + 1 = omega arith in ap (byte_at s) z ∙ omega (arith, b at, b (at + 1), b (at + 2), b (at + 2 + 1))
-stands-32 s b at (suc (suc (suc (suc k)))) h = absurd (omega arith)
+stands_32 s b at zero h = let z : at + 0 ≡ at = omega arith in ap (byte_at s) z ∙ omega (arith, b at, b (at + 1), b (at + 2), b (at + 2 + 1))
+stands_32 s b at (suc zero) h = omega (arith, b at, b (at + 1), b (at + 2), b (at + 2 + 1))
+stands_32 s b at (suc (suc zero)) h = omega (arith, b at, b (at + 1), b (at + 2), b (at + 2 + 1))
+stands_32 s b at (suc (suc (suc zero))) h = let z : at + 3 ≡ at + 2 + 1 = omega arith in ap (byte_at s) z ∙ omega (arith, b at, b (at + 1), b (at + 2), b (at + 2 + 1))
+stands_32 s b at (suc (suc (suc (suc k)))) h = absurd (omega arith)
 
 -- the places of a file that is a byte string are the bytes of their markings and caps
 module _ (s : List ℕ) (b : Bytes s) where
-  stands-place : (two : Bool) (at : ℕ) → Stands s at (place_bytes two (le32 s at) (le32 s (at + 4)))
-  stands-place true at = stands-join s at _ _ (stands-32 s b at) (stands_at s _ (stands-32 s b (at + 4)) (omega (arith, length-32 (le32 s at))))
-  stands-place false at = stands-32 s b at
+  stands_place : (two : Bool) (at : ℕ) → Stands s at (place_bytes two (le32 s at) (le32 s (at + 4)))
+  stands_place true at = stands_join s at _ _ (stands_32 s b at) (stands_at s _ (stands_32 s b (at + 4)) (omega (arith, length-32 (le32 s at))))
+  stands_place false at = stands_32 s b at
 
   module _ (ed base : ℕ) (M C : ℕ → ℕ) where
     first-stands : (two : Bool) (at p : ℕ) → M p ≡ le32 s at → (two ≡ true → C p ≡ le32 s (at + 4)) → Stands s at (place_bytes two (M p) (C p))
     first-stands true at p m c =
         let c≡ = c refl in
-        subst⁻¹ (λ (x : ℕ). Stands s at (place_bytes true x (C p))) m (subst⁻¹ (λ (x : ℕ). Stands s at (place_bytes true (le32 s at) x)) c≡ (stands-place true at))
-    first-stands false at p m c = subst⁻¹ (λ (x : ℕ). Stands s at (bytes32 x)) m (stands-place false at)
+        subst⁻¹ (λ (x : ℕ). Stands s at (place_bytes true x (C p))) m (subst⁻¹ (λ (x : ℕ). Stands s at (place_bytes true (le32 s at) x)) c≡ (stands_place true at))
+    first-stands false at p m c = subst⁻¹ (λ (x : ℕ). Stands s at (bytes32 x)) m (stands_place false at)
 
-    cap-offset : (q : ℕ) → eqb ed 2 ≡ true → base + places_length ed q + 4 ≡ base + 8 * q + 4
-    cap-offset q two = rw two
+    cap_offset : (q : ℕ) → eqb ed 2 ≡ true → base + places_length ed q + 4 ≡ base + 8 * q + 4
+    cap_offset q two = rw two
 
-    stands-places : (p n : ℕ) → ((q : ℕ) → q < p + n → M q ≡ le32 s (base + places_length ed q)) → (eqb ed 2 ≡ true → (q : ℕ) → q < p + n → C q ≡ le32 s (base + 8 * q + 4))
+    stands_places : (p n : ℕ) → ((q : ℕ) → q < p + n → M q ≡ le32 s (base + places_length ed q)) → (eqb ed 2 ≡ true → (q : ℕ) → q < p + n → C q ≡ le32 s (base + 8 * q + 4))
         → Stands s (base + places_length ed p) (places_bytes ed M C p n)
     unfolding places_bytes Stands
-    stands-places p zero m c = λ k l. absurd (omega arith)
-    stands-places p (suc n) m c =
-        let here = first-stands (eqb ed 2) (base + places_length ed p) p (m p (omega arith)) (λ two. c two p (omega arith) ∙ ap (le32 s) (sym (cap-offset p two))) in
-        let rest = stands-places (suc p) n (λ q l. m q (omega arith)) (λ two q l. c two q (omega arith)) in
-        stands-join s (base + places_length ed p) (place_bytes (eqb ed 2) (M p) (C p)) (places_bytes ed M C (suc p) n) here
+    stands_places p zero m c = λ k l. absurd (omega arith)
+    stands_places p (suc n) m c =
+        let here = first-stands (eqb ed 2) (base + places_length ed p) p (m p (omega arith)) (λ two. c two p (omega arith) ∙ ap (le32 s) (sym (cap_offset p two))) in
+        let rest = stands_places (suc p) n (λ q l. m q (omega arith)) (λ two q l. c two q (omega arith)) in
+        stands_join s (base + places_length ed p) (place_bytes (eqb ed 2) (M p) (C p)) (places_bytes ed M C (suc p) n) here
         (stands_at s (places_bytes ed M C (suc p) n) rest (omega (arith, length-place (eqb ed 2) (M p) (C p), pick_next (eqb ed 2) p)))
 
 -- a file that was read, with another marking in the places of its markings
@@ -148,23 +148,23 @@ module _ (d : Due) (s : List ℕ) (bytes : Bytes s) (e : file_refusal d s ≡ 0)
   abbrev s' : List ℕ
   s' = take h.markstart s ++ Ms ++ drop h.arcstart s
 
-  sound-file : Sound s h
-  sound-file = sound d s e
+  sound_file : Sound s h
+  sound_file = sound d s e
 
   length_before : length (take h.markstart s) ≡ h.markstart
-  length_before = let p = sound-file.placed in omega (arith, length-take h.markstart s, p.markings_fit, p.arcs_fit, p.origins_fit)
+  length_before = let p = sound_file.placed in omega (arith, length-take h.markstart s, p.markings_fit, p.arcs_fit, p.origins_fit)
 
   length_both : length (take h.markstart s ++ Ms) ≡ h.arcstart
-  length_both = let p = sound-file.placed in omega (arith, length-append (take h.markstart s) Ms, length_before, length-places h.edition M (net_from s h).cap 0 h.places, p.markings_fit)
+  length_both = let p = sound_file.placed in omega (arith, length-append (take h.markstart s) Ms, length_before, length-places h.edition M (net_from s h).cap 0 h.places, p.markings_fit)
 
   same_length : length s' ≡ length s
   same_length =
-      let p = sound-file.placed in
+      let p = sound_file.placed in
       omega (arith, length-append (take h.markstart s ++ Ms) (drop h.arcstart s), length_both, length-drop h.arcstart s, p.arcs_fit, p.origins_fit)
 
   -- the places stand where they stood
   at_places : Stands s' h.markstart Ms
-  at_places = stands_at s' Ms (stands-right s' 0 h.markstart (take h.markstart s) Ms (stands-left s' 0 (take h.markstart s ++ Ms) (drop h.arcstart s) (stands-all s')) length_before) (zero-add _)
+  at_places = stands_at s' Ms (stands_right s' 0 h.markstart (take h.markstart s) Ms (stands_left s' 0 (take h.markstart s ++ Ms) (drop h.arcstart s) (stands_all s')) length_before) (zero-add _)
 
   -- and the bytes after them are the same
   after_same : (i : ℕ) → h.arcstart ≤ i → byte_at s' i ≡ byte_at s i
@@ -176,27 +176,27 @@ module _ (d : Due) (s : List ℕ) (bytes : Bytes s) (e : file_refusal d s ≡ 0)
 
   before_same : (i : ℕ) → i < h.markstart → byte_at s' i ≡ byte_at s i
   before_same i l =
-      let p = sound-file.placed in
+      let p = sound_file.placed in
       get_or-append (take h.markstart s ++ Ms) (drop h.arcstart s) 0 i (omega (arith, length_both, p.markings_fit))
       ∙ get_or-append (take h.markstart s) Ms 0 i (omega (arith, length_before))
       ∙ get_or-take h.markstart s i 0 l
 
   fits : (h.arcstart ≤ length s - 16) × (h.arcstart ≤ h.originstart)
-  fits = let p = sound-file.placed in (omega (arith, p.arcs_fit, p.origins_fit), omega (arith, p.arcs_fit))
+  fits = let p = sound_file.placed in (omega (arith, p.arcs_fit, p.origins_fit), omega (arith, p.arcs_fit))
 
   trailer_same : trailer_of s' ≡ trailer_of s
-  trailer_same = same-trailer s s' h.arcstart after_same same_length fits.0
+  trailer_same = same_trailer s s' h.arcstart after_same same_length fits.0
 
-  header-same : header_of s' ≡ h
+  header_same : header_of s' ≡ h
   unfolding header_of
-  header-same = let n = same_length in let t = trailer_same in λ i. header_from (n i) (t i)
+  header_same = let n = same_length in let t = trailer_same in λ i. header_from (n i) (t i)
 
   links_same : links_refusal s' h ≡ links_refusal s h
   unfolding links_refusal origins_refusal
   links_same =
-      let a = same-arcs_refusal s s' h.arcstart after_same h.places h.transitions h.arcstart 0 h.arcs (omega arith) in
-      let p = same-table_refusal s s' h.arcstart after_same h.originstart 0 h.places fits.1 in
-      let t = same-table_refusal s s' h.arcstart after_same (h.originstart + 2 * h.places) 0 h.transitions (omega (arith, fits.1)) in
+      let a = same_arcs_refusal s s' h.arcstart after_same h.places h.transitions h.arcstart 0 h.arcs (omega arith) in
+      let p = same_table_refusal s s' h.arcstart after_same h.originstart 0 h.places fits.1 in
+      let t = same_table_refusal s s' h.arcstart after_same (h.originstart + 2 * h.places) 0 h.transitions (omega (arith, fits.1)) in
       λ i. or_else (a i) (in_slice h.kind (or_else (p i) (t i)))
 
   byte_lt : (i : ℕ) → byte_at s i < 256
@@ -222,38 +222,38 @@ module _ (d : Due) (s : List ℕ) (bytes : Bytes s) (e : file_refusal d s ≡ 0)
   module _ (small : (p : ℕ) → p < h.places → M p < 4294967296) (within : (p : ℕ) → p < h.places → 0 < (net_from s h).cap p → M p ≤ (net_from s h).cap p)
       (none : (p : ℕ) → h.places ≤ p → M p ≡ 0) where
     no_cap : eqb h.edition 2 ≡ false → (q : ℕ) → (net_from s h).cap q ≡ 0
-    no_cap f = no_cap-by s h f
+    no_cap f = no_cap_by s h f
 
-    marking-read : (p : ℕ) → p < h.places → marking_at s' h p ≡ M p
-    marking-read p l = read-markings h.edition s' M (net_from s h).cap h.markstart 0 h.places at_places (λ q k. small q (omega arith)) p l ∙ ap M (zero-add p)
+    marking_read : (p : ℕ) → p < h.places → marking_at s' h p ≡ M p
+    marking_read p l = read_markings h.edition s' M (net_from s h).cap h.markstart 0 h.places at_places (λ q k. small q (omega arith)) p l ∙ ap M (zero-add p)
 
-    cap-read : (p : ℕ) → p < h.places → cap_at s' h p ≡ (net_from s h).cap p
-    cap-read p l = read-caps h.edition s' M (net_from s h).cap h.markstart 0 h.places at_places (λ q k. cap-lt s bytes h q) no_cap p l ∙ ap (net_from s h).cap (zero-add p)
+    cap_read : (p : ℕ) → p < h.places → cap_at s' h p ≡ (net_from s h).cap p
+    cap_read p l = read_caps h.edition s' M (net_from s h).cap h.markstart 0 h.places at_places (λ q k. cap_lt s bytes h q) no_cap p l ∙ ap (net_from s h).cap (zero-add p)
 
     net-same : net_from s' h ≡ starting_at M (net_from s h)
     net-same =
-        let m = below-is h.places (marking_at s' h) M marking-read none in
-        let c = below-is h.places (cap_at s' h) (net_from s h).cap cap-read (below-off h.places (cap_at s h)) in
-        let a = same-arcs s s' h.arcstart after_same h.arcstart h.arcs (omega arith) in
+        let m = below-is h.places (marking_at s' h) M marking_read none in
+        let c = below-is h.places (cap_at s' h) (net_from s h).cap cap_read (below-off h.places (cap_at s h)) in
+        let a = same_arcs_lem s s' h.arcstart after_same h.arcstart h.arcs (omega arith) in
         λ i. record { places = h.places; transitions = h.transitions; marking = m i; cap = c i; arcs = a i }
 
     -- the caps pass 16
-    cap-at_two : eqb h.edition 2 ≡ true → (p : ℕ) → cap_at s' h p ≡ le32 s' (h.markstart + 8 * p + 4)
-    cap-at_two two p = rw two
+    cap_at_two : eqb h.edition 2 ≡ true → (p : ℕ) → cap_at s' h p ≡ le32 s' (h.markstart + 8 * p + 4)
+    cap_at_two two p = rw two
 
-    marking-at_two : eqb h.edition 2 ≡ true → (p : ℕ) → marking_at s' h p ≡ le32 s' (h.markstart + 8 * p)
-    marking-at_two two p = rw two
+    marking_at_two : eqb h.edition 2 ≡ true → (p : ℕ) → marking_at s' h p ≡ le32 s' (h.markstart + 8 * p)
+    marking_at_two two p = rw two
 
-    caps-by : (two : Bool) → eqb h.edition 2 ≡ two → pick two (caps_refusal s' h.markstart h.places) 0 ≡ 0
-    caps-by false f = refl
-    caps-by true two = caps-pass s' h.markstart h.places (λ p l some.
-        let m = marking-at_two two p in
-        let c = cap-at_two two p in
-        let c' = cap-read p l in
-        omega (arith, m, c, c', marking-read p l, within p l (omega (arith, c, c'))))
+    caps_by : (two : Bool) → eqb h.edition 2 ≡ two → pick two (caps_refusal s' h.markstart h.places) 0 ≡ 0
+    caps_by false f = refl
+    caps_by true two = caps_pass s' h.markstart h.places (λ p l some.
+        let m = marking_at_two two p in
+        let c = cap_at_two two p in
+        let c' = cap_read p l in
+        omega (arith, m, c, c', marking_read p l, within p l (omega (arith, c, c'))))
 
-    caps-right : pick (eqb h.edition 2) (caps_refusal s' h.markstart h.places) 0 ≡ 0
-    caps-right = caps-by (eqb h.edition 2) refl
+    caps_right : pick (eqb h.edition 2) (caps_refusal s' h.markstart h.places) 0 ≡ 0
+    caps_right = caps_by (eqb h.edition 2) refl
 
     readable : (d' : Due) → file_refusal d' s ≡ 0 → file_refusal d' s' ≡ 0
     unfolding file_refusal body_refusal
@@ -261,7 +261,7 @@ module _ (d : Due) (s : List ℕ) (bytes : Bytes s) (e : file_refusal d s ≡ 0)
         let l = refuse-0 (length_wrong (length s)) 0 _ r in
         let t = or_else_0 (trailer_refusal d' (length s) (trailer_of s)) _ l.1 in
         let c = or_else_0 (pick (eqb h.edition 2) (caps_refusal s h.markstart h.places) 0) (links_refusal s h) t.1 in
-        rw (same_length, trailer_same, header-same, l.0, t.0, caps-right) (links_same ∙ c.1)
+        rw (same_length, trailer_same, header_same, l.0, t.0, caps_right) (links_same ∙ c.1)
 
   -- with its own marking it is the same file
   own_same : ((p : ℕ) → p < h.places → M p ≡ marking_at s h p) → s' ≡ s
@@ -270,7 +270,7 @@ module _ (d : Due) (s : List ℕ) (bytes : Bytes s) (e : file_refusal d s ≡ 0)
       (λ k. before_same i (ltb-true i h.markstart k))
       (λ k. by_cases (ltb i h.arcstart)
       (λ n.
-      let p = sound-file.placed in
+      let p = sound_file.placed in
       let past = ltb-false i h.markstart k in
       let i≡ : h.markstart + (i - h.markstart) ≡ i = omega (arith, past) in
       let inside : i - h.markstart < length Ms = omega (arith, ltb-true i h.arcstart n, past, p.markings_fit, length-places h.edition M (net_from s h).cap 0 h.places) in
@@ -282,7 +282,7 @@ module _ (d : Due) (s : List ℕ) (bytes : Bytes s) (e : file_refusal d s ≡ 0)
       at_first false = omega arith
 
       own-stands : ((p : ℕ) → p < h.places → M p ≡ marking_at s h p) → (k : ℕ) → k < length Ms → byte_at s (h.markstart + k) ≡ byte_at Ms k
-      own-stands own = stands_at s Ms (stands-places s bytes h.edition h.markstart M (net_from s h).cap 0 h.places (λ q l. own q (omega arith)) (λ two q l. cap-at s h two q (omega arith))) (at_first (eqb h.edition 2))
+      own-stands own = stands_at s Ms (stands_places s bytes h.edition h.markstart M (net_from s h).cap 0 h.places (λ q l. own q (omega arith)) (λ two q l. cap_at_lem s h two q (omega arith))) (at_first (eqb h.edition 2))
 
 -- what 22 and 24 let pass
 tokens-fit : (m c : ℕ) → too_many m c ≡ false → (m < 4294967296) × (0 < c → m ≤ c)
@@ -297,14 +297,14 @@ module _ (N : Net) (M : ℕ → ℕ) where
   none_over f p l = is_false (too_many (M p) (N.cap p)) (λ k.
       fails _ f (any-has (λ q. too_many (M q) (N.cap q)) (selected (λ q. true) 0 N.places) p (below-has (λ q. true) N.places p l tt) k))
 
-  pub over-some : (p : ℕ) → p < N.places → too_many (M p) (N.cap p) ≡ true → overfull N M ≡ true
+  pub over_some : (p : ℕ) → p < N.places → too_many (M p) (N.cap p) ≡ true → overfull N M ≡ true
   unfolding overfull
-  over-some p l k =
+  over_some p l k =
       is_true _ (any-has (λ q. too_many (M q) (N.cap q)) (selected (λ q. true) 0 N.places) p (below-has (λ q. true) N.places p l tt) (holds (too_many (M p) (N.cap p)) k))
 
-  over-at : overfull N M ≡ true → (p : ℕ) × (p < N.places) × (too_many (M p) (N.cap p) ≡ true)
+  over_at : overfull N M ≡ true → (p : ℕ) × (p < N.places) × (too_many (M p) (N.cap p) ≡ true)
   unfolding overfull
-  over-at t =
+  over_at t =
       let x = any-finds (λ q. too_many (M q) (N.cap q)) (selected (λ q. true) 0 N.places) (holds _ t) in
       (x.0, (below-passes (λ q. true) N.places x.0 x.1).0, is_true _ x.2)
 
@@ -315,15 +315,15 @@ module _ (N : Net) (M : ℕ → ℕ) where
       fails _ (f x.0 (below-passes (λ q. true) N.places x.0 x.1).0) x.2)
 
 -- by another name of the marking
-pub over-same : (N : Net) (M M' : ℕ → ℕ) → ((p : ℕ) → p < N.places → M p ≡ M' p) → overfull N M ≡ overfull N M'
-over-same N M M' same = by_cases (overfull N M')
-    (λ t. let x = over-at N M' t in over-some N M x.0 x.1 (ap (λ (m : ℕ). too_many m (N.cap x.0)) (same x.0 x.1) ∙ x.2) ∙ sym t)
+pub over_same : (N : Net) (M M' : ℕ → ℕ) → ((p : ℕ) → p < N.places → M p ≡ M' p) → overfull N M ≡ overfull N M'
+over_same N M M' same = by_cases (overfull N M')
+    (λ t. let x = over_at N M' t in over_some N M x.0 x.1 (ap (λ (m : ℕ). too_many m (N.cap x.0)) (same x.0 x.1) ∙ x.2) ∙ sym t)
     (λ f. over_none N M (λ p l. ap (λ (m : ℕ). too_many m (N.cap p)) (same p l) ∙ none_over N M' f p l) ∙ sym f)
 
 module _ (N : Net) (start : List ℕ) (ok : start_refusal N start ≡ 0) where
-  pub start-length : length start ≡ N.places
+  pub start_length : length start ≡ N.places
   unfolding start_refusal
-  start-length = eqb-true (length start) N.places (not-false _ (refuse-0 _ 21 (refuse (overfull N (standing start)) 24 0) ok).0)
+  start_length = eqb-true (length start) N.places (not-false _ (refuse-0 _ 21 (refuse (overfull N (standing start)) 24 0) ok).0)
 
   pub start_fits : (p : ℕ) → p < N.places → (standing start p < 4294967296) × (0 < N.cap p → standing start p ≤ N.cap p)
   unfolding start_refusal
@@ -332,19 +332,19 @@ module _ (N : Net) (start : List ℕ) (ok : start_refusal N start ≡ 0) where
       tokens-fit (standing start p) (N.cap p) (none_over N (standing start) (refuse-0 (overfull N (standing start)) 23 0 full).0 p l)
 
   pub start_none : (p : ℕ) → N.places ≤ p → standing start p ≡ 0
-  start_none p l = get_or-eq_default start 0 {n = p} (omega (arith, start-length))
+  start_none p l = get_or-eq_default start 0 {n = p} (omega (arith, start_length))
 
 -- a file that was read and a start that is not refused
 module _ (d : Due) (s : List ℕ) (bytes : Bytes s) (e : file_refusal d s ≡ 0) (start : List ℕ) (ok : start_refusal (net_of s) start ≡ 0) where
-  small-start : (p : ℕ) → p < (header_of s).places → standing start p < 4294967296
-  small-start p l = (start_fits (net_of s) start ok p l).0
+  small_start : (p : ℕ) → p < (header_of s).places → standing start p < 4294967296
+  small_start p l = (start_fits (net_of s) start ok p l).0
 
-  within-start : (p : ℕ) → p < (header_of s).places → 0 < (net_of s).cap p → standing start p ≤ (net_of s).cap p
-  within-start p l = (start_fits (net_of s) start ok p l).1
+  within_start : (p : ℕ) → p < (header_of s).places → 0 < (net_of s).cap p → standing start p ≤ (net_of s).cap p
+  within_start p l = (start_fits (net_of s) start ok p l).1
 
   pub started-header : header_of (started s start) ≡ header_of s
   unfolding started_from
-  started-header = header-same d s bytes e (standing start)
+  started-header = header_same d s bytes e (standing start)
 
   pub started-bytes : Bytes (started s start)
   unfolding started_from
@@ -352,14 +352,14 @@ module _ (d : Due) (s : List ℕ) (bytes : Bytes s) (e : file_refusal d s ≡ 0)
 
   pub started-readable : (d' : Due) → file_refusal d' s ≡ 0 → file_refusal d' (started s start) ≡ 0
   unfolding started_from
-  started-readable = readable d s bytes e (standing start) small-start within-start (start_none (net_of s) start ok)
+  started-readable = readable d s bytes e (standing start) small_start within_start (start_none (net_of s) start ok)
 
   pub started-sound : Sound (started s start) (header_of s)
   started-sound = subst (λ (g : Header). Sound (started s start) g) started-header (sound d (started s start) (started-readable d e))
 
   pub started-from : net_from (started s start) (header_of s) ≡ starting_at (standing start) (net_of s)
   unfolding started_from
-  started-from = net-same d s bytes e (standing start) small-start within-start (start_none (net_of s) start ok)
+  started-from = net-same d s bytes e (standing start) small_start within_start (start_none (net_of s) start ok)
 
   pub started-net : net_of (started s start) ≡ starting_at (standing start) (net_of s)
   started-net = ap (net_from (started s start)) started-header ∙ started-from
@@ -373,7 +373,7 @@ module _ (d : Due) (s : List ℕ) (bytes : Bytes s) (e : file_refusal d s ≡ 0)
   unfolding WithinCaps capped
   own-fits p l =
       let m = own-entry p l in
-      let small = marking-lt s bytes (header_of s) p in
+      let small = marking_lt s bytes (header_of s) p in
       by_cases (eqb ((net_of s).cap p) 0)
       (λ z. rw (le-ltb 4294967295 (standing (own_start s) p) (omega (arith, m, small)), z))
       (λ z.
@@ -403,6 +403,6 @@ started-opened d s h start b o ok =
     subst⁻¹ (λ (g : Header). start_refusal (net_from s g) start ≡ 0 → Opened d (started_from s g start) g) o.same (λ ok'. record {
       same = sym (started-header d s b o.read start ok');
       read = started-readable d s b o.read start ok' d o.read;
-      kind = kind-due d s o.read;
+      kind = kind_due d s o.read;
       good = started-sound d s b o.read start ok';
     }) ok

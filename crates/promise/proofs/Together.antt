@@ -68,9 +68,9 @@ module _ (plan : List ℕ) (t : ℕ) (marking rest : List ℕ) where
     by_unlimited : together N t M ≡ unlimited → Unlimited N t M (standing (together_rest plan t marking rest))
     by_unlimited e = law.unlimited N t M _ e (λ p l. left_at p l ∙ ap (λ (x : Takings). remainder N t M x p) e)
 
-    same-list : together N t M ≡ unlimited → take (length marking) (together_rest plan t marking rest) ≡ marking
+    same_list : together N t M ≡ unlimited → take (length marking) (together_rest plan t marking rest) ≡ marking
     unfolding remainder
-    same-list e =
+    same_list e =
         let same : tokens N left ≡ marking = ap (λ (x : Takings). tokens N (remainder N t M x)) e ∙ sym (tokens-are N M marking entries (λ p l. refl)) in
         ap (take (length marking)) list
         ∙ take_at (tokens N left) (drop (length (tokens N left)) rest) (length marking) (length-tokens N left ∙ sym entries)
@@ -84,11 +84,11 @@ module _ (plan : List ℕ) (t : ℕ) (marking rest : List ℕ) where
     told-times (times k) e = refl
     told-times unlimited e = differ (sym e)
 
-    is-unlimited : (together_answer plan t marking (length rest)).unlimited ≡ true → together N t M ≡ unlimited
-    is-unlimited e = told-unlimited (together N t M) (sym (ap (λ (a : TogetherAnswer). a.unlimited) told) ∙ e)
+    is_unlimited : (together_answer plan t marking (length rest)).unlimited ≡ true → together N t M ≡ unlimited
+    is_unlimited e = told-unlimited (together N t M) (sym (ap (λ (a : TogetherAnswer). a.unlimited) told) ∙ e)
 
-    is-times : (together_answer plan t marking (length rest)).unlimited ≡ false → together N t M ≡ times (together_answer plan t marking (length rest)).times
-    is-times e =
+    is_times : (together_answer plan t marking (length rest)).unlimited ≡ false → together N t M ≡ times (together_answer plan t marking (length rest)).times
+    is_times e =
         told-times (together N t M) (sym (ap (λ (a : TogetherAnswer). a.unlimited) told) ∙ e)
         ∙ ap (λ (a : TogetherAnswer). times a.times) (sym told)
 
@@ -98,17 +98,17 @@ module _ (plan : List ℕ) (t : ℕ) (marking rest : List ℕ) where
 
   taken : TakesLargest plan t marking (together_answer plan t marking (length rest)) (together_rest plan t marking rest)
   taken = record {
-    largest = λ a b. by_times (passed a) _ (is-times (passed a) b);
+    largest = λ a b. by_times (passed a) _ (is_times (passed a) b);
     unlimited = λ a. (
-      λ b. law.no_inputs N t M (is-unlimited (passed a) b),
+      λ b. law.no_inputs N t M (is_unlimited (passed a) b),
       λ f. ap (λ (x : TogetherAnswer). x.unlimited) (told (passed a)) ∙ ap (λ (x : Takings). (together_told x).unlimited) (law.is-unlimited N t M f),
     );
-    unchanged = λ a b. (by_unlimited (passed a) (is-unlimited (passed a) b), same-list (passed a) (is-unlimited (passed a) b));
+    unchanged = λ a b. (by_unlimited (passed a) (is_unlimited (passed a) b), same_list (passed a) (is_unlimited (passed a) b));
   }
 
   -- at the call, by its own answer and list
-  pub takes-largest : {a : TogetherAnswer} {exit : List ℕ} → a ≡ together_answer plan t marking (length rest) → exit ≡ together_rest plan t marking rest → TakesLargest plan t marking a exit
-  takes-largest {a} {exit} e f =
+  pub takes_largest : {a : TogetherAnswer} {exit : List ℕ} → a ≡ together_answer plan t marking (length rest) → exit ≡ together_rest plan t marking rest → TakesLargest plan t marking a exit
+  takes_largest {a} {exit} e f =
       subst (λ (x : TogetherAnswer). TakesLargest plan t marking x exit) (sym e)
       (subst (λ (l : List ℕ). TakesLargest plan t marking (together_answer plan t marking (length rest)) l) (sym f) taken)
 
@@ -139,5 +139,5 @@ module _ (plan : List ℕ) (t : ℕ) (marking : List ℕ) (a b : TogetherAnswer)
         ap (λ (k : ℕ). k * input (net_of plan) p t) (one_number n),
       ))
 
-  pub same-takings : SameTakings plan a b exit exit'
-  same-takings = record { same-unlimited = one-kind; same-times = one_number; same_rest = one-rest }
+  pub same_takings : SameTakings plan a b exit exit'
+  same_takings = record { same_unlimited = one-kind; same_times = one_number; same_rest = one-rest }

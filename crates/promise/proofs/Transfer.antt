@@ -113,9 +113,9 @@ module _ (old new running table marking : List ℕ) (e : transfer_answer old new
   front : take N.places (transfer_marking old new running table marking) ≡ tokens N C
   front = ap (take N.places) exit_is ∙ ap (λ (k : ℕ). take k (tokens N C ++ drop (length (tokens N C)) marking)) (sym (length-tokens N C)) ∙ take-file (tokens N C) _
 
-  ready-there : start_refusal N (tokens N C) ≡ 0
+  ready_there : start_refusal N (tokens N C) ≡ 0
   unfolding start_refusal
-  ready-there =
+  ready_there =
       rw (
         eq-eqb (length (tokens N C)) N.places (length-tokens N C),
         over_none N (standing (tokens N C)) (λ p l. ap (λ (m : ℕ). too_many m (N.cap p)) (get_d_tokens N C p l) ∙ none_over N C passed.2 p l),
@@ -129,7 +129,7 @@ module _ (old new running table marking : List ℕ) (e : transfer_answer old new
   carried = record {
     sums = λ q l. ap (λ (m : List ℕ). get_or m q 0) exit_is ∙ get_or-append (tokens N C) _ 0 q (omega (arith, length-tokens N C)) ∙ get_d_tokens N C q l;
     total = ap total front ∙ same_total;
-    ready = ap (start_refusal N) front ∙ ready-there;
+    ready = ap (start_refusal N) front ∙ ready_there;
   }
 
 pub carried_on : (new running table exit exit' : List ℕ) → file_refusal due.Plan new ≡ 0 → Carried new running table exit → Carried new running table exit' → CarriedOn new exit exit'

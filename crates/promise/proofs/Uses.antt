@@ -18,10 +18,10 @@ use Rattle.net.specs.Guarantee.{PlanFires, plan_tokens, SliceFires, slice_tokens
 use Rattle.net.specs.Conclusions.{StuckForGood}
 use Rattle.net.specs.Run.{fired_at}
 use Rattle.net.specs.Together.{Takable}
-use Rattle.net.proofs.Numbers.{by_cases, by_order, position-lt, rising-selected, length-selected}
+use Rattle.net.proofs.Numbers.{by_cases, by_order, position-lt, rising_selected, length-selected}
 use Rattle.net.proofs.Markings.{below_at, below-off, length-tokens}
-use Rattle.net.proofs.Replay.{leads-fires, fires-leads}
-use Rattle.net.proofs.Conclusions.{short-for_good, full-for_good}
+use Rattle.net.proofs.Replay.{leads_fires, fires_leads}
+use Rattle.net.proofs.Conclusions.{short_for_good, full_for_good}
 use Rattle.file_words.specs.Word.{byte_at, le64, Bytes}
 use Rattle.file_words.specs.Refusal.{refuse, or_else}
 use Rattle.file_words.proofs.Laws.{refuse-0, or_else_0}
@@ -41,9 +41,9 @@ use Rattle.promise.specs.RunCut.{RunAnswer, run_buffer, Feeds, RunsBack}
 use Rattle.promise.specs.Promise.{our_cut, Wrote, WritesSmallest, Sticks, Promise}
 use Rattle.promise.specs.Uses.{LeadsOn, NoneSmaller, EqualOn, EnoughOn, Endless, Uses}
 use Rattle.promise.proofs.Replays.{differ, not_stuck, answered}
-use Rattle.promise.proofs.Demands.{slice-well_formed, check-passes}
+use Rattle.promise.proofs.Demands.{slice_well_formed, check_passes}
 use Rattle.promise.proofs.Shadow.{written_entry}
-use Rattle.promise.proofs.Rooms.{list-short, project-few}
+use Rattle.promise.proofs.Rooms.{list_short, project-few}
 
 -- ---- when a replay is not refused
 
@@ -60,27 +60,27 @@ either s e =
     rw (l.0, letters.0, le-ltb 1 t.kind (omega (arith, one)), kind.1, a.1)
 
 -- a list that fires has known numbers
-fires-known : (N : Net) (M : Marking) (ts : List ℕ) → Fires N M ts → any (λ t. leb N.transitions t) ts ≡ false
+fires_known : (N : Net) (M : Marking) (ts : List ℕ) → Fires N M ts → any (λ t. leb N.transitions t) ts ≡ false
 unfolding Fires any
-fires-known N M [] f = refl
-fires-known N M (t ∷ ts) (l, en, f) = rw (lt-leb N.transitions t l) (fires-known N (fire N t M) ts f)
+fires_known N M [] f = refl
+fires_known N M (t ∷ ts) (l, en, f) = rw (lt-leb N.transitions t l) (fires_known N (fire N t M) ts f)
 
 pub passes : (file list : List ℕ) (room : ℕ) → file_refusal due.Either file ≡ 0 → PlanFires (net_of file) list → length list ≤ 65535 → (net_of file).places ≤ room → replay_refusal file list room ≡ 0
 unfolding PlanFires replay_refusal list_refusal
-passes file list room r f s h = rw (r, le-ltb 65535 (length list) s, fires-known (net_of file) (net_of file).marking list f, le-ltb room (net_of file).places h)
+passes file list room r f s h = rw (r, le-ltb 65535 (length list) s, fires_known (net_of file) (net_of file).marking list f, le-ltb room (net_of file).places h)
 
 not-refused : (n : ℕ) (a : Answer) → (replay_or n a).refused ≡ false → n ≡ 0
 not-refused zero a e = refl
 not-refused (suc n) a e = differ (sym e)
 
 -- an answer fired is no refusal
-pub fired-passes : (file list : List ℕ) (room : ℕ) → replay_answer file list room ≡ replay_told fired → replay_refusal file list room ≡ 0
+pub fired_passes : (file list : List ℕ) (room : ℕ) → replay_answer file list room ≡ replay_told fired → replay_refusal file list room ≡ 0
 unfolding replay_answer
-fired-passes file list room e = not-refused (replay_refusal file list room) (replay (net_of file) list).answer (ap (λ (a : ReplayAnswer). a.refused) e)
+fired_passes file list room e = not-refused (replay_refusal file list room) (replay (net_of file) list).answer (ap (λ (a : ReplayAnswer). a.refused) e)
 
-list-passes : (file list : List ℕ) (room : ℕ) → replay_refusal file list room ≡ 0 → length list ≤ 65535
+list_passes : (file list : List ℕ) (room : ℕ) → replay_refusal file list room ≡ 0 → length list ≤ 65535
 unfolding replay_refusal
-list-passes file list room e = list-short (net_of file).transitions list (or_else_0 _ _ (or_else_0 (file_refusal due.Either file) _ e).1).0
+list_passes file list room e = list_short (net_of file).transitions list (or_else_0 _ _ (or_else_0 (file_refusal due.Either file) _ e).1).0
 
 -- ---- where a list sticks
 
@@ -116,14 +116,14 @@ module _ (N : Net) (W : ℕ → Set) {P₀ T₀ done₀ : Set} (r : Endless N W 
       subst (λ (X : Set). Inner N (W p) X T' (r.places (suc i)) (r.transitions (suc i))) p≡ (subst (λ (X : Set). Inner N (W p) (r.places i) X (r.places (suc i)) (r.transitions (suc i))) t≡ run) in
       stops (next p l' (r.places (suc i)) (r.transitions (suc i)) run') (suc i) refl refl (same ∙ ap (λ (X : Set). adding X p) d≡)
 
-  none-endless : OuterEnds N W P₀ T₀ done₀ → ⊥
-  none-endless e = stops e 0 r.starts.0 r.starts.1 r.starts.2
+  none_endless : OuterEnds N W P₀ T₀ done₀ → ⊥
+  none_endless e = stops e 0 r.starts.0 r.starts.1 r.starts.2
 
 -- ---- edition 1
 
-uncapped-1 : (s : List ℕ) → (header_of s).edition ≡ 1 → Uncapped (net_of s)
+uncapped_1 : (s : List ℕ) → (header_of s).edition ≡ 1 → Uncapped (net_of s)
 unfolding Uncapped
-uncapped-1 s e p =
+uncapped_1 s e p =
     let h = header_of s in
     by_cases (ltb p h.places)
     (λ l. below_at h.places (cap_at s h) p (ltb-true p h.places l) ∙ rw e)
@@ -141,8 +141,8 @@ byte_of s i k l = get_or-take 8 (drop i s) k 0 l ∙ get_or-drop i s k 0
 
 module _ (P : Promise) where
   -- a list that fires is answered fired, and the marking is the one after it
-  fired-on : (file list : List ℕ) (room : ℕ) → replay_refusal file list room ≡ 0 → PlanFires (net_of file) list → replay_answer file list room ≡ replay_told fired
-  fired-on file list room e f =
+  fired_on_lem : (file list : List ℕ) (room : ℕ) → replay_refusal file list room ≡ 0 → PlanFires (net_of file) list → replay_answer file list room ≡ replay_told fired
+  fired_on_lem file list room e f =
       let told = answered file list room e in
       told ∙ ap replay_told (not_stuck (replay (net_of file) list).answer (sym (ap (λ (a : ReplayAnswer). a.stuck) told) ∙ (P.replays file list room e).fires.1 f))
 
@@ -160,11 +160,11 @@ module _ (P : Promise) where
       let r = P.replays file list (length lent) e in
       record {
         fired = (
-          λ h. (after N N.marking list, fires-leads N N.marking list (r.fires.0 (ap (λ (a : ReplayAnswer). a.stuck) h))),
-          λ (M, l). fired-on file list (length lent) e (leads-fires N N.marking M list l).0,
+          λ h. (after N N.marking list, fires_leads N N.marking list (r.fires.0 (ap (λ (a : ReplayAnswer). a.stuck) h))),
+          λ (M, l). fired_on_lem file list (length lent) e (leads_fires N N.marking M list l).0,
         );
         written = λ M l.
-            let f = leads-fires N N.marking M list l in
+            let f = leads_fires N N.marking M list l in
             let same : (replay N list).marking ≡ M = r.ends f.0 ∙ sym f.1 in
             ap (λ (n : ℕ). written n (tokens N (replay N list).marking) lent) e
             ∙ ap (λ (m : Marking). tokens N m ++ drop (length (tokens N m)) lent) same
@@ -175,50 +175,50 @@ module _ (P : Promise) where
     rules : Accepted (net_of plan) (slice_of slice) Q
     rules = ((P.judges plan slice Q).accepts.0 a).1
 
-    slice-read : file_refusal due.Slice slice ≡ 0
-    slice-read = (check-passes plan slice Q ((P.judges plan slice Q).accepts.0 a).0).0
+    slice_read : file_refusal due.Slice slice ≡ 0
+    slice_read = (check_passes plan slice Q ((P.judges plan slice Q).accepts.0 a).0).0
 
     known : (q : ℕ) → T (among q Q) → q < (net_of plan).places
-    known q h = (passed (net_of plan).places Q (check-passes plan slice Q ((P.judges plan slice Q).accepts.0 a).0).1).known q h
+    known q h = (passed (net_of plan).places Q (check_passes plan slice Q ((P.judges plan slice Q).accepts.0 a).0).1).known q h
 
     own-known : (q : ℕ) → T (among q Q) → own_place (slice_of slice) q < (net_of slice).places
-    own-known q h = omega (arith, (slice-well_formed slice slice-read).place-count, position-lt q (slice_of slice).place_origins (rules.criterion-kept q h))
+    own-known q h = omega (arith, (slice_well_formed slice slice_read).place_count, position-lt q (slice_of slice).place_origins (rules.criterion_kept q h))
 
     replayed : (list lent : List ℕ) (M : Marking) → Fires (net_of slice) (net_of slice).marking list → length list ≤ 65535 → (net_of slice).places ≤ length lent
         → ((q : ℕ) → T (among q Q) → after (net_of slice) (net_of slice).marking list (own_place (slice_of slice) q) ≡ M q) → EqualOn slice list lent Q M
     unfolding PlanFires
     replayed list lent M f s h same =
-        let e = passes slice list (length lent) (either slice slice-read) f s h in
-        record { fired = fired-on slice list (length lent) e f; tokens = λ q i. ends_on slice list lent e f (own_place (slice_of slice) q) (own-known q i) ∙ same q i }
+        let e = passes slice list (length lent) (either slice slice_read) f s h in
+        record { fired = fired_on_lem slice list (length lent) e f; tokens = λ q i. ends_on slice list lent e f (own_place (slice_of slice) q) (own-known q i) ∙ same q i }
 
-    projected-on : (list lent marking : List ℕ) → Guarantee (net_of plan) (slice_of slice) Q → replay_answer plan list (length marking) ≡ replay_told fired
+    projected_on : (list lent marking : List ℕ) → Guarantee (net_of plan) (slice_of slice) Q → replay_answer plan list (length marking) ≡ replay_told fired
         → (net_of slice).places ≤ length lent → EqualOn slice (project (slice_of slice) list) lent Q (standing (replay_marking plan list marking))
     unfolding project SliceFires slice_tokens plan_tokens struck
-    projected-on list lent marking g t h =
-        let e = fired-passes plan list (length marking) t in
+    projected_on list lent marking g t h =
+        let e = fired_passes plan list (length marking) t in
         let f = (P.replays plan list (length marking) e).fires.0 (ap (λ (x : ReplayAnswer). x.stuck) t) in
-        replayed (project (slice_of slice) list) lent (standing (replay_marking plan list marking)) (g.shadow-fires list f).1
-        (omega (arith, project-few (slice_of slice) list, list-passes plan list (length marking) e)) h
-        (λ q i. g.shadow-tokens list f q i ∙ sym (ends_on plan list marking e f q (known q i)))
+        replayed (project (slice_of slice) list) lent (standing (replay_marking plan list marking)) (g.shadow_fires list f).1
+        (omega (arith, project-few (slice_of slice) list, list_passes plan list (length marking) e)) h
+        (λ q i. g.shadow_tokens list f q i ∙ sym (ends_on plan list marking e f q (known q i)))
 
-  followed-on : (plan slice shadow marking lent Q : List ℕ) → FollowedIn plan slice shadow marking → Accepts plan slice Q → length shadow ≤ 65535
+  followed_on : (plan slice shadow marking lent Q : List ℕ) → FollowedIn plan slice shadow marking → Accepts plan slice Q → length shadow ≤ 65535
       → (net_of slice).places ≤ length lent → EqualOn slice shadow lent Q (standing marking)
-  followed-on plan slice shadow marking lent Q x a s h = replayed plan slice Q a shadow lent (standing marking) (x.fires Q a) s h (x.tokens Q a)
+  followed_on plan slice shadow marking lent Q x a s h = replayed plan slice Q a shadow lent (standing marking) (x.fires Q a) s h (x.tokens Q a)
 
   fed : (plan Q list file positions lent : List ℕ) → Feeds plan Q list file positions → length list ≤ 65535
       → (net_of file).places ≤ length lent → EnoughOn file (own (slice_of file).transition_origins (fired_at list positions)) lent Q (plan_tokens (net_of plan) list)
   unfolding own fired_at SliceFires slice_tokens PlanFires
   fed plan Q list file positions lent x s h =
       let chosen = own (slice_of file).transition_origins (fired_at list positions) in
-      let rising = rising-selected positions 0 (length list) x.rise (λ i k. (omega arith, omega (arith, x.inside i k))) in
+      let rising = rising_selected positions 0 (length list) x.rise (λ i k. (omega arith, omega (arith, x.inside i k))) in
       let few : length positions ≤ length list = omega (arith, ap length rising, length-selected (λ i. among i positions) 0 (length list)) in
       let long : length chosen ≡ length positions = length-map (fired_at list positions) _ ∙ length-map positions _ in
       let f = x.fires.1 in
       let e = passes file chosen (length lent) (either file x.read) f (omega (arith, long, few)) h in
       let there : (q : ℕ) → T (among q Q) → own_place (slice_of file) q < (net_of file).places =
-      λ q i. omega (arith, (slice-well_formed file x.read).place-count, position-lt q (slice_of file).place_origins (x.criterion q i)) in
+      λ q i. omega (arith, (slice_well_formed file x.read).place_count, position-lt q (slice_of file).place_origins (x.criterion q i)) in
       record {
-        fired = fired-on file chosen (length lent) e f;
+        fired = fired_on_lem file chosen (length lent) e f;
         tokens = λ q i. omega (arith, ends_on file chosen lent e f (own_place (slice_of file) q) (there q i), x.enough q i);
       }
 
@@ -233,7 +233,7 @@ module _ (P : Promise) where
     told-there = (x.sticks w).1
 
     for_good : StuckForGood N list a.index
-    for_good = short-for_good N list a.index m (x.sticks w).0 a.place a.amount told-there
+    for_good = short_for_good N list a.index m (x.sticks w).0 a.place a.amount told-there
 
     by_answer : (r : Answer) → (replay N list).answer ≡ r
         → replay_told r ≡ record { refused = false; refusal = 0; stuck = true; full = false; index = a.index; place = a.place; amount = a.amount }
@@ -244,13 +244,13 @@ module _ (P : Promise) where
         absurd (for_good.never (drop (suc a.index) list) (subst⁻¹ (λ (l : List ℕ). PlanFires N l) (take-append-drop (suc a.index) list) f))
     by_answer (short i p n) same =
         let s = (P.replays plan list room e).sticks i p n (answered plan list room e ∙ ap replay_told same) in
-        let i≡ : i ≡ a.index = one_index N list i a.index (short-for_good N list i m s.0 p n s.1) for_good in
+        let i≡ : i ≡ a.index = one_index N list i a.index (short_for_good N list i m s.0 p n s.1) for_good in
         let here : ShortAt N (get_or list a.index 0) m p n = subst (λ (k : ℕ). ShortAt N (get_or list k 0) m p n) i≡ s.1 in
         let (p≡, n≡) = one_place N (get_or list a.index 0) m p n a.place a.amount here told-there in
         λ k. replay_told (short (i≡ k) (p≡ k) (n≡ k))
     by_answer (full i p n) same =
         let s = (P.replays plan list room e).fills i p n (answered plan list room e ∙ ap replay_told same) in
-        let i≡ : i ≡ a.index = one_index N list i a.index (full-for_good N list i m s.0 p n s.1) for_good in
+        let i≡ : i ≡ a.index = one_index N list i a.index (full_for_good N list i m s.0 p n s.1) for_good in
         let here : FullAt N (get_or list a.index 0) m p n = subst (λ (k : ℕ). FullAt N (get_or list k 0) m p n) i≡ s.1 in
         absurd (omega (arith, here.supplied a.place told-there.place, told-there.amount, told-there.some))
 
@@ -276,28 +276,28 @@ module _ (P : Promise) where
   pub uses : Uses
   unfolding SafetySliceEnds SliceEnds
   uses = record {
-    leads-on = leads;
+    leads_on = leads;
     counted = λ plan Q a exit w z. record { own = w.accepted z; places = λ other ok. w.places z other ok; transitions = λ other ok. w.transitions z other ok };
     two_calls = λ plan q buffer b even w. record {
-      own = (P.demand_3-bytes plan [] q buffer b even).own-cut w;
-      places = λ other ok. (P.demand_3-bytes plan other q buffer b even).places w ok;
-      transitions = λ other ok. (P.demand_3-bytes plan other q buffer b even).transitions w ok;
+      own = (P.demand_3_bytes plan [] q buffer b even).own_cut w;
+      places = λ other ok. (P.demand_3_bytes plan other q buffer b even).places w ok;
+      transitions = λ other ok. (P.demand_3_bytes plan other q buffer b even).transitions w ok;
     };
-    projected = λ plan slice Q list lent marking g a. projected-on plan slice Q a list lent marking g;
-    followed = followed-on;
-    fed-on = fed;
-    stuck-alike = stuck;
-    taken-again = λ plan t marking a b exit again x ra ua long y rb. (limited plan t marking a b exit again x ra ua long y rb, none_left plan t marking a b exit again x ra ua long y rb);
-    nothing-fed = λ plan list buffer positions b r n k f h.
-        ap (λ (file : List ℕ). checked_bytes plan file []) (P.run-for_nothing plan list buffer positions b r n k f (omega (arith, h))).same_bytes ∙ (P.cut-for_nothing plan buffer b r h).accepted;
+    projected = λ plan slice Q list lent marking g a. projected_on plan slice Q a list lent marking g;
+    followed = followed_on;
+    fed_on = fed;
+    stuck_alike = stuck;
+    taken_again = λ plan t marking a b exit again x ra ua long y rb. (limited plan t marking a b exit again x ra ua long y rb, none_left plan t marking a b exit again x ra ua long y rb);
+    nothing_fed = λ plan list buffer positions b r n k f h.
+        ap (λ (file : List ℕ). checked_bytes plan file []) (P.run_for_nothing plan list buffer positions b r n k f (omega (arith, h))).same_bytes ∙ (P.cut_for_nothing plan buffer b r h).accepted;
     no_endless = λ plan Q b e none. (
-      λ r. none-endless (net_of plan) (raising (net_of plan)) r (P.published plan Q b e none).safety-ends,
-      λ r. none-endless (net_of plan) (changing (net_of plan)) r (P.published plan Q b e none).ctl_ends,
+      λ r. none_endless (net_of plan) (raising (net_of plan)) r (P.published plan Q b e none).safety_ends,
+      λ r. none_endless (net_of plan) (changing (net_of plan)) r (P.published plan Q b e none).ctl_ends,
     );
-    no_caps = λ plan Q b e h. (uncapped-1 (safety_file plan Q) ((P.reads-back plan Q b e).safety-edition ∙ h), uncapped-1 (branching_file plan Q) ((P.reads-back plan Q b e).branching-edition ∙ h));
+    no_caps = λ plan Q b e h. (uncapped_1 (safety_file plan Q) ((P.reads_back plan Q b e).safety_edition ∙ h), uncapped_1 (branching_file plan Q) ((P.reads_back plan Q b e).branching_edition ∙ h));
     read_at = λ plan slice of_slice t p s k.
         ap (λ (l : List ℕ). arcs_from l 0 (length (arcs_of t (net_of (named of_slice plan slice)).arcs))) (P.parts plan slice of_slice t).part ∙ (P.runs plan slice of_slice t p s k).arcs;
-    one-record = λ s s' b b' i j h h'. (
+    one_record = λ s s' b b' i j h h'. (
       λ e. ext_get_or 0 (take 8 (drop i s)) (take 8 (drop j s')) (eight s i h ∙ sym (eight s' j h')) (λ k l.
           let k8 : k < 8 = omega (arith, eight s i h) in byte_of s i k k8 ∙ (P.one_word s s' b b' i j).equal.0 e k k8 ∙ sym (byte_of s' j k k8)),
       λ e. (P.one_word s s' b b' i j).equal.1 (λ k l. sym (byte_of s i k l) ∙ ap (λ (x : List ℕ). get_or x k 0) e ∙ byte_of s' j k l),

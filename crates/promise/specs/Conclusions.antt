@@ -22,10 +22,10 @@ pub record Tells (plan slice Q : List ℕ) : Type 0 where
 
 -- the slice keeps a place, or a transition, exactly if every run of the listing returns it, and exactly if some run does
 pub record AsListed (S : Slice) (Run : Set → Set → Type 0) : Type 0 where
-  pub places-every : (p : ℕ) → HasPlace S p ↔ ((P' T' : Set) → Run P' T' → T (P' p))
-  pub places-some : (p : ℕ) → HasPlace S p ↔ ((P' : Set) × (T' : Set) × Run P' T' × T (P' p))
-  pub transitions-every : (t : ℕ) → HasTransition S t ↔ ((P' T' : Set) → Run P' T' → T (T' t))
-  pub transitions-some : (t : ℕ) → HasTransition S t ↔ ((P' : Set) × (T' : Set) × Run P' T' × T (T' t))
+  pub places_every : (p : ℕ) → HasPlace S p ↔ ((P' T' : Set) → Run P' T' → T (P' p))
+  pub places_some : (p : ℕ) → HasPlace S p ↔ ((P' : Set) × (T' : Set) × Run P' T' × T (P' p))
+  pub transitions_every : (t : ℕ) → HasTransition S t ↔ ((P' T' : Set) → Run P' T' → T (T' t))
+  pub transitions_some : (t : ℕ) → HasTransition S t ↔ ((P' : Set) × (T' : Set) × Run P' T' × T (T' t))
 
 -- both cuts for no place, with 16 bytes lent: what they wrote
 pub record CutForNothing (plan buffer : List ℕ) : Type 0 where

@@ -89,7 +89,7 @@ pub record WritesNormal (plan : List ℕ) (a : FileAnswer) (exit : List ℕ) : T
 -- what people conclude of two plans and the normal forms of both
 pub record OnePlan (plan plan' file file' : List ℕ) : Type 0 where
   -- a plan has one normal form: 8 bytes a place, 8 bytes a joined arc, and the trailer
-  pub one-file : plan ≡ plan' → file ≡ file'
+  pub one_file : plan ≡ plan' → file ≡ file'
   pub size : length file ≡ 8 * (net_of plan).places + 8 * length (joined (net_of plan).arcs) + 16
   -- "it is still one plan": with equal normal forms the nets are the same, every list fares alike, and is replayed alike
   pub same : file ≡ file' → SameNet (net_of plan) (net_of plan')

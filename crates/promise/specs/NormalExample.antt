@@ -36,7 +36,7 @@ pub record NormalRows : Type 0 where
   pub one_more : normal_refusal (two_arcs 255 255 1 0) ≡ 25
   -- the file first, then 25 "before the buffer", then 13
   pub a_slice : normal_answer (safety_file small_plan (2 ∷ [])) 128 ≡ record { refused = true; refusal = 3; length = 0 }
-  pub slice-above : normal_refusal (set (two_arcs 64 156 64 156) 30 1) ≡ 3
+  pub slice_above : normal_refusal (set (two_arcs 64 156 64 156) 30 1) ≡ 3
   pub no_room_above : normal_answer (two_arcs 64 156 64 156) 0 ≡ record { refused = true; refusal = 25; length = 0 }
   pub little_room : normal_answer small_plan 127 ≡ record { refused = true; refusal = 13; length = 0 }
   pub kept : normal_buffer small_plan (9 ∷ 8 ∷ []) ≡ 9 ∷ 8 ∷ []

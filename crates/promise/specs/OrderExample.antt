@@ -10,42 +10,42 @@ use Rattle.promise.specs.Together.{together_answer}
 use Rattle.promise.specs.RunCut.{run_refusal, run_answer}
 use Rattle.promise.specs.Example.{small_plan, one_place_cut}
 
--- "Within one place of checking the lower number comes first": the trailer, the arcs, the origins. 1 before 2: `too_short`; 4 before 5: `many-places`; 5 before 16 before 6: `after-5`, `before-6`
+-- "Within one place of checking the lower number comes first": the trailer, the arcs, the origins. 1 before 2: `too_short`; 4 before 5: `many-places`; 5 before 16 before 6: `after_5`, `before_6`
 pub record FileOrder : Type 0 where
   -- edition 3 and kind 2; a plan of 1,025 places where a slice is asked for
   pub letters_before_kind : file_refusal due.Plan (set (set small_plan 102 2) 103 3) ≡ 2
-  pub kind-before_counts : file_refusal due.Slice (set (set small_plan 96 1) 97 4) ≡ 3
+  pub kind_before_counts : file_refusal due.Slice (set (set small_plan 96 1) 97 4) ≡ 3
   -- "Arcs are checked one by one, 6 before 7": the second arc has weight 0 and is below the first; the second is below the first and the third has weight 0
-  pub range-before_order : file_refusal due.Plan (set (set small_plan 24 2) 34 0) ≡ 6
-  pub arc-by_arc : file_refusal due.Plan (set (set small_plan 24 2) 42 0) ≡ 7
+  pub range_before_order : file_refusal due.Plan (set (set small_plan 24 2) 34 0) ≡ 6
+  pub arc_by_arc : file_refusal due.Plan (set (set small_plan 24 2) 42 0) ≡ 7
   -- the second arc is below the first, and the place origins are 0, 0, 2
-  pub arcs-before_origins : file_refusal due.Slice (set (set (safety_file small_plan (2 ∷ [])) 16 2) 54 0) ≡ 7
+  pub arcs_before_origins : file_refusal due.Slice (set (set (safety_file small_plan (2 ∷ [])) 16 2) 54 0) ≡ 7
 
 -- "Files come first (plan before slice), then Q, list, buffer"
 pub record CallOrder : Type 0 where
   -- effect: the file, 10, 12 (`no_place`)
-  pub effect-file : (effect_answer [] 9 9).refusal ≡ 1
+  pub effect_file : (effect_answer [] 9 9).refusal ≡ 1
   -- replay: the file, the list, 13
-  pub replay-file : (replay_answer [] (0 ∷ []) 0).refusal ≡ 1
-  pub replay-list : (replay_answer small_plan (4 ∷ []) 0).refusal ≡ 12
+  pub replay_file : (replay_answer [] (0 ∷ []) 0).refusal ≡ 1
+  pub replay_list : (replay_answer small_plan (4 ∷ []) 0).refusal ≡ 12
   -- shadow: a slice as plan and no bytes as slice; slice before list and list before buffers: `no-slice`, `unknown`
-  pub shadow-plan : (shadow_answer one_place_cut [] (4 ∷ []) 0 0).run.refusal ≡ 3
-  pub shadow-slice : (shadow_answer small_plan [] (4 ∷ []) 0 0).run.refusal ≡ 1
+  pub shadow_plan : (shadow_answer one_place_cut [] (4 ∷ []) 0 0).run.refusal ≡ 3
+  pub shadow_slice : (shadow_answer small_plan [] (4 ∷ []) 0 0).run.refusal ≡ 1
   -- together: the plan, 12, 15, 13: `no-plan`, `no-transition`, `four-entries`
-  pub together-plan : (together_answer [] 9 [] 0).refusal ≡ 1
+  pub together_plan : (together_answer [] 9 [] 0).refusal ≡ 1
   -- the cuts: the plan, 10, 13
-  pub safety-plan : (safety_answer [] (9 ∷ []) 0).refusal ≡ 1
-  pub safety-criterion : (safety_answer small_plan (9 ∷ []) 0).refusal ≡ 10
-  pub branching-plan : (branching_answer [] (9 ∷ []) 0).refusal ≡ 1
-  pub branching-criterion : (branching_answer small_plan (9 ∷ []) 0).refusal ≡ 10
-  -- the run cut: the plan, 17, 10, the list, 14, 13: `over-run`, `capped-run`, `criterion-first`, `unknown-first`, `sticks`
-  pub run-plan : (run_answer [] (9 ∷ []) (0 ∷ []) 0 0).refusal ≡ 1
+  pub safety_plan : (safety_answer [] (9 ∷ []) 0).refusal ≡ 1
+  pub safety_criterion : (safety_answer small_plan (9 ∷ []) 0).refusal ≡ 10
+  pub branching_plan : (branching_answer [] (9 ∷ []) 0).refusal ≡ 1
+  pub branching_criterion : (branching_answer small_plan (9 ∷ []) 0).refusal ≡ 10
+  -- the run cut: the plan, 17, 10, the list, 14, 13: `over_run`, `capped_run`, `criterion_first`, `unknown_first`, `sticks`
+  pub run_plan : (run_answer [] (9 ∷ []) (0 ∷ []) 0 0).refusal ≡ 1
   -- the check: a slice as plan and no bytes as slice; no bytes as slice and place 9
-  pub check-plan : (checked one_place_cut [] (9 ∷ [])).code ≡ 3
-  pub check-slice : (checked small_plan [] (9 ∷ [])).code ≡ 1
+  pub check_plan : (checked one_place_cut [] (9 ∷ [])).code ≡ 3
+  pub check_slice : (checked small_plan [] (9 ∷ [])).code ≡ 1
   -- of bytes: one odd byte; three bytes, of which the first two are place 9
-  pub bytes-plan : checked_bytes one_place_cut [] (0 ∷ []) ≡ 3
-  pub bytes-slice : checked_bytes small_plan [] (0 ∷ []) ≡ 1
+  pub bytes_plan : checked_bytes one_place_cut [] (0 ∷ []) ≡ 3
+  pub bytes_slice : checked_bytes small_plan [] (0 ∷ []) ≡ 1
   pub odd_before_place : checked_bytes small_plan one_place_cut (9 ∷ 0 ∷ 9 ∷ []) ≡ 9
 
 -- 11 before 12 and before 13: a list above 65,535 entries, whatever its entries are and whatever is lent, once the files, and for the run cut Q, are not refused
@@ -58,4 +58,4 @@ pub record LongList (list : List ℕ) : Type 0 where
 pub record RefusalOrder : Type 0 where
   pub files : FileOrder
   pub calls : CallOrder
-  pub long-list : (list : List ℕ) → 65535 < length list → LongList list
+  pub long_list : (list : List ℕ) → 65535 < length list → LongList list

@@ -53,27 +53,27 @@ pub record TellsRange (plan list upper : List ℕ) (a : RangeAnswer) (exit : Lis
   -- "the list fires from a marking exactly when that covers the need"
   pub needed : a.refused ≡ false → Needs (net_of plan) list (standing exit)
   -- "whether a list fires from every marking in the range"
-  pub from-every : a.refused ≡ false → (a.every ≡ true) ↔ FromEvery (net_of plan) (standing upper) list
+  pub from_every : a.refused ≡ false → (a.every ≡ true) ↔ FromEvery (net_of plan) (standing upper) list
   -- "from some but not all"
   pub from_some : a.refused ≡ false → (a.partly ≡ true) ↔ FromSome (net_of plan) (standing upper) list
   -- "or from none"
-  pub from-none : a.refused ≡ false → (a.never ≡ true) ↔ FromNone (net_of plan) (standing upper) list
+  pub from_none : a.refused ≡ false → (a.never ≡ true) ↔ FromNone (net_of plan) (standing upper) list
 
 -- no other answer can be given: two that are not refusals agree, and tell the same need
 pub record SameRange (plan : List ℕ) (a b : RangeAnswer) (exit exit' : List ℕ) : Type 0 where
-  pub same-every : a.every ≡ b.every
-  pub same-partly : a.partly ≡ b.partly
-  pub same-never : a.never ≡ b.never
-  pub same-need : (p : ℕ) → p < (net_of plan).places → standing exit p ≡ standing exit' p
+  pub same_every : a.every ≡ b.every
+  pub same_partly : a.partly ≡ b.partly
+  pub same_never : a.never ≡ b.never
+  pub same_need : (p : ℕ) → p < (net_of plan).places → standing exit p ≡ standing exit' p
 
 -- "one 64-bit entry a place" is enough: a plan and a list, neither of them refused, need fewer tokens than 2 to the power 44 on each place
 pub record NeedFits (plan list : List ℕ) : Type 0 where
-  pub need-low : (p : ℕ) → need (net_of plan) list p < 2 ^ 44
+  pub need_low : (p : ℕ) → need (net_of plan) list p < 2 ^ 44
 
 -- what people conclude: asked again with other entries lent, the call gives the same answer, and the same markings cover what it writes
 pub record AskedAgain (plan list upper lent lent' : List ℕ) : Type 0 where
   pub same_answer : range_answer plan list upper (length lent) ≡ range_answer plan list upper (length lent')
-  pub same-covers : (M : Marking) → Covers (net_of plan) M (standing (range_need plan list upper lent)) ↔ Covers (net_of plan) M (standing (range_need plan list upper lent'))
+  pub same_covers : (M : Marking) → Covers (net_of plan) M (standing (range_need plan list upper lent)) ↔ Covers (net_of plan) M (standing (range_need plan list upper lent'))
 
 -- and a list fired from just what it needs "stays below 2 to the power 45", as document 01 says of a replayed marking
 pub record FromTheNeed (plan list : List ℕ) : Type 0 where

@@ -24,11 +24,11 @@ pub record RangeRows : Type 0 where
   pub third : Ranged small_plan (0 ∷ 1 ∷ 0 ∷ 1 ∷ 0 ∷ []) (3 ∷ 1 ∷ 0 ∷ 0 ∷ 0 ∷ []) false true false (3 ∷ 1 ∷ 0 ∷ 0 ∷ 0 ∷ 7 ∷ [])
   -- "or from none": two tokens on place 3, of at most one; and where the range is the plan's marking alone
   pub two_wanted : Ranged small_plan (2 ∷ []) (2 ∷ 1 ∷ 0 ∷ 1 ∷ 0 ∷ []) false false true (0 ∷ 0 ∷ 0 ∷ 2 ∷ 0 ∷ 7 ∷ [])
-  pub one-marking : Ranged small_plan (0 ∷ 0 ∷ []) (2 ∷ 1 ∷ 0 ∷ 0 ∷ 0 ∷ []) false false true (2 ∷ 2 ∷ 0 ∷ 0 ∷ 0 ∷ 7 ∷ [])
+  pub one_marking : Ranged small_plan (0 ∷ 0 ∷ []) (2 ∷ 1 ∷ 0 ∷ 0 ∷ 0 ∷ []) false false true (2 ∷ 2 ∷ 0 ∷ 0 ∷ 0 ∷ 7 ∷ [])
   -- what a firing gives is there for later ones: transition 1 gives one token of the two that transition 2 takes of place 3
-  pub given-first : Ranged small_plan (1 ∷ 2 ∷ 0 ∷ []) (2 ∷ 1 ∷ 1 ∷ 1 ∷ 0 ∷ []) false true false (1 ∷ 0 ∷ 1 ∷ 1 ∷ 0 ∷ 7 ∷ [])
+  pub given_first : Ranged small_plan (1 ∷ 2 ∷ 0 ∷ []) (2 ∷ 1 ∷ 1 ∷ 1 ∷ 0 ∷ []) false true false (1 ∷ 0 ∷ 1 ∷ 1 ∷ 0 ∷ 7 ∷ [])
   -- and for no earlier one: transition 1 gives a token of place 1, after transition 0 took one
-  pub given-later : Ranged small_plan (0 ∷ 1 ∷ []) (2 ∷ 1 ∷ 0 ∷ 0 ∷ 0 ∷ []) true false false (1 ∷ 1 ∷ 0 ∷ 0 ∷ 0 ∷ 7 ∷ [])
+  pub given_later : Ranged small_plan (0 ∷ 1 ∷ []) (2 ∷ 1 ∷ 0 ∷ 0 ∷ 0 ∷ []) true false false (1 ∷ 1 ∷ 0 ∷ 0 ∷ 0 ∷ 7 ∷ [])
   -- nor for itself: here transition 0 takes a token of place 1 and gives it back
   pub given_back : Ranged (set small_plan 40 1) (0 ∷ 0 ∷ []) (2 ∷ 1 ∷ 0 ∷ 0 ∷ 0 ∷ []) true false false (2 ∷ 1 ∷ 0 ∷ 0 ∷ 0 ∷ 7 ∷ [])
   -- "in and out are sums": two arcs take two tokens of place 3
@@ -48,6 +48,6 @@ pub record RangeRows : Type 0 where
   -- 21, "not P long", "or has an entry below the plan's", "after the list"
   pub four_entries : (lent : List ℕ) → Refuses small_plan (0 ∷ []) (2 ∷ 1 ∷ 0 ∷ 0 ∷ []) lent 21
   pub six_entries : (lent : List ℕ) → Refuses small_plan (0 ∷ []) (2 ∷ 1 ∷ 0 ∷ 0 ∷ 0 ∷ 0 ∷ []) lent 21
-  pub below-the_plan : (lent : List ℕ) → Refuses small_plan (0 ∷ []) (2 ∷ 0 ∷ 5 ∷ 5 ∷ 5 ∷ []) lent 21
+  pub below_the_plan : (lent : List ℕ) → Refuses small_plan (0 ∷ []) (2 ∷ 0 ∷ 5 ∷ 5 ∷ 5 ∷ []) lent 21
   -- 13
   pub little_room : Refuses small_plan (0 ∷ []) (2 ∷ 1 ∷ 0 ∷ 0 ∷ 0 ∷ []) (9 ∷ 9 ∷ 9 ∷ 9 ∷ []) 13

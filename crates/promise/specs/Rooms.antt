@@ -13,4 +13,4 @@ pub record RoomSuffices (file : List ℕ) : Type 0 where
   pub together : (t : ℕ) (marking : List ℕ) (room : ℕ) → 1024 ≤ room → (together_answer file t marking room).refusal ≢ 13
   pub safety : (Q : List ℕ) (room : ℕ) → 45072 ≤ room → (safety_answer file Q room).refusal ≢ 13
   pub branching : (Q : List ℕ) (room : ℕ) → 45072 ≤ room → (branching_answer file Q room).refusal ≢ 13
-  pub run-cut : (Q list : List ℕ) (room entries : ℕ) → 45072 ≤ room → 65535 ≤ entries → (run_answer file Q list room entries).refusal ≢ 13
+  pub run_cut_row : (Q list : List ℕ) (room entries : ℕ) → 45072 ≤ room → 65535 ≤ entries → (run_answer file Q list room entries).refusal ≢ 13

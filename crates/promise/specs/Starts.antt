@@ -120,9 +120,9 @@ pub record OwnStart (file : List ℕ) : Type 0 where
   pub replay : (list : List ℕ) (room : ℕ) → replay_from_answer file (own_start file) list room ≡ replay_answer file list room
   pub marking : (list marking : List ℕ) → replay_from_marking file (own_start file) list marking ≡ replay_marking file list marking
   pub safety : (Q : List ℕ) (room : ℕ) → safety_from_answer file (own_start file) Q room ≡ safety_answer file Q room
-  pub safety-buffer : (Q buffer : List ℕ) → safety_from_buffer file (own_start file) Q buffer ≡ safety_buffer file Q buffer
+  pub safety_buffer_row : (Q buffer : List ℕ) → safety_from_buffer file (own_start file) Q buffer ≡ safety_buffer file Q buffer
   pub branching : (Q : List ℕ) (room : ℕ) → branching_from_answer file (own_start file) Q room ≡ branching_answer file Q room
-  pub branching-buffer : (Q buffer : List ℕ) → branching_from_buffer file (own_start file) Q buffer ≡ branching_buffer file Q buffer
+  pub branching_buffer_row : (Q buffer : List ℕ) → branching_from_buffer file (own_start file) Q buffer ≡ branching_buffer file Q buffer
   pub check : (slice Q : List ℕ) → checked_from file slice (own_start file) Q ≡ checked file slice Q
 
 -- the check from a start and the ten rules: rule 3 compares with the start
@@ -139,9 +139,9 @@ our_branching_from plan start Q buffer = take (branching_from_answer plan start 
 
 -- "A written slice file reads back as the net that was written": what the cuts from a start wrote, where they are not refused
 pub record ReadsBackFrom (plan start Q buffer : List ℕ) : Type 0 where
-  pub safety-read : (safety_from_answer plan start Q (length buffer)).refusal ≡ 0 → file_refusal due.Slice (our_cut_from plan start Q buffer) ≡ 0
-  pub safety-same : (safety_from_answer plan start Q (length buffer)).refusal ≡ 0 → slice_of (our_cut_from plan start Q buffer) ≡ cut (net_at plan start) (safety (net_at plan start) Q)
-  pub safety-edition : (safety_from_answer plan start Q (length buffer)).refusal ≡ 0 → (header_of (our_cut_from plan start Q buffer)).edition ≡ (header_of plan).edition
-  pub branching-read : (branching_from_answer plan start Q (length buffer)).refusal ≡ 0 → file_refusal due.Slice (our_branching_from plan start Q buffer) ≡ 0
-  pub branching-same : (branching_from_answer plan start Q (length buffer)).refusal ≡ 0 → slice_of (our_branching_from plan start Q buffer) ≡ cut (net_at plan start) (branching (net_at plan start) Q)
-  pub branching-edition : (branching_from_answer plan start Q (length buffer)).refusal ≡ 0 → (header_of (our_branching_from plan start Q buffer)).edition ≡ (header_of plan).edition
+  pub safety_read : (safety_from_answer plan start Q (length buffer)).refusal ≡ 0 → file_refusal due.Slice (our_cut_from plan start Q buffer) ≡ 0
+  pub safety_same : (safety_from_answer plan start Q (length buffer)).refusal ≡ 0 → slice_of (our_cut_from plan start Q buffer) ≡ cut (net_at plan start) (safety (net_at plan start) Q)
+  pub safety_edition : (safety_from_answer plan start Q (length buffer)).refusal ≡ 0 → (header_of (our_cut_from plan start Q buffer)).edition ≡ (header_of plan).edition
+  pub branching_read : (branching_from_answer plan start Q (length buffer)).refusal ≡ 0 → file_refusal due.Slice (our_branching_from plan start Q buffer) ≡ 0
+  pub branching_same : (branching_from_answer plan start Q (length buffer)).refusal ≡ 0 → slice_of (our_branching_from plan start Q buffer) ≡ cut (net_at plan start) (branching (net_at plan start) Q)
+  pub branching_edition : (branching_from_answer plan start Q (length buffer)).refusal ≡ 0 → (header_of (our_branching_from plan start Q buffer)).edition ≡ (header_of plan).edition

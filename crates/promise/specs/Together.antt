@@ -56,6 +56,6 @@ pub record TakesLargest (plan : List ℕ) (t : ℕ) (marking : List ℕ) (a : To
 
 -- no other answer can be given: two that are not refusals agree, and leave the same
 pub record SameTakings (plan : List ℕ) (a b : TogetherAnswer) (exit exit' : List ℕ) : Type 0 where
-  pub same-unlimited : a.unlimited ≡ b.unlimited
-  pub same-times : a.unlimited ≡ false → a.times ≡ b.times
+  pub same_unlimited : a.unlimited ≡ b.unlimited
+  pub same_times : a.unlimited ≡ false → a.times ≡ b.times
   pub same_rest : (p : ℕ) → p < (net_of plan).places → standing exit p ≡ standing exit' p

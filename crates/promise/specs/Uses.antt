@@ -51,7 +51,7 @@ pub record Endless (N : Net) (W : ℕ → Set) (P' T' done : Set) : Type 0 where
       → (p : ℕ) × T (less (places i) (gone i) p) × Inner N (W p) (places i) (transitions i) (places (suc i)) (transitions (suc i)) × (gone (suc i) ≡ adding (gone i) p)
 
 pub record Uses : Type 0 where
-  pub leads-on : (file list lent : List ℕ) → replay_refusal file list (length lent) ≡ 0 → LeadsOn file list lent
+  pub leads_on : (file list lent : List ℕ) → replay_refusal file list (length lent) ≡ 0 → LeadsOn file list lent
   -- a cut, then the check of what it wrote, or of any other slice
   pub counted : (plan Q : List ℕ) (a : CutAnswer) (exit : List ℕ) → WritesSmallest (λ S. Accepts plan S Q) a exit → a.refusal ≡ 0 → NoneSmaller (λ S. Accepts plan S Q) a (take a.length exit)
   -- from the two C calls alone: Q as bytes
@@ -64,16 +64,16 @@ pub record Uses : Type 0 where
   pub followed : (plan slice shadow marking lent Q : List ℕ) → FollowedIn plan slice shadow marking → Accepts plan slice Q → length shadow ≤ 65535
       → (net_of slice).places ≤ length lent → EqualOn slice shadow lent Q (standing marking)
   -- the run cut, then a replay of the chosen firings on the slice that it wrote
-  pub fed-on : (plan Q list file positions lent : List ℕ) → Feeds plan Q list file positions → length list ≤ 65535
+  pub fed_on : (plan Q list file positions lent : List ℕ) → Feeds plan Q list file positions → length list ≤ 65535
       → (net_of file).places ≤ length lent → EnoughOn file (own (slice_of file).transition_origins (fired_at list positions)) lent Q (plan_tokens (net_of plan) list)
   -- 14, and a replay of the same list on the plan: index, place and shortage are the same
-  pub stuck-alike : (plan Q list : List ℕ) (a : RunAnswer) (exit positions : List ℕ) (room : ℕ) → RunsBack plan Q list a exit positions → a.refusal ≡ 14 → replay_refusal plan list room ≡ 0
+  pub stuck_alike : (plan Q list : List ℕ) (a : RunAnswer) (exit positions : List ℕ) (room : ℕ) → RunsBack plan Q list a exit positions → a.refusal ≡ 14 → replay_refusal plan list room ≡ 0
       → replay_answer plan list room ≡ record { refused = false; refusal = 0; stuck = true; full = false; index = a.index; place = a.place; amount = a.amount }
   -- what is left of a marking, taken from once more: 0
-  pub taken-again : (plan : List ℕ) (t : ℕ) (marking : List ℕ) (a b : TogetherAnswer) (exit again : List ℕ) → TakesLargest plan t marking a exit → a.refused ≡ false → a.unlimited ≡ false
+  pub taken_again : (plan : List ℕ) (t : ℕ) (marking : List ℕ) (a b : TogetherAnswer) (exit again : List ℕ) → TakesLargest plan t marking a exit → a.refused ≡ false → a.unlimited ≡ false
       → (net_of plan).places ≤ length marking → TakesLargest plan t (take (length marking) exit) b again → b.refused ≡ false → (b.unlimited ≡ false) × (b.times ≡ 0)
   -- the run cut for no place wrote a slice that the C check accepts for no bytes
-  pub nothing-fed : (plan list buffer positions : List ℕ) → Bytes plan → file_refusal due.Plan plan ≡ 0 → has_caps (net_of plan) ≡ false → list_refusal (net_of plan).transitions list ≡ 0
+  pub nothing_fed : (plan list buffer positions : List ℕ) → Bytes plan → file_refusal due.Plan plan ≡ 0 → has_caps (net_of plan) ≡ false → list_refusal (net_of plan).transitions list ≡ 0
       → PlanFires (net_of plan) list → length buffer ≡ 16 → checked_bytes plan (run_buffer plan [] list buffer (length positions)) [] ≡ 0
   -- neither of Rakow's listings has a run that never ends
   pub no_endless : (plan Q : List ℕ) → Bytes plan → cut_refusal plan Q ≡ 0 → Uncapped (net_of plan)
@@ -86,4 +86,4 @@ pub record Uses : Type 0 where
       → let arcs = arcs_of t (net_of (named of_slice plan slice)).arcs in
       arcs_from (take (length (arc_run plan slice of_slice t)) (drop (arc_start plan slice of_slice t) (named of_slice plan slice))) 0 (length arcs) ≡ arcs
   -- two records of 8 bytes are the same bytes exactly if they are the same word
-  pub one-record : (s s' : List ℕ) → Bytes s → Bytes s' → (i j : ℕ) → i + 8 ≤ length s → j + 8 ≤ length s' → (le64 s i ≡ le64 s' j) ↔ (take 8 (drop i s) ≡ take 8 (drop j s'))
+  pub one_record : (s s' : List ℕ) → Bytes s → Bytes s' → (i j : ℕ) → i + 8 ≤ length s → j + 8 ≤ length s' → (le64 s i ≡ le64 s' j) ↔ (take 8 (drop i s) ≡ take 8 (drop j s'))

@@ -11,14 +11,14 @@ use Rattle.net.specs.declared.Arc.{Arc}
 use Rattle.net.specs.Net.{Net, Marking, input, tokens}
 use Rattle.net.specs.Range.{need, covers, every, partly, never, extent}
 use Rattle.net.proofs.Markings.{tokens-are}
-use Rattle.net.proofs.Range.{need-low}
+use Rattle.net.proofs.Range.{need_low}
 use Rattle.file_arcs.specs.Layout.{arc_at}
-use Rattle.file_arcs.proofs.Rows.{weight-le}
+use Rattle.file_arcs.proofs.Rows.{weight_le}
 use Rattle.file.specs.Layout.{net_from}
 use Rattle.file_header.specs.declared.Header.{Header}
 use Rattle.arcs_column.specs.Gain.{part, sum_to, Gives}
-use Rattle.arcs_column.proofs.Arcs.{none-past}
-use Rattle.arcs_column.proofs.Sums.{sum-next, sum_more, part-here, part-other}
+use Rattle.arcs_column.proofs.Arcs.{none_past}
+use Rattle.arcs_column.proofs.Sums.{sum_next, sum_more, part-here, part-other}
 use Rattle.replay_steps.specs.Steps.{held, Ready, Holds}
 use Rattle.replay_firing.proofs.Firing.{Runs}
 use Rattle.range.specs.Need.{Credits, wanted, Known, extent_for}
@@ -35,8 +35,8 @@ pub credits_more : {s : List ℕ} {start from j : ℕ} {was is : List ℕ} → C
     → {v : ℕ} → v ≡ get_or is a.place 0 - a.weight → Credits s start from (j + 1) was (set is a.place v)
 credits_more {s} {start} {from} {j} {was} {is} x begun a e inside {v} w = record { long = length-set is a.place _ ∙ x.long; at = λ p. go p (ℕ_discrete p a.place) }
   where
-    same-part : (p : ℕ) → part p (arc_at s (start + 8 * j)) ≡ part p a
-    same-part p = ap (part p) (sym e)
+    same_part : (p : ℕ) → part p (arc_at s (start + 8 * j)) ≡ part p a
+    same_part p = ap (part p) (sym e)
 
     go : (p : ℕ) → Dec (p ≡ a.place) → get_or (set is a.place v) p 0 ≡ get_or was p 0 - (sum_to s start p (j + 1) - sum_to s start p from)
     go p (yes q) =
@@ -46,13 +46,13 @@ credits_more {s} {start} {from} {j} {was} {is} x begun a e inside {v} w = record
           get_or-set_same is a.place v 0 (omega (arith, x.long)),
           w,
           x.at a.place,
-          sum-next s start a.place j,
+          sum_next s start a.place j,
           sum_more s start a.place from j begun,
-          same-part a.place,
+          same_part a.place,
           part-here a a.place refl,
         ))
     go p (no q) =
-        omega (arith, get_or-set_other is a.place p v 0 q, x.at p, sum-next s start p j, same-part p, part-other a p (λ r. q (sym r)))
+        omega (arith, get_or-set_other is a.place p v 0 q, x.at p, sum_next s start p j, same_part p, part-other a p (λ r. q (sym r)))
 
 -- ---- one firing
 
@@ -63,7 +63,7 @@ module _ {s : List ℕ} {h : Header} {table m : List ℕ} (r : Ready s h table m
   -- past the places there are no arcs
   wanted-off : (t p : ℕ) → h.places ≤ p → wanted N t (held m) p ≡ 0
   unfolding input
-  wanted-off t p l = omega (arith, get_or-eq_default m 0 {n = p} (omega (arith, r.places)), none-past s h r.sound 0 p t l)
+  wanted-off t p l = omega (arith, get_or-eq_default m 0 {n = p} (omega (arith, r.places)), none_past s h r.sound 0 p t l)
 
   -- the outputs are taken off, then the inputs are added
   pub turned_back_lem : {t from middle to : ℕ} {m₁ m₂ : List ℕ} → Runs s h t from middle to → Credits s h.arcstart middle to m m₁ → Gives s h.arcstart from middle m₁ m₂
@@ -75,13 +75,13 @@ module _ {s : List ℕ} {h : Header} {table m : List ℕ} (r : Ready s h table m
       go p (no l) = get_or-eq_default m₂ 0 {n = p} (omega (arith, l, z.long, y.long, r.places)) ∙ sym (wanted-off t p (omega (arith, l)))
 
   -- the entries stay small
-  taken-low : (p t : ℕ) → input N p t ≤ 268431360
+  taken_low : (p t : ℕ) → input N p t ≤ 268431360
   unfolding input
-  taken-low p t = omega (arith, r.sound.placed.arcs, weight-le 0 p t s r.bytes h.arcstart h.arcs)
+  taken_low p t = omega (arith, r.sound.placed.arcs, weight_le 0 p t s r.bytes h.arcstart h.arcs)
 
   module _ (list : List ℕ) (known : Known h list) where
     pub low : (k : ℕ) (m' : List ℕ) → ((p : ℕ) → get_or m' p 0 ≡ need N (drop k list) p) → (p : ℕ) → get_or m' p 0 < 2 ^ 62
-    low k m' at p = omega (arith, at p, need-low N 268431360 taken-low (drop k list) p, length-drop k list, known.short)
+    low k m' at p = omega (arith, at p, need_low N 268431360 taken_low (drop k list) p, length-drop k list, known.short)
 
 -- ---- the list
 
@@ -119,9 +119,9 @@ module _ (N : Net) (upper M : Marking) where
   for_never e f = rw (e, f, extent_for)
 
 module _ (N : Net) (list : List ℕ) {was is : List ℕ} (f : Holds was is (need N list)) where
-  pub is-extent : (upper : Marking) → extent_for N upper (held is) ≡ extent N upper list
+  pub is_extent : (upper : Marking) → extent_for N upper (held is) ≡ extent N upper list
   unfolding extent extent_for
-  is-extent upper = ap (extent_for N upper) (fun_ext f.at)
+  is_extent upper = ap (extent_for N upper) (fun_ext f.at)
 
-  pub is-need : length was ≡ N.places → is ≡ tokens N (need N list)
-  is-need long = tokens-are N (need N list) is (f.long ∙ long) (λ p l. f.at p)
+  pub is_need : length was ≡ N.places → is ≡ tokens N (need N list)
+  is_need long = tokens-are N (need N list) is (f.long ∙ long) (λ p l. f.at p)

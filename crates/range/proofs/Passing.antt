@@ -54,8 +54,8 @@ module _ (s : List ℕ) (h : Header) (list upper : List ℕ) (room : ℕ) {n : �
       let c = refuse-0 (upper_wrong (net_from s h) upper) 20 _ b.1 in
       (b.0, c.0, (refuse-0 (ltb room h.places) 12 0 c.1).0)
 
-  pub list-passes : list_refusal h.transitions list ≡ 0
-  list-passes = tests.0
+  pub list_passes : list_refusal h.transitions list ≡ 0
+  list_passes = tests.0
 
   pub as_many : length upper ≡ h.places
   unfolding upper_wrong
@@ -63,12 +63,12 @@ module _ (s : List ℕ) (h : Header) (list upper : List ℕ) (room : ℕ) {n : �
       eqb-true (length upper) h.places
       (not-false _ (or-false (not (eqb (length upper) h.places)) (not (covers (net_from s h) (standing upper) (net_from s h).marking)) tests.1).0)
 
-  pub room-enough : h.places ≤ room
-  room-enough = ltb-false room h.places tests.2
+  pub room_enough : h.places ≤ room
+  room_enough = ltb-false room h.places tests.2
 
 -- the firings of a list that is not refused
-pub known-list : (h : Header) (list : List ℕ) → list_refusal h.transitions list ≡ 0 → Known h list
-known-list h list e = record { short = listed.list-short h.transitions list e; known = listed.list-known h.transitions list e }
+pub known_list : (h : Header) (list : List ℕ) → list_refusal h.transitions list ≡ 0 → Known h list
+known_list h list e = record { short = listed.list-short h.transitions list e; known = listed.list-known h.transitions list e }
 
 -- "A refusal returns its number with zeros elsewhere"
 pub told-refused : (m : ℕ) {n : ℕ} (x : Extent) → n ≡ m → (n ≡ 0 → ⊥) → record { refused = true; refusal = n; every = false; partly = false; never = false } ≡ range_or m x

@@ -16,11 +16,11 @@ module _ (h : Header) (list : List ℕ) (room : ℕ) {n : ℕ} (e : n ≡ held_b
   parts : (list_refusal h.transitions list ≡ 0) × (refuse (ltb room h.places) 13 0 ≡ 0)
   parts = or_else_0 (list_refusal h.transitions list) (refuse (ltb room h.places) 13 0) (sym e ∙ z)
 
-  pub list-passes : list_refusal h.transitions list ≡ 0
-  list-passes = parts.0
+  pub list_passes : list_refusal h.transitions list ≡ 0
+  list_passes = parts.0
 
-  pub room-enough : h.places ≤ room
-  room-enough = ltb-false room h.places (refuse-0 (ltb room h.places) 12 0 parts.1).0
+  pub room_enough : h.places ≤ room
+  room_enough = ltb-false room h.places (refuse-0 (ltb room h.places) 12 0 parts.1).0
 
 -- "A refusal returns its number with zeros elsewhere; lent buffers keep every byte"
 pub told-refused : (m : ℕ) {n : ℕ} (a : Answer) → n ≡ m → (n ≡ 0 → ⊥) → record { refused = true; refusal = n; stuck = false; full = false; index = 0; place = 0; amount = 0 } ≡ replay_or m a

@@ -16,10 +16,10 @@ use Rattle.file_header.specs.Layout.{pick, places_length}
 use Rattle.file.specs.Layout.{marking_at, net_from}
 use Rattle.file_header.specs.Facts.{Placed}
 use Rattle.file_header.specs.declared.Header.{Header}
-use Rattle.file.proofs.Caps.{marking-lt}
+use Rattle.file.proofs.Caps.{marking_lt}
 use Rattle.file_header.proofs.Laws.{place-within}
 use Rattle.promise.specs.Firing.{replay_told}
-use Rattle.inputs_lists.proofs.Passing.{list-short, list-known}
+use Rattle.inputs_lists.proofs.Passing.{list_short, list_known}
 use Rattle.replay_steps.specs.Steps.{held, Holds, Listed}
 use Rattle.replay_steps.proofs.Underway.{held-within}
 use Rattle.replay.specs.Told.{outcome_numbers}
@@ -43,8 +43,8 @@ module _ (s : List ℕ) (h : Header) (w : Placed (length s) h) (p : ℕ) (l : p 
   picks : (b c : Bool) → b ≡ c → pick b (8 * p) (4 * p) ≡ pick c (8 * p) (4 * p)
   picks b c e = ap (λ (x : Bool). pick x (8 * p) (4 * p)) e
 
-  pub stands-capped : eqb h.edition 2 ≡ true → Stands s h 8 p
-  stands-capped e = stands 8 (picks _ true e)
+  pub stands_capped : eqb h.edition 2 ≡ true → Stands s h 8 p
+  stands_capped e = stands 8 (picks _ true e)
 
   pub stands_plain : eqb h.edition 2 ≡ false → Stands s h 4 p
   stands_plain e = stands 4 (picks _ false e)
@@ -92,22 +92,22 @@ module _ (s : List ℕ) (h : Header) where
           )
 
   -- "starts at the initial marking"
-  from-initial : (ts : List ℕ) → replay_from (net_from s h) 0 (held (begun s h)) ts ≡ replay (net_from s h) ts
+  from_initial : (ts : List ℕ) → replay_from (net_from s h) 0 (held (begun s h)) ts ≡ replay (net_from s h) ts
   unfolding replay
-  from-initial ts = ap (λ (M : Marking). replay_from (net_from s h) 0 M ts) (fun_ext begun-holds.at)
+  from_initial ts = ap (λ (M : Marking). replay_from (net_from s h) 0 M ts) (fun_ext begun-holds.at)
 
   pub listed : {ts m : List ℕ} → Passed s h ts m → Bytes s → Listed s h ts (begun s h)
   listed {ts} passed b = record {
-    short = list-short h.transitions ts passed.list;
-    known = list-known h.transitions ts passed.list;
-    low = λ p. omega (arith, begun-holds.at p, marking-lt s b h p);
+    short = list_short h.transitions ts passed.list;
+    known = list_known h.transitions ts passed.list;
+    low = λ p. omega (arith, begun-holds.at p, marking_lt s b h p);
     caps = held-within (net_from s h) (net_from s h).marking passed.sound.caps begun-holds;
   }
 
   -- what the replay from the initial marking answers, and the list that holds the marking that it ends with
   pub ended-initial : (ts : List ℕ) {m : List ℕ} (o : Outcome) → Ended s h ts (begun s h) m o → (outcome_numbers o ≡ replay_told (replay (net_from s h) ts).answer) × (m ≡ tokens (net_from s h) (replay (net_from s h) ts).marking)
   ended-initial ts {m} o r =
-      let e = from-initial ts in (
+      let e = from_initial ts in (
         r.0 ∙ ap (λ (R : Replay). replay_told R.answer) e,
         tokens-are (net_from s h) (replay (net_from s h) ts).marking m (r.1.long ∙ begun-long)
             (λ p l. r.1.at p ∙ ap (λ (R : Replay). R.marking p) e),

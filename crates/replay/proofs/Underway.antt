@@ -5,14 +5,14 @@ use mathlib.Core.List.{List}
 use native.Mathlib.Omega.{arith}
 use lib.ListN.{length, get_or, drop}
 use Rattle.net.specs.Net.{Answer, Replay, Supplied, fire, replay_from}
-use Rattle.net.proofs.Uncapped.{uncapped-enabled}
+use Rattle.net.proofs.Uncapped.{uncapped_enabled}
 use Rattle.file_words.specs.Word.{Bytes}
 use Rattle.file.specs.Layout.{net_from}
 use Rattle.file.specs.Facts.{Sound}
 use Rattle.file_header.specs.declared.Header.{Header}
 use Rattle.promise.specs.Firing.{ReplayAnswer, replay_told}
 use Rattle.replay_steps.specs.Steps.{held, Ready, Plain, Holds, Listed, Underway}
-use Rattle.replay_steps.proofs.Underway.{known, fired-on, replay-end, replay-short, replay-full}
+use Rattle.replay_steps.proofs.Underway.{known, fired_on_lem, replay-end, replay-short, replay-full}
 use Rattle.replay_firing.specs.Short.{need_at}
 use Rattle.replay_firing.specs.Firing.{Firable, Filled}
 use Rattle.replay_firing.specs.declared.Found.{Found}
@@ -53,8 +53,8 @@ module _ {s : List ℕ} {h : Header} {ts m₁ m : List ℕ} {n k : ℕ} (g : Goi
 
 -- a replay of which no firing is done: what replays from its marking replays from the first
 module _ {s : List ℕ} {h : Header} {ts m₀ m : List ℕ} {n : ℕ} (u : Underway s h ts m₀ m n) (none : n ≡ 0) where
-  pub listed-still : Listed s h ts m
-  listed-still = record { short = u.listed.short; known = u.listed.known; low = λ p. omega (arith, u.low p, none); caps = u.caps }
+  pub listed_still : Listed s h ts m
+  listed_still = record { short = u.listed.short; known = u.listed.known; low = λ p. omega (arith, u.low p, none); caps = u.caps }
 
   pub underway_then : {m' : List ℕ} {k : ℕ} → Underway s h ts m m' k → Underway s h ts m₀ m' k
   underway_then v = record {
@@ -68,11 +68,11 @@ module _ {s : List ℕ} {h : Header} {ts m₀ m : List ℕ} {n : ℕ} (u : Under
 
 -- a replay that was at m₁ is at m
 module _ {s : List ℕ} {h : Header} {ts m₀ m₁ m : List ℕ} {n k : ℕ} (was : Underway s h ts m₀ m₁ n) (is : Underway s h ts m₀ m k) where
-  pub long-still : length m ≡ length m₁
-  long-still = is.long ∙ sym was.long
+  pub long_still : length m ≡ length m₁
+  long_still = is.long ∙ sym was.long
 
   pub ready_on : {table : List ℕ} → Ready s h table m₁ → Ready s h table m
-  ready_on r = record { sound = r.sound; bytes = r.bytes; long = r.long; starts = r.starts; places = long-still ∙ r.places }
+  ready_on r = record { sound = r.sound; bytes = r.bytes; long = r.long; starts = r.starts; places = long_still ∙ r.places }
 
 module _ {s : List ℕ} {h : Header} {ts m₀ m : List ℕ} {k : ℕ} (u : Underway s h ts m₀ m k) where
   ended : {a : Answer} (o : Outcome) → replay_from (net_from s h) 0 (held m₀) ts ≡ record { answer = a; marking = held m } → outcome_numbers o ≡ replay_told a → Ended s h ts m₀ m o
@@ -98,15 +98,15 @@ module _ {s : List ℕ} {h : Header} {ts m₀ m : List ℕ} {k : ℕ} (u : Under
       pub firable : Firable s h (get_or ts k 0) m
       firable = record { known = known u l; supplied = supplied c all; low = low; caps = u.caps }
 
-      pub fired-plain : {table m₁ m' : List ℕ} → Plain s h table m₁ → Holds m m' (fire (net_from s h) (get_or ts k 0) (held m)) → Underway s h ts m₀ m' (k + 1)
-      fired-plain r f =
-          let able = uncapped-enabled (net_from s h) r.uncapped (get_or ts k 0) (held m) (unfold Supplied in λ p u. supplied c all p) in
-          fired-on u l r.ready.sound r.ready.bytes able f
+      pub fired_plain : {table m₁ m' : List ℕ} → Plain s h table m₁ → Holds m m' (fire (net_from s h) (get_or ts k 0) (held m)) → Underway s h ts m₀ m' (k + 1)
+      fired_plain r f =
+          let able = uncapped_enabled (net_from s h) r.uncapped (get_or ts k 0) (held m) (unfold Supplied in λ p u. supplied c all p) in
+          fired_on_lem u l r.ready.sound r.ready.bytes able f
 
     -- no place is short, and the firing is done unless it leaves one above its cap: then the marking is the one before
     module _ {found : Found} {m' : List ℕ} (x : Filled (net_from s h) (get_or ts k 0) m m' found) where
-      pub fired-capped : found ≡ Nowhere → Sound s h → Bytes s → Underway s h ts m₀ m' (k + 1)
-      fired-capped e w b = let y = subst (Filled (net_from s h) (get_or ts k 0) m m') e x in fired-on u l w b y.0 y.1
+      pub fired_capped : found ≡ Nowhere → Sound s h → Bytes s → Underway s h ts m₀ m' (k + 1)
+      fired_capped e w b = let y = subst (Filled (net_from s h) (get_or ts k 0) m m') e x in fired_on_lem u l w b y.0 y.1
 
       pub ended-full : {p n : ℕ} → found ≡ At p n → Ended s h ts m₀ m' (Full k p n)
       ended-full {p} {n} e =

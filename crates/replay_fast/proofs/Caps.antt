@@ -18,8 +18,8 @@ pub shifting_over : {s : List ℕ} {start from j : ℕ} {was is : List ℕ} {r :
 shifting_over {s} {start} {from} {j} {was} {is} {r} x w = record { moving = x.moving; enough = λ n. x.enough (all-was r w n) }
 
 -- the number that was added last
-pub last-now : (n v : ℕ) → bit_or n v < 9223372036854775808 → v < 9223372036854775808
-last-now n v l = omega (arith, l, or_add_and n v, and_le_l n v)
+pub last_now : (n v : ℕ) → bit_or n v < 9223372036854775808 → v < 9223372036854775808
+last_now n v l = omega (arith, l, or_add_and n v, and_le_l n v)
 
 -- one arc more: the entry of its place becomes v, which is within its cap
 pub roomy_next : {s : List ℕ} {h : Header} {from j : ℕ} {m : List ℕ} → Roomy s h from j m → {p : ℕ} → p ≡ place_at s h.arcstart j → p < length m → (v : ℕ) → (0 < (net_from s h).cap p → v ≤ (net_from s h).cap p) → Roomy s h from (j + 1) (set m p v)
@@ -27,11 +27,11 @@ roomy_next {s} {h} {from} {j} {m} x {p} e known v fits = record { at = λ i a b.
   where
     go : (i : ℕ) → from ≤ i → i < j + 1 → Dec (place_at s h.arcstart i ≡ p) → 0 < (net_from s h).cap (place_at s h.arcstart i) → get_or (set m p v) (place_at s h.arcstart i) 0 ≤ (net_from s h).cap (place_at s h.arcstart i)
     go i a b (yes f) = subst (λ (q : ℕ). 0 < (net_from s h).cap q → get_or (set m p v) q 0 ≤ (net_from s h).cap q) (sym f) (λ c. omega (arith, get_or-set_same m p v 0 known, fits c))
-    go i a b (no f) = λ c. omega (arith, get_or-set_other m p (place_at s h.arcstart i) v 0 f, x.at i a (earlier-arc (ℕ_discrete i j)) c)
+    go i a b (no f) = λ c. omega (arith, get_or-set_other m p (place_at s h.arcstart i) v 0 f, x.at i a (earlier_arc (ℕ_discrete i j)) c)
       where
-        earlier-arc : Dec (i ≡ j) → i < j
-        earlier-arc (yes g) = absurd (f (subst (λ (k : ℕ). place_at s h.arcstart k ≡ p) (sym g) (sym e)))
-        earlier-arc (no g) = omega (arith, b, g)
+        earlier_arc : Dec (i ≡ j) → i < j
+        earlier_arc (yes g) = absurd (f (subst (λ (k : ℕ). place_at s h.arcstart k ≡ p) (sym g) (sym e)))
+        earlier_arc (no g) = omega (arith, b, g)
 
 -- t has fired by the arcs from..to, and a place to which it adds nothing has no more than before
 module _ {s : List ℕ} {h : Header} {t from to : ℕ} (run : Stretch s h t from to) {is : List ℕ} (room : Roomy s h from to is) where

@@ -7,14 +7,14 @@ use Rattle.file_arcs.specs.Layout.{arc_at}
 use Rattle.file.specs.Layout.{net_from}
 use Rattle.file_header.specs.declared.Header.{Header}
 use Rattle.arcs_starts.specs.Table.{slot_at, Split}
-use Rattle.arcs_starts.proofs.Reached.{order-at}
-use Rattle.arcs_column.proofs.Arcs.{none-past}
-use Rattle.file.proofs.Rows.{good-at}
+use Rattle.arcs_starts.proofs.Reached.{order_at}
+use Rattle.arcs_column.proofs.Arcs.{none_past}
+use Rattle.file.proofs.Rows.{good_at}
 use Rattle.arcs_column.proofs.Stretch.{Stretch, rises, own, sums, small}
 use Rattle.arcs_column.proofs.Ways.{sum-quiet, sum-rises}
 use Rattle.replay_steps.specs.Steps.{held, Ready, Underway}
 use Rattle.replay_fast.specs.Moves.{lift_at, Movable, Moved, Whole, Shifted, Roomy, Indexed}
-use Rattle.replay_steps.proofs.Underway.{split_by, fired-on}
+use Rattle.replay_steps.proofs.Underway.{split_by, fired_on_lem}
 use Rattle.replay_fast.proofs.Caps.{within}
 
 -- firing k moves the entries by the arcs from..to: it can, it can be undone, and where no input took more than the tokens and no place is above its cap it was a firing
@@ -51,10 +51,10 @@ module _ {s : List ℕ} {h : Header} {ts was is : List ℕ} {k : ℕ} (places : 
     start = h.arcstart
 
     -- no arc of t before an input is an output
-    inputs-first : (j : ℕ) → from ≤ j → j < to → (arc_at s (h.arcstart + 8 * j)).direction ≡ 0 → (i : ℕ) → from ≤ i → i < j + 1 → (arc_at s (h.arcstart + 8 * i)).direction ≡ 1 → ⊥
+    inputs_first : (j : ℕ) → from ≤ j → j < to → (arc_at s (h.arcstart + 8 * j)).direction ≡ 0 → (i : ℕ) → from ≤ i → i < j + 1 → (arc_at s (h.arcstart + 8 * i)).direction ≡ 1 → ⊥
     unfolding slot_at
-    inputs-first j a b z i c d q =
-        omega (arith, z, q, own run j a b, own run i c (omega arith), order-at s start 0 h.arcs i j run.sound.order (omega arith) (omega (arith, run.end.within)), (good-at s h run.sound j (omega (arith, run.end.within))).place, run.sound.placed.places)
+    inputs_first j a b z i c d q =
+        omega (arith, z, q, own run j a b, own run i c (omega arith), order_at s start 0 h.arcs i j run.sound.order (omega arith) (omega (arith, run.end.within)), (good_at s h run.sound j (omega (arith, run.end.within))).place, run.sound.placed.places)
 
     movable : {upto : ℕ} → from ≤ upto → upto ≤ to → (m : List ℕ) → length m ≡ length was → ((p : ℕ) → p < length m → 4611686018427387904 ≤ lift_at m p) → ((p : ℕ) → p < length m → lift_at m p < 13835058055282163712) → ((p : ℕ) → get_or m p 0 < 18446744073709551616)
         → Movable s h from upto m
@@ -65,7 +65,7 @@ module _ {s : List ℕ} {h : Header} {ts was is : List ℕ} {k : ℕ} (places : 
       within = omega (arith, hi, run.end.within);
       held = long ∙ places;
       small = λ d p. omega (arith, sums run d p, small run d p, sum-rises d s start p upto to hi);
-      inputs = λ j p a b z. sum-quiet 1 s start p from (j + 1) (omega arith) (inputs-first j a (omega (arith, b, hi)) z);
+      inputs = λ j p a b z. sum-quiet 1 s start p from (j + 1) (omega arith) (inputs_first j a (omega (arith, b, hi)) z);
       least = least;
       most = most;
       fits = fits;
@@ -115,33 +115,33 @@ module _ {s : List ℕ} {h : Header} {ts was is : List ℕ} {k : ℕ} (places : 
           where
             go : Dec (p < length is) → input (net_from s h) p (get_or ts k 0) ≤ get_or is p 0
             go (yes u) = omega (arith, y.enough n whole p u, sums run 0 p, low p)
-            go (no u) = omega (arith, none-past s h run.sound 0 p t (omega (arith, u, x.long, places)))
+            go (no u) = omega (arith, none_past s h run.sound 0 p t (omega (arith, u, x.long, places)))
 
-        fired-at : (p : ℕ) → get_or is' p 0 ≡ get_or is p 0 - input (net_from s h) p (get_or ts k 0) + output (net_from s h) p (get_or ts k 0)
+        fired_at_lem : (p : ℕ) → get_or is' p 0 ≡ get_or is p 0 - input (net_from s h) p (get_or ts k 0) + output (net_from s h) p (get_or ts k 0)
         unfolding input output
-        fired-at p = go (dec_lt p (length is))
+        fired_at_lem p = go (dec_lt p (length is))
           where
             go : Dec (p < length is) → get_or is' p 0 ≡ get_or is p 0 - input (net_from s h) p (get_or ts k 0) + output (net_from s h) p (get_or ts k 0)
             go (yes u) = omega (arith, y.enough n whole p u, y.moved.at p u, sums run 0 p, sums run 1 p, low p, y.moved.fits p)
             go (no u) =
                 omega (
                   arith,
-                  none-past s h run.sound 1 p t (omega (arith, u, x.long, places)),
+                  none_past s h run.sound 1 p t (omega (arith, u, x.long, places)),
                   get_or-eq_default is 0 {n = p} (omega (arith, u)),
                   get_or-eq_default is' 0 {n = p} (omega (arith, u, y.moved.long)),
                 )
 
         -- no place is above its cap where none of the arcs' is
         fits : Roomy s h from to is' → WithinCaps (net_from s h) (held is')
-        fits r = within run r is (λ p e. omega (arith, fired-at p, e)) x.caps
+        fits r = within run r is (λ p e. omega (arith, fired_at_lem p, e)) x.caps
 
         able : WithinCaps (net_from s h) (held is') → Enabled (net_from s h) (get_or ts k 0) (held is)
         unfolding Enabled Supplied WithinCaps fire
-        able w = (λ p u. enabled p, λ p u c. omega (arith, fired-at p, w p u c))
+        able w = (λ p u. enabled p, λ p u c. omega (arith, fired_at_lem p, w p u c))
 
         next : WithinCaps (net_from s h) (held is') → Underway s h ts was is' (k + 1)
         unfolding fire
-        next w = fired-on x l run.sound run.bytes (able w) (record { long = y.moved.long; at = fired-at })
+        next w = fired_on_lem x l run.sound run.bytes (able w) (record { long = y.moved.long; at = fired_at_lem })
 
     pub step : Step s h ts was is k from to
     step = record { shifting = can_shift; undoing = λ is' v y. can_back y.moved (rises run) (omega arith); undone = λ is' is'' v y z. undone y.moved z; leaving = λ r a b is' y. can_back y (omega arith) (omega arith); left = λ r is' is'' y z. undone y z; fits = λ is' v y n r. fits y n r; fired = λ is' v y n w. next y n w }

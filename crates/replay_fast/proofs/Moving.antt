@@ -9,15 +9,15 @@ use Rattle.file_arcs.specs.Facts.{ArcGood}
 use Rattle.file_header.specs.declared.Header.{Header}
 use Rattle.file_words.proofs.Bytes.{le16-lt}
 use Rattle.arcs_column.specs.Ways.{place_at, share, sum_on}
-use Rattle.file.proofs.Rows.{good-at}
-use Rattle.arcs_column.proofs.Ways.{sum-next, sum-rises, share-here, share-against, share-elsewhere}
+use Rattle.file.proofs.Rows.{good_at}
+use Rattle.arcs_column.proofs.Ways.{sum_next, sum-rises, share-here, share-against, share-elsewhere}
 use Rattle.replay_fast.specs.Moves.{change_of, Weighs, Signed, change_at, MovesOf, lift, lift_at, Movable, Moved, Whole, Shifted}
-use Rattle.replay_fast.proofs.Signs.{takes-is, gives-is, add-takes, add-gives, sub-takes, sub-gives, all-was, all-now}
+use Rattle.replay_fast.proofs.Signs.{takes_is, gives_is, add-takes, add-gives, sub-takes, sub-gives, all-was, all-now}
 
 -- ---- the number in the table is what the arc adds
 
-pub change-is : {s : List ℕ} {h : Header} {places changes : List ℕ} → MovesOf s h places changes → {j c : ℕ} → j < h.arcs → Signed (get_or changes j 0) c → Signed (change_at s h.arcstart j) c
-change-is mv {j} {c} l = subst (λ (k : ℕ). Signed k c) (mv.change j l)
+pub change_is : {s : List ℕ} {h : Header} {places changes : List ℕ} → MovesOf s h places changes → {j c : ℕ} → j < h.arcs → Signed (get_or changes j 0) c → Signed (change_at s h.arcstart j) c
+change_is mv {j} {c} l = subst (λ (k : ℕ). Signed k c) (mv.change j l)
 
 -- ---- the arcs from `from` to j of those from..to
 
@@ -40,7 +40,7 @@ module _ {s : List ℕ} {h : Header} {from to : ℕ} {was : List ℕ} (can : Mov
   q = place_at s h.arcstart j
 
   good : ArcGood h.places h.transitions (arc_at s (h.arcstart + 8 * j))
-  good = good-at s h can.sound j (omega (arith, can.within))
+  good = good_at s h can.sound j (omega (arith, can.within))
 
   weighs : Weighs a.weight
   weighs = record { some = good.weight; below = le16-lt s can.bytes (h.arcstart + 8 * j + 6) }
@@ -57,19 +57,19 @@ module _ {s : List ℕ} {h : Header} {from to : ℕ} {was : List ℕ} (can : Mov
   arc-inside = let p = can.sound.placed in omega (arith, can.within, p.arcs_fit, p.origins_fit)
 
   module _ {b : Arc} (e : b ≡ arc_at s (h.arcstart + 8 * j)) where
-    pub read-weighs : Weighs b.weight
-    read-weighs = subst (λ (o : Arc). Weighs o.weight) (sym e) weighs
+    pub read_weighs : Weighs b.weight
+    read_weighs = subst (λ (o : Arc). Weighs o.weight) (sym e) weighs
 
-    pub read-change : {c : ℕ} → Signed (change_of b.direction b.weight) c → Signed (change_at s h.arcstart j) c
-    read-change {c} = subst (λ (o : Arc). Signed (change_of o.direction o.weight) c) e
+    pub read_change : {c : ℕ} → Signed (change_of b.direction b.weight) c → Signed (change_at s h.arcstart j) c
+    read_change {c} = subst (λ (o : Arc). Signed (change_of o.direction o.weight) c) e
 
   module _ {d g : ℕ} {is : List ℕ} (x : Moving d g s h.arcstart from j was is) where
     -- no entry leaves its room
-    room-low : (p : ℕ) → p < length was → 65536 ≤ lift_at is p
-    room-low p u = omega (arith, x.moved.at p u, can.least p u, can.small d p, sum-rises g s h.arcstart p from j x.rising, sum-rises d s h.arcstart p j to (omega arith))
+    room_low : (p : ℕ) → p < length was → 65536 ≤ lift_at is p
+    room_low p u = omega (arith, x.moved.at p u, can.least p u, can.small d p, sum-rises g s h.arcstart p from j x.rising, sum-rises d s h.arcstart p j to (omega arith))
 
-    room-high : (p : ℕ) → p < length was → lift_at is p < 18446744073709486080
-    room-high p u = omega (arith, x.moved.at p u, can.most p u, can.small g p, sum-rises d s h.arcstart p from j x.rising, sum-rises g s h.arcstart p j to (omega arith))
+    room_high : (p : ℕ) → p < length was → lift_at is p < 18446744073709486080
+    room_high p u = omega (arith, x.moved.at p u, can.most p u, can.small g p, sum-rises d s h.arcstart p from j x.rising, sum-rises g s h.arcstart p j to (omega arith))
 
     module _ (v : ℕ) (fits : v < 18446744073709551616) (turned : lift v + share d a.place a ≡ lift_at is a.place + share g a.place a) where
       known : place_at s h.arcstart j < length is
@@ -79,9 +79,9 @@ module _ {s : List ℕ} {h : Header} {from to : ℕ} {was : List ℕ} (can : Mov
           → lift_at (set is q v) p + sum_on d s h.arcstart p (j + 1) + sum_on g s h.arcstart p from ≡ lift_at was p + sum_on g s h.arcstart p (j + 1) + sum_on d s h.arcstart p from
       each p u (yes e) =
           subst (λ (k : ℕ). lift_at (set is q v) k + sum_on d s h.arcstart k (j + 1) + sum_on g s h.arcstart k from ≡ lift_at was k + sum_on g s h.arcstart k (j + 1) + sum_on d s h.arcstart k from) e
-          (omega (arith, x.moved.at q place-known, ap lift (get_or-set_same is q v 0 known), turned, sum-next d s h.arcstart q j, sum-next g s h.arcstart q j))
+          (omega (arith, x.moved.at q place-known, ap lift (get_or-set_same is q v 0 known), turned, sum_next d s h.arcstart q j, sum_next g s h.arcstart q j))
       each p u (no e) =
-          omega (arith, x.moved.at p u, ap lift (get_or-set_other is q p v 0 (λ z. e (sym z))), share-elsewhere a d p e, share-elsewhere a g p e, sum-next d s h.arcstart p j, sum-next g s h.arcstart p j)
+          omega (arith, x.moved.at p u, ap lift (get_or-set_other is q p v 0 (λ z. e (sym z))), share-elsewhere a d p e, share-elsewhere a g p e, sum_next d s h.arcstart p j, sum_next g s h.arcstart p j)
 
       all_fit : (p : ℕ) → Dec (q ≡ p) → get_or (set is q v) p 0 < 18446744073709551616
       all_fit p (yes e) = subst (λ (k : ℕ). get_or (set is q v) k 0 < 18446744073709551616) e (omega (arith, get_or-set_same is q v 0 known, fits))
@@ -96,10 +96,10 @@ module _ {s : List ℕ} {h : Header} {from to : ℕ} {was : List ℕ} (can : Mov
   -- the number it adds, with its sign
   module _ {c : ℕ} (y : Signed (change_at s h.arcstart j) c) where
     takes : a.direction ≡ 0 → c + a.weight ≡ 18446744073709551616
-    takes = takes-is a.direction a.weight weighs c y
+    takes = takes_is a.direction a.weight weighs c y
 
     gives : (a.direction ≡ 0 → ⊥) → c ≡ a.weight
-    gives = gives-is a.direction a.weight weighs c y
+    gives = gives_is a.direction a.weight weighs c y
 
     -- forwards an input takes, and an output gives
     add-turns : {is : List ℕ} → Moving 0 1 s h.arcstart from j was is → (v : ℕ) → v ≡ (get_or is (place_at s h.arcstart j) 0 + c) % 2 ^ 64 → lift v + share 0 a.place a ≡ lift_at is a.place + share 1 a.place a
@@ -107,9 +107,9 @@ module _ {s : List ℕ} {h : Header} {from to : ℕ} {was : List ℕ} (can : Mov
       where
         go : Dec (a.direction ≡ 0) → lift v + share 0 a.place a ≡ lift_at is a.place + share 1 a.place a
         go (yes z) =
-            omega (arith, ap lift e, add-takes (get_or is q 0) a.weight c (takes z) weighs.below (room-low x q place-known), share-here a 0 z, share-against a 1 q (λ y. omega arith))
+            omega (arith, ap lift e, add-takes (get_or is q 0) a.weight c (takes z) weighs.below (room_low x q place-known), share-here a 0 z, share-against a 1 q (λ y. omega arith))
         go (no z) =
-            omega (arith, ap lift e, add-gives (get_or is q 0) a.weight c (gives z) weighs.below (room-high x q place-known), share-against a 0 q z, share-here a 1 (omega (arith, good.direction, z)))
+            omega (arith, ap lift e, add-gives (get_or is q 0) a.weight c (gives z) weighs.below (room_high x q place-known), share-against a 0 q z, share-here a 1 (omega (arith, good.direction, z)))
 
     -- and back
     sub-turns : {is : List ℕ} → Moving 1 0 s h.arcstart from j was is → (v : ℕ) → (v + c) % 2 ^ 64 ≡ get_or is (place_at s h.arcstart j) 0 → lift v + share 1 a.place a ≡ lift_at is a.place + share 0 a.place a
@@ -117,9 +117,9 @@ module _ {s : List ℕ} {h : Header} {from to : ℕ} {was : List ℕ} (can : Mov
       where
         go : Dec (a.direction ≡ 0) → lift v + share 1 a.place a ≡ lift_at is a.place + share 0 a.place a
         go (yes z) =
-            omega (arith, sub-takes v (get_or is q 0) a.weight c (takes z) weighs.below (room-high x q place-known) e, share-here a 0 z, share-against a 1 q (λ y. omega arith))
+            omega (arith, sub-takes v (get_or is q 0) a.weight c (takes z) weighs.below (room_high x q place-known) e, share-here a 0 z, share-against a 1 q (λ y. omega arith))
         go (no z) =
-            omega (arith, sub-gives v (get_or is q 0) a.weight c (gives z) weighs.below (room-low x q place-known) e, share-against a 0 q z, share-here a 1 (omega (arith, good.direction, z)))
+            omega (arith, sub-gives v (get_or is q 0) a.weight c (gives z) weighs.below (room_low x q place-known) e, share-against a 0 q z, share-here a 1 (omega (arith, good.direction, z)))
 
     -- one arc more
     pub back_more : {is : List ℕ} → Moving 1 0 s h.arcstart from j was is → {p : ℕ} → p ≡ place_at s h.arcstart j → (v : ℕ) → v < 18446744073709551616 → (v + c) % 2 ^ 64 ≡ get_or is p 0 → Moving 1 0 s h.arcstart from (j + 1) was (set is p v)
@@ -164,9 +164,9 @@ module _ {s : List ℕ} {h : Header} {from to : ℕ} {was : List ℕ} (can : Mov
         all-now r v n,
       ))
   still n whole p m (yes z) (no f) =
-      omega (arith, x.enough (all-was r v n) whole p m, sum-next 0 s h.arcstart p j, share-elsewhere (arc_at s (h.arcstart + 8 * j)) 0 p f)
+      omega (arith, x.enough (all-was r v n) whole p m, sum_next 0 s h.arcstart p j, share-elsewhere (arc_at s (h.arcstart + 8 * j)) 0 p f)
   still n whole p m (no z) f =
-      omega (arith, x.enough (all-was r v n) whole p m, sum-next 0 s h.arcstart p j, share-against (arc_at s (h.arcstart + 8 * j)) 0 p z)
+      omega (arith, x.enough (all-was r v n) whole p m, sum_next 0 s h.arcstart p j, share-against (arc_at s (h.arcstart + 8 * j)) 0 p z)
 
   shifting_next : Shifting s h.arcstart from (j + 1) was (set is (place_at s h.arcstart j) v) (bit_or r v)
   shifting_next = record {

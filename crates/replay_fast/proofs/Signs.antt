@@ -29,27 +29,27 @@ signed_is c r small fits e = record {
 
 -- ---- what an arc adds
 
-pub change-takes : (d w : ℕ) → d ≡ 0 → change_of d w ≡ 4294967296 - w
-change-takes d w z = rw (eq-eqb d 0 z)
+pub change_takes : (d w : ℕ) → d ≡ 0 → change_of d w ≡ 4294967296 - w
+change_takes d w z = rw (eq-eqb d 0 z)
 
-pub change-gives : (d w : ℕ) → (d ≡ 0 → ⊥) → change_of d w ≡ w
-change-gives d w z = rw (ne_eqb d 0 z)
+pub change_gives : (d w : ℕ) → (d ≡ 0 → ⊥) → change_of d w ≡ w
+change_gives d w z = rw (ne_eqb d 0 z)
 
 module _ (d w : ℕ) (f : Weighs w) where
   pub signed_takes : d ≡ 0 → (r : ℕ) → r < 18446744073709551616 → (r + w) % 2 ^ 64 ≡ 0 → Signed (change_of d w) r
   signed_takes z r fits q =
-      let e = change-takes d w z in
+      let e = change_takes d w z in
       record { gives = λ l. absurd (omega (arith, e, f.below, l)); takes = λ l. omega (arith, e, f.some, f.below, fits, q) }
 
   pub signed_gives : (d ≡ 0 → ⊥) → Signed (change_of d w) w
-  signed_gives z = let e = change-gives d w z in record { gives = λ l. omega (arith, e); takes = λ l. absurd (omega (arith, e, f.below, l)) }
+  signed_gives z = let e = change_gives d w z in record { gives = λ l. omega (arith, e); takes = λ l. absurd (omega (arith, e, f.below, l)) }
 
 module _ (d w : ℕ) (f : Weighs w) (c : ℕ) (x : Signed (change_of d w) c) where
-  pub takes-is : d ≡ 0 → c + w ≡ 18446744073709551616
-  takes-is z = let e = change-takes d w z in omega (arith, e, f.some, f.below, x.takes (omega (arith, e, f.below)))
+  pub takes_is : d ≡ 0 → c + w ≡ 18446744073709551616
+  takes_is z = let e = change_takes d w z in omega (arith, e, f.some, f.below, x.takes (omega (arith, e, f.below)))
 
-  pub gives-is : (d ≡ 0 → ⊥) → c ≡ w
-  gives-is z = let e = change-gives d w z in omega (arith, e, f.below, x.gives (omega (arith, e, f.below)))
+  pub gives_is : (d ≡ 0 → ⊥) → c ≡ w
+  gives_is z = let e = change_gives d w z in omega (arith, e, f.below, x.gives (omega (arith, e, f.below)))
 
 -- ---- an entry after a sum of 64 bits, and after a difference
 

@@ -15,8 +15,8 @@ use Rattle.file_arcs.specs.Layout.{arc_at}
 use Rattle.file.specs.Layout.{net_from}
 use Rattle.file.specs.Facts.{Sound}
 use Rattle.file_header.specs.declared.Header.{Header}
-use Rattle.file_arcs.proofs.Rows.{key-le, weight-le}
-use Rattle.file.proofs.Rows.{good-at}
+use Rattle.file_arcs.proofs.Rows.{key-le, weight_le}
+use Rattle.file.proofs.Rows.{good_at}
 use Rattle.arcs_starts.specs.Table.{Split}
 use Rattle.arcs_column.proofs.Arcs.{has_arc, joins-in, in_joins}
 use Rattle.replay_steps.specs.Steps.{held, Ready}
@@ -69,9 +69,9 @@ excess_some cap n e f z = go (ℕ_discrete cap 0)
     go (no q) = (omega (arith, q), omega (arith, f, z, excess_capped cap n q))
 
 -- a cap above 0
-cap-above : (N : Net) (p : ℕ) → T (capped N p) → 0 < N.cap p
+cap_above : (N : Net) (p : ℕ) → T (capped N p) → 0 < N.cap p
 unfolding capped
-cap-above N p c = ltb→lt 0 (N.cap p) c
+cap_above N p c = ltb→lt 0 (N.cap p) c
 
 has_cap : (N : Net) (p : ℕ) → 0 < N.cap p → T (capped N p)
 unfolding capped
@@ -105,21 +105,21 @@ module _ {s : List ℕ} {h : Header} {t from to : ℕ} {m : List ℕ} {j : ℕ} 
         (a.at, b.0, b.1, a.joins-it.place)
 
     -- one before arc j
-    fits-before : (i : ℕ) → from ≤ i → i < j → place_of s h i ≡ q → get_or m q 0 ≤ (net_from s h).cap q
-    fits-before i a b e =
+    fits_before : (i : ℕ) → from ≤ i → i < j → place_of s h i ≡ q → get_or m q 0 ≤ (net_from s h).cap q
+    fits_before i a b e =
         excess_none ((net_from s h).cap q) (get_or m q 0)
         (subst (λ (p : ℕ). excess_over ((net_from s h).cap p) (get_or m p 0) ≡ 0) e (c.within i a b))
-        (cap-above (net_from s h) q k)
+        (cap_above (net_from s h) q k)
 
   pub fits_all : to ≤ j → FullFound (net_from s h) t (held m) Nowhere
-  fits_all l q o k = let a = arc-of q o k in fits-before q o k a.0 a.1 (omega (arith, a.2)) a.3
+  fits_all l q o k = let a = arc-of q o k in fits_before q o k a.0 a.1 (omega (arith, a.2)) a.3
 
   module _ (l : j < to) where
     pub known : j < h.arcs
     known = omega (arith, c.second.within)
 
     inside : place_of s h j < h.places
-    inside = (good-at s h c.sound j known).place
+    inside = (good_at s h c.sound j known).place
 
     pub arc-inside : {a : Arc} → a ≡ arc_at s (h.arcstart + 8 * j) → a.place < h.places
     arc-inside {a} is = subst (λ (b : Arc). b.place < h.places) (sym is) inside
@@ -136,12 +136,12 @@ module _ {s : List ℕ} {h : Header} {t from to : ℕ} {m : List ℕ} {j : ℕ} 
     lower q u o k = let a = arc-of q o k in go a (dec_lt a.0 j)
       where
         go : (a : (i : ℕ) × (from ≤ i) × (i < to) × (place_of s h i ≡ q)) → Dec (a.0 < j) → get_or m q 0 ≤ (net_from s h).cap q
-        go a (yes b) = fits-before q o k a.0 a.1 b a.3
+        go a (yes b) = fits_before q o k a.0 a.1 b a.3
         go a (no b) = absurd (omega (arith, rising a.0 (omega arith) a.2, a.3))
 
     few : (p : ℕ) → output (net_from s h) p t ≤ 65535 * h.arcs
     unfolding output
-    few p = weight-le 1 p t s c.bytes h.arcstart h.arcs
+    few p = weight_le 1 p t s c.bytes h.arcstart h.arcs
 
     module _ (e : ℕ) (is : e ≡ excess_at s h m j) where
       over : (e ≡ 0 → ⊥) → (0 < (net_from s h).cap (place_of s h j)) × (get_or m (place_of s h j) 0 ≡ (net_from s h).cap (place_of s h j) + e)

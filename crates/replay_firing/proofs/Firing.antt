@@ -10,18 +10,18 @@ use Rattle.file_arcs.specs.Layout.{arc_at, arcs_from}
 use Rattle.file.specs.Layout.{net_from}
 use Rattle.file.specs.Facts.{Sound}
 use Rattle.file_header.specs.declared.Header.{Header}
-use Rattle.file_arcs.proofs.Rows.{weight-le}
-use Rattle.file.proofs.Rows.{good-at}
+use Rattle.file_arcs.proofs.Rows.{weight_le}
+use Rattle.file.proofs.Rows.{good_at}
 use Rattle.arcs_starts.specs.Table.{Split}
 use Rattle.arcs_column.specs.Gain.{sum_to, Run, Takes, Gives}
-use Rattle.arcs_column.proofs.Arcs.{none-past}
+use Rattle.arcs_column.proofs.Arcs.{none_past}
 use Rattle.arcs_column.proofs.Weights as weights
 use Rattle.replay_steps.specs.Steps.{held, Ready, Holds}
 use Rattle.replay_steps.proofs.Underway.{split_by}
 use Rattle.replay_firing.specs.Firing.{unfired}
 
-pub arcs-fit : {s : List ℕ} {h : Header} → Sound s h → h.arcstart + 8 * h.arcs ≤ length s
-arcs-fit w = omega (arith, w.placed.arcs_fit, w.placed.origins_fit)
+pub arcs_fit_lem : {s : List ℕ} {h : Header} → Sound s h → h.arcstart + 8 * h.arcs ≤ length s
+arcs_fit_lem w = omega (arith, w.placed.arcs_fit, w.placed.origins_fit)
 
 -- the inputs of t are the arcs from..middle, its outputs the arcs middle..to
 pub record Runs (s : List ℕ) (h : Header) (t from middle to : ℕ) : Type 0 where
@@ -41,7 +41,7 @@ module _ {s : List ℕ} {h : Header} {table m : List ℕ} (r : Ready s h table m
   -- the arcs of t in direction d
   module _ (d t b e : ℕ) (l : d ≤ 1) (low : Split s h.arcstart h.arcs (2 * t + d) b) (high : Split s h.arcstart h.arcs (2 * t + d + 1) e) where
     ways : (i : ℕ) → i < h.arcs → (arc_at s (h.arcstart + 8 * i)).direction ≤ 1
-    ways i u = (good-at s h r.sound i u).direction
+    ways i u = (good_at s h r.sound i u).direction
 
     rises : b ≤ e
     rises = weights.rising d 0 t s start h.arcs b e l ways low high
@@ -64,8 +64,8 @@ module _ {s : List ℕ} {h : Header} {table m : List ℕ} (r : Ready s h table m
         few = r.sound.placed.arcs;
         inputs = sums 0 t from middle (omega arith) inputs middle';
         outputs = sums 1 t middle to (omega arith) outputs past;
-        taken = λ p. weight-le 0 p t s r.bytes start h.arcs;
-        given = λ p. weight-le 1 p t s r.bytes start h.arcs;
+        taken = λ p. weight_le 0 p t s r.bytes start h.arcs;
+        given = λ p. weight_le 1 p t s r.bytes start h.arcs;
       }
     where
       same : {k k' : ℕ} → k ≡ k' → get_or table k 0 ≡ get_or table k' 0
@@ -74,7 +74,7 @@ module _ {s : List ℕ} {h : Header} {table m : List ℕ} (r : Ready s h table m
   pub run_of : {n from to : ℕ} → n ≡ h.places → from ≤ to → to ≤ h.arcs → Run s h.arcstart from to n
   run_of {n} {from} {to} e l u =
       subst (λ (P : ℕ). Run s h.arcstart from to P) (sym e)
-      (record { rising = l; fit = omega (arith, arcs-fit r.sound); short = r.sound.placed.short; places = λ i a. (good-at s h r.sound i (omega arith)).place })
+      (record { rising = l; fit = omega (arith, arcs_fit_lem r.sound); short = r.sound.placed.short; places = λ i a. (good_at s h r.sound i (omega arith)).place })
 
   -- what is taken from m, and given then: the marking that is held, place by place; past the places there is none
   module _ {a b c e : ℕ} {m₁ m₂ : List ℕ} (takes : Takes s h.arcstart a b m m₁) (gives : Gives s h.arcstart c e m₁ m₂) where
@@ -88,13 +88,13 @@ module _ {s : List ℕ} {h : Header} {table m : List ℕ} (r : Ready s h table m
         go p (no l) = get_or-eq_default m₂ 0 {n = p} (omega (arith, l, gives.long, takes.long, r.places)) ∙ sym (off p (omega (arith, l)))
 
   -- no tokens past the places
-  none-held : (p : ℕ) → h.places ≤ p → get_or m p 0 ≡ 0
-  none-held p l = get_or-eq_default m 0 {n = p} (omega (arith, r.places))
+  none_held : (p : ℕ) → h.places ≤ p → get_or m p 0 ≡ 0
+  none_held p l = get_or-eq_default m 0 {n = p} (omega (arith, r.places))
 
   pub fire-off : (t p : ℕ) → h.places ≤ p → fire (net_from s h) t (held m) p ≡ 0
   unfolding fire output
-  fire-off t p l = omega (arith, none-held p l, none-past s h r.sound 1 p t l)
+  fire-off t p l = omega (arith, none_held p l, none_past s h r.sound 1 p t l)
 
   pub unfired-off : (t p : ℕ) → h.places ≤ p → unfired (net_from s h) t (held m) p ≡ 0
   unfolding input
-  unfired-off t p l = omega (arith, none-held p l, none-past s h r.sound 0 p t l)
+  unfired-off t p l = omega (arith, none_held p l, none_past s h r.sound 0 p t l)

@@ -14,12 +14,12 @@ use Rattle.file_arcs.specs.Layout.{arcs_from}
 use Rattle.file.specs.Layout.{net_from}
 use Rattle.file.specs.Facts.{Sound}
 use Rattle.file_header.specs.declared.Header.{Header}
-use Rattle.file_arcs.proofs.Rows.{key-le, weight-none}
-use Rattle.file.proofs.Rows.{good-at}
+use Rattle.file_arcs.proofs.Rows.{key-le, weight_none}
+use Rattle.file.proofs.Rows.{good_at}
 use Rattle.arcs_starts.specs.Table.{slot_at, choose, Split}
 use Rattle.replay_steps.specs.Steps.{held}
 use Rattle.replay_firing.specs.Short.{arc_on, need_at, Lacking}
-use Rattle.arcs_column.proofs.Shares.{share-is, share-unless, sum-next, sum_same, sum_more}
+use Rattle.arcs_column.proofs.Shares.{share-is, share-unless, sum_next, sum_same, sum_more}
 use Rattle.arcs_groups.specs.Groups.{GroupEnd, run_weight}
 use Rattle.arcs_groups.proofs.Groups.{run-adds, none_after}
 
@@ -50,7 +50,7 @@ unfolding input
 whole {s} {h} {j} {need} {count} c e g =
     let p = (arc_on s h j).place in
     let t = (arc_on s h j).transition in
-    let up = sum-next 0 p t s h.arcstart j in
+    let up = sum_next 0 p t s h.arcstart j in
     let own = share-is 0 p t (arc_on s h j) refl c.input refl in
     let alike = run-adds 0 p t s h.arcstart j e (omega (arith, g.after)) (λ i a b.
     let x = g.same i a b in record { transition = x.transition; direction = x.direction ∙ c.input; place = x.place }) in
@@ -66,7 +66,7 @@ none_before : (s : List ℕ) (h : Header) (t from : ℕ) → Split s h.arcstart 
 unfolding slot_at
 none_before s h t from first p = omega (
   arith,
-  weight-none 0 p t s h.arcstart,
+  weight_none 0 p t s h.arcstart,
   sum_same 0 p t s h.arcstart 0 from (omega arith) (λ i l u. share-unless 0 p t (arc_on s h i) (λ e d g. omega (arith, first.below i u))),
 )
 
@@ -100,15 +100,15 @@ module _ {s : List ℕ} {h : Header} {t from middle : ℕ} {m : List ℕ} where
       unfolding slot_at
       input_of i a b =
           let k : i < h.arcs = omega (arith, c.second.within) in
-          let d = (good-at s h c.sound i k).direction in
+          let d = (good_at s h c.sound i k).direction in
           (omega (arith, c.first.above i a k, c.second.below i b), omega (arith, c.first.above i a k, c.second.below i b))
 
       place-known : (arc_on s h j).place < h.places
-      place-known = (good-at s h c.sound j known).place
+      place-known = (good_at s h c.sound j known).place
 
       -- what the arcs before take from the place of arc j, unless it is the last place too
-      none-there : ((arc_on s h j).place ≡ last → ⊥) → weight_on 0 (arc_on s h j).place t (arcs_from s h.arcstart j) ≡ 0
-      none-there n = omega (
+      none_there : ((arc_on s h j).place ≡ last → ⊥) → weight_on 0 (arc_on s h j).place t (arcs_from s h.arcstart j) ≡ 0
+      none_there n = omega (
         arith,
         none_before s h t from c.first (arc_on s h j).place,
         sum_same 0 (arc_on s h j).place t s h.arcstart from j c.begun (λ i a b. share-unless 0 (arc_on s h j).place t (arc_on s h i) (λ e d g. n (there i a b g))),
@@ -150,14 +150,14 @@ module _ {s : List ℕ} {h : Header} {t from middle : ℕ} {m : List ℕ} where
               arith,
               rw q at e,
               own,
-              sum-next 0 (arc_on s h j).place t s h.arcstart j,
+              sum_next 0 (arc_on s h j).place t s h.arcstart j,
               c.so_far,
               ap (λ (k : ℕ). weight_on 0 k t (arcs_from s h.arcstart j)) (eqb-true (arc_on s h j).place last q),
             ))
-            (λ q. omega (arith, rw q at e, own, sum-next 0 (arc_on s h j).place t s h.arcstart j, none-there (eqb-false (arc_on s h j).place last q)))
+            (λ q. omega (arith, rw q at e, own, sum_next 0 (arc_on s h j).place t s h.arcstart j, none_there (eqb-false (arc_on s h j).place last q)))
 
-        low-next : n ≤ 65535 * (j + 1 - from)
-        low-next =
+        low_next : n ≤ 65535 * (j + 1 - from)
+        low_next =
             by_cases (eqb (arc_on s h j).place last)
             (λ q. omega (arith, rw q at e, w, c.low, c.begun))
             (λ q. omega (arith, rw q at e, w, c.begun))
@@ -173,13 +173,13 @@ module _ {s : List ℕ} {h : Header} {t from middle : ℕ} {m : List ℕ} where
           passed = omega arith;
           at_last = λ u. let k : j ≡ j + 1 - 1 = omega arith in ap (λ (i : ℕ). (arc_on s h i).place) k;
           so_far = adds_up;
-          low = low-next;
+          low = low_next;
         }
           where
             at : (p : ℕ) → Dec (p ≡ (arc_on s h j).place) → weight_on 0 p t (arcs_from s h.arcstart (j + 1)) ≤ get_or m p 0
             at p (yes q) =
                 subst (λ (k : ℕ). weight_on 0 k t (arcs_from s h.arcstart (j + 1)) ≤ get_or m k 0) (sym q) (omega (arith, adds_up))
-            at p (no q) = omega (arith, c.enough p, sum-next 0 p t s h.arcstart j, share-unless 0 p t (arc_on s h j) (λ a b z. q (sym z)))
+            at p (no q) = omega (arith, c.enough p, sum_next 0 p t s h.arcstart j, share-unless 0 p t (arc_on s h j) (λ a b z. q (sym z)))
 
         lacking : get_or m (arc_on s h j).place 0 < n → Lacking s h j n (get_or m (arc_on s h j).place 0)
         lacking g =
@@ -189,13 +189,13 @@ module _ {s : List ℕ} {h : Header} {t from middle : ℕ} {m : List ℕ} where
               known = known;
               input = z.0;
               so_far = adds_up ∙ ap (λ (x : ℕ). weight_on 0 (arc_on s h j).place x (arcs_from s h.arcstart (j + 1))) (sym z.1);
-              low = omega (arith, low-next, known, c.sound.placed.arcs);
+              low = omega (arith, low_next, known, c.sound.placed.arcs);
               over = g;
             }
 
-        short-here : get_or m (arc_on s h j).place 0 < n → ShortAt (net_from s h) t (held m) (arc_on s h j).place (need_at s h j - get_or m (arc_on s h j).place 0)
+        short_here : get_or m (arc_on s h j).place 0 < n → ShortAt (net_from s h) t (held m) (arc_on s h j).place (need_at s h j - get_or m (arc_on s h j).place 0)
         unfolding input
-        short-here g =
+        short_here g =
             let more = sum_more 0 (arc_on s h j).place t s h.arcstart (j + 1) h.arcs (omega (arith, known)) in
             record { place = place-known; amount = omega (arith, need-is, adds_up, more); some = omega (arith, need-is, adds_up, more); lowest = lower }
 
@@ -203,7 +203,7 @@ module _ {s : List ℕ} {h : Header} {t from middle : ℕ} {m : List ℕ} where
       pub weigh : (a : Arc) → a ≡ arc_on s h j → a.weight < 65536 → (n : ℕ) → n ≡ choose (eqb a.place last) (need + a.weight) a.weight → Weighed s h t from middle m j a.place n
       weigh a is w n e =
           subst (λ (b : Arc). b.weight < 65536 → n ≡ choose (eqb b.place last) (need + b.weight) b.weight → Weighed s h t from middle m j b.place n) (sym is)
-          (λ v f. record { place = place-known; covers = covered_next n f v; lacks = lacking n f v; short = short-here n f v })
+          (λ v f. record { place = place-known; covers = covered_next n f v; lacks = lacking n f v; short = short_here n f v })
           w e
 
     pub supplied : middle ≤ j → (p : ℕ) → input (net_from s h) p t ≤ get_or m p 0

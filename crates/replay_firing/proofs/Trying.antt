@@ -10,7 +10,7 @@ use lib.Seq.{ext_get_or}
 use Rattle.net.specs.Net.{output, fire, capped, WithinCaps, Supplied, Enabled, FullAt}
 use Rattle.file.specs.Layout.{net_from}
 use Rattle.file_header.specs.declared.Header.{Header}
-use Rattle.file_arcs.proofs.Rows.{weight-le}
+use Rattle.file_arcs.proofs.Rows.{weight_le}
 use Rattle.replay_steps.specs.Steps.{held, Ready, Holds}
 use Rattle.replay_firing.specs.Firing.{Firable, Left, unfired, Overfull, FullFound, Filled}
 use Rattle.replay_firing.specs.declared.Found.{Found}
@@ -23,12 +23,12 @@ module _ {s : List ℕ} {h : Header} {table m : List ℕ} (r : Ready s h table m
 
   few : (p : ℕ) → output (net_from s h) p t ≤ 65535 * h.arcs
   unfolding output
-  few p = weight-le 1 p t s r.bytes h.arcstart h.arcs
+  few p = weight_le 1 p t s r.bytes h.arcstart h.arcs
 
   -- t has fired, and left m₁
   module _ {m₁ : List ℕ} (x : Holds m m₁ (fire (net_from s h) t (held m))) where
-    pub ready-after : Ready s h table m₁
-    ready-after = record { sound = r.sound; bytes = r.bytes; long = r.long; starts = r.starts; places = x.long ∙ r.places }
+    pub ready_after : Ready s h table m₁
+    ready_after = record { sound = r.sound; bytes = r.bytes; long = r.long; starts = r.starts; places = x.long ∙ r.places }
 
     pub left : Left s h t m₁
     unfolding fire WithinCaps

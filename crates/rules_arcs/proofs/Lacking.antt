@@ -16,9 +16,9 @@ use Rattle.file_arcs.specs.Layout.{arc_at}
 use Rattle.file.specs.Layout.{net_from, slice_from}
 use Rattle.file_header.specs.declared.Header.{Header}
 use Rattle.rules_tables.specs.Matched.{Matched}
-use Rattle.numbering.proofs.Lookup.{left_out, is-kept, zero-entry}
-use Rattle.rules_tables.proofs.Runs.{entry_most, entries-rise, weight-found, weight-there}
-use Rattle.file.proofs.Rows.{good-at}
+use Rattle.numbering.proofs.Lookup.{left_out, is_kept, zero_entry}
+use Rattle.rules_tables.proofs.Runs.{entry_most, entries-rise, weight_found, weight_there}
+use Rattle.file.proofs.Rows.{good_at}
 use Rattle.rules_arcs.specs.Links.{Run, Unkept}
 
 -- t is joined in direction d with a wanted place that is not kept
@@ -84,15 +84,15 @@ module _ (plan : List ℕ) (hp : Header) (table slice : List ℕ) (hs : Header) 
 
   module _ (d : ℕ) (dl : d ≤ 1) (from to : ℕ) (low : from ≡ get_or table (2 * t + d) 0) (high : to ≡ get_or table (2 * t + d + 1) 0) where
     -- what the search for a place asks
-    pub arcs-run : (P : ℕ) → hp.places ≤ P → Run plan hp.arcstart from to P
-    arcs-run P u =
+    pub arcs_run : (P : ℕ) → hp.places ≤ P → Run plan hp.arcstart from to P
+    arcs_run P u =
         let p = m.planned.placed in
         let most = entry_most plan hp table m.planned m.starts (2 * t + d + 1) (omega arith) in
         record {
           rising = omega (arith, entries-rise plan hp table m.planned m.starts (2 * t + d) (2 * t + d + 1) (omega arith) (omega arith));
           fit = omega (arith, p.arcs_fit, p.origins_fit);
           short = p.short;
-          reached = λ i a. omega (arith, (good-at plan hp m.planned i (omega arith)).place);
+          reached = λ i a. omega (arith, (good_at plan hp m.planned i (omega arith)).place);
         }
 
     module _ (wanted : ℕ → Bool) where
@@ -103,9 +103,9 @@ module _ (plan : List ℕ) (hp : Header) (table slice : List ℕ) (hs : Header) 
           let f = u.found (is_true r h) in
           let p = (arc_at plan (hp.arcstart + 8 * f.0)).place in
           let few : f.0 < hp.arcs = omega (arith, f.2, entry_most plan hp table m.planned m.starts (2 * t + d + 1) (omega arith)) in
-          let inside : p < hp.places = (good-at plan hp m.planned f.0 few).place in
+          let inside : p < hp.places = (good_at plan hp m.planned f.0 few).place in
           let w = weight_on d p t N.arcs in
-          let some : T (ltb 0 w) = lt→ltb 0 w (weight-there plan hp table m.planned m.starts d t dl l f.0 (omega (arith, low, f.1)) (omega (arith, high, f.2))) in
+          let some : T (ltb 0 w) = lt→ltb 0 w (weight_there plan hp table m.planned m.starts d t dl l f.0 (omega (arith, low, f.1)) (omega (arith, high, f.2))) in
           any-has (λ p. (wanted p && ltb 0 (weight_on d p t N.arcs)) && not (among p os)) (selected (λ p. true) 0 hp.places) p
           (below-has (λ p. true) hp.places p inside tt)
           (and_both (wanted p && ltb 0 w) (not (among p os)) (and_both (wanted p) (ltb 0 w) f.3 some)
@@ -121,18 +121,18 @@ module _ (plan : List ℕ) (hp : Header) (table slice : List ℕ) (hs : Header) 
           let inside : p < hp.places = (below-passes (λ p. true) hp.places p f.1).0 in
           let joined : T (wanted p && ltb 0 w) = and_left (wanted p && ltb 0 w) (not (among p os)) f.2 in
           let out : among p os ≡ false = is_false (among p os) (T_not (among p os) (and_right (wanted p && ltb 0 w) (not (among p os)) f.2)) in
-          let g = weight-found plan hp table m.planned m.starts d t dl l p (ltb→lt 0 w (and_right (wanted p) (ltb 0 w) joined)) in
+          let g = weight_found plan hp table m.planned m.starts d t dl l p (ltb→lt 0 w (and_right (wanted p) (ltb 0 w) joined)) in
           by_cases r (holds r)
           (λ e. absurd (u.none e g.0 (omega (arith, low, g.1)) (omega (arith, high, g.2))
           (subst (λ (q : ℕ). T (wanted q)) (sym g.3) (and_left (wanted p) (ltb 0 w) joined))
-          (ap (λ (q : ℕ). get_or ownp q 0) g.3 ∙ zero-entry os ownp m.places p (omega (arith, inside, m.places_reached)) out)))
+          (ap (λ (q : ℕ). get_or ownp q 0) g.3 ∙ zero_entry os ownp m.places p (omega (arith, inside, m.places_reached)) out)))
 
       -- a kept transition, by its arcs
       lacks : (n : ℕ) → n ≡ get_or ownt t 0 → (n ≡ 0 → ⊥) → (r : Bool) → Unkept plan hp.arcstart from to wanted ownp r
           → r ≡ (among t (slice_from slice hs).transition_origins && not (not (lacking (net_from plan hp) (slice_from slice hs) d wanted t)))
       lacks n e o r u =
           let b = lacking (net_from plan hp) (slice_from slice hs) d wanted t in
-          let k : among t (slice_from slice hs).transition_origins ≡ true = is-kept (slice_from slice hs).transition_origins ownt m.transitions t (omega (arith, m.transitions_reached)) (λ z. o (e ∙ z)) in
+          let k : among t (slice_from slice hs).transition_origins ≡ true = is_kept (slice_from slice hs).transition_origins ownt m.transitions t (omega (arith, m.transitions_reached)) (λ z. o (e ∙ z)) in
           rw k (same_test r b (there r u) (back r u) ∙ sym (double_not b))
 
   -- the entries of the table by their numbers
@@ -148,8 +148,8 @@ module _ (plan : List ℕ) (hp : Header) (table slice : List ℕ) (hs : Header) 
       high : to ≡ get_or table (2 * t + 0 + 1) 0
       high = entry_at (2 * t + 1) (2 * t + 0 + 1) (omega arith) to et
 
-      pub inputs-run : Run plan hp.arcstart from to (length ownp)
-      inputs-run = arcs-run 0 (omega arith) from to low high (length ownp) m.places_reached
+      pub inputs_run : Run plan hp.arcstart from to (length ownp)
+      inputs_run = arcs_run 0 (omega arith) from to low high (length ownp) m.places_reached
 
       pub lacks_input_lem : (n : ℕ) → n ≡ get_or ownt t 0 → (n ≡ 0 → ⊥) → (r : Bool) → Unkept plan hp.arcstart from to (λ p. true) ownp r → r ≡ breaks (rule7 (net_from plan hp) (slice_from slice hs)) t
       unfolding breaks rule7 lacks_input takes_from input
@@ -160,8 +160,8 @@ module _ (plan : List ℕ) (hp : Header) (table slice : List ℕ) (hs : Header) 
       top : to ≡ get_or table (2 * t + 1 + 1) 0
       top = entry_at (2 * t + 2) (2 * t + 1 + 1) (omega arith) to et
 
-      pub outputs-run : Run plan hp.arcstart from to hp.places
-      outputs-run = arcs-run 1 (omega arith) from to ef top hp.places (omega arith)
+      pub outputs_run : Run plan hp.arcstart from to hp.places
+      outputs_run = arcs_run 1 (omega arith) from to ef top hp.places (omega arith)
 
       pub lacks_output_lem : (n : ℕ) → n ≡ get_or ownt t 0 → (n ≡ 0 → ⊥) → (r : Bool) → Unkept plan hp.arcstart from to (capped (net_from plan hp)) ownp r → r ≡ breaks (rule9 (net_from plan hp) (slice_from slice hs)) t
       unfolding breaks rule9 lacks_output adds_to output

@@ -17,15 +17,15 @@ use Rattle.file_arcs.specs.Layout.{arc_at, arcs_from}
 use Rattle.file.specs.Layout.{slice_from}
 use Rattle.file_arcs.specs.Facts.{ArcWord, arc_of}
 use Rattle.file_header.specs.declared.Header.{Header}
-use Rattle.rules_tables.proofs.Rows.{row_cons, row-end, restrict-in, restrict-out}
-use Rattle.numbering.proofs.Lookup.{left_out, is-kept, own-number}
+use Rattle.rules_tables.proofs.Rows.{row_cons, row_end, restrict-in, restrict-out}
+use Rattle.numbering.proofs.Lookup.{left_out, is_kept, own-number}
 use Rattle.rules_arcs.specs.Links.{Against, Step, Walk, numbered, renumbered, arcs_left, kept}
 
 left-cons : (slice : List ℕ) (hs : Header) (k upto : ℕ) → k < upto → arcs_left slice hs k upto ≡ arc_at slice (hs.arcstart + 8 * k) ∷ arcs_left slice hs (k + 1) upto
 left-cons slice hs k upto l = row_cons slice hs.arcstart upto k l
 
 left-none : (slice : List ℕ) (hs : Header) (k upto : ℕ) → upto ≤ k → arcs_left slice hs k upto ≡ []
-left-none slice hs k upto l = row-end slice hs.arcstart upto k l
+left-none slice hs k upto l = row_end slice hs.arcstart upto k l
 
 kept_out : (ps ts : List ℕ) (a : Arc) (rest : List Arc) → among a.place ps ≡ false → restrict ps ts (a ∷ rest) ≡ restrict ps ts rest
 kept_out ps ts a rest e = restrict-out ps ts a rest (rw e)
@@ -63,14 +63,14 @@ module _ (v t m p q : ℕ) (e : v ≡ t + m * 65536 + 4294967296 * p + q * 28147
   first_part : v % 65536 ≡ t
   first_part = omega arith
 
-  second-part : v / 65536 % 65536 ≡ m
-  second-part = omega arith
+  second_part : v / 65536 % 65536 ≡ m
+  second_part = omega arith
 
-  third-part : v / 4294967296 % 65536 ≡ p
-  third-part = omega arith
+  third_part : v / 4294967296 % 65536 ≡ p
+  third_part = omega arith
 
-  fourth-part : v / 281474976710656 ≡ q
-  fourth-part = omega arith
+  fourth_part : v / 281474976710656 ≡ q
+  fourth_part = omega arith
 
 by_parts : (v : ℕ) → v ≡ v % 65536 + v / 65536 % 65536 * 65536 + 4294967296 * (v / 4294967296 % 65536) + v / 281474976710656 * 281474976710656
 by_parts v = omega arith
@@ -93,13 +93,13 @@ module _ (plan : List ℕ) (at w : ℕ) (is : ArcWord plan at w) (zero : byte_at
       let q = w / 281474976710656 in
       let e = eqb→eq v (renumbered w t p) h in
       let ml = low_part (w / 65536) in
-      let direction : (arc_of v).direction ≡ (arc_of w).direction = sym own-middle ∙ second-part v t m p q e tl ml pl ∙ middle in
+      let direction : (arc_of v).direction ≡ (arc_of w).direction = sym own-middle ∙ second_part v t m p q e tl ml pl ∙ middle in
       let last = eqb (arc_of v).weight (arc_of w).weight in
       let third = eqb (arc_of v).place p in
       let second = eqb (arc_of v).direction (arc_of w).direction in
       and_both (eqb (arc_of v).transition t) (second && (third && last)) (equal _ _ (first_part v t m p q e tl ml pl))
       (and_both second (third && last) (equal _ _ direction)
-      (and_both third last (equal _ _ (third-part v t m p q e tl ml pl)) (equal _ _ (fourth-part v t m p q e tl ml pl))))
+      (and_both third last (equal _ _ (third_part v t m p q e tl ml pl)) (equal _ _ (fourth_part v t m p q e tl ml pl))))
 
   word_of : T (same_arc (arc_of v) (numbered (arc_of w) t p)) → T (eqb v (renumbered w t p))
   unfolding same_arc
@@ -128,8 +128,8 @@ module _ (plan : List ℕ) (at w : ℕ) (is : ArcWord plan at w) (zero : byte_at
 
 -- n is what the table has for the place of the plan's arc at `at`
 module _ (plan : List ℕ) (at : ℕ) (slice : List ℕ) (hs : Header) (k upto : ℕ) (ownp : List ℕ) (own : ℕ) (w : Walk plan at slice hs ownp own) (g : Against slice hs k upto ownp) (n : ℕ) (e : n ≡ get_or ownp (arc_at plan at).place 0) where
-  pub step-out : n ≡ 0 → Step (arc_at plan at) slice hs k upto k
-  step-out z = record {
+  pub step_out : n ≡ 0 → Step (arc_at plan at) slice hs k upto k
+  step_out z = record {
     least = omega arith;
     differs = λ l rest. absurd (omega (arith, g.rising));
     agrees = λ l rest. ap (same_arcs (arcs_left slice hs k upto)) (kept_out (slice_from slice hs).place_origins (slice_from slice hs).transition_origins (arc_at plan at) rest
@@ -143,10 +143,10 @@ module _ (plan : List ℕ) (at : ℕ) (slice : List ℕ) (hs : Header) (k upto :
     next : (rest : List Arc) → kept slice hs (arc_at plan at ∷ rest) ≡ renumber (slice_from slice hs).place_origins (slice_from slice hs).transition_origins (arc_at plan at) ∷ kept slice hs rest
     next rest =
         kept_in (slice_from slice hs).place_origins (slice_from slice hs).transition_origins (arc_at plan at) rest
-        (is-kept (slice_from slice hs).place_origins ownp g.places (arc_at plan at).place w.reached some) w.held
+        (is_kept (slice_from slice hs).place_origins ownp g.places (arc_at plan at).place w.reached some) w.held
 
-    is-due : numbered (arc_at plan at) own (n - 1) ≡ renumber (slice_from slice hs).place_origins (slice_from slice hs).transition_origins (arc_at plan at)
-    is-due =
+    is_due : numbered (arc_at plan at) own (n - 1) ≡ renumber (slice_from slice hs).place_origins (slice_from slice hs).transition_origins (arc_at plan at)
+    is_due =
         as_numbered (slice_from slice hs).place_origins (slice_from slice hs).transition_origins (arc_at plan at) own (n - 1) w.number
         (omega (arith, e, own-number (slice_from slice hs).place_origins ownp g.places (arc_at plan at).place w.reached some))
 
@@ -163,7 +163,7 @@ module _ (plan : List ℕ) (at : ℕ) (slice : List ℕ) (hs : Header) (k upto :
       compared : (rest : List Arc) → same_arcs (arcs_left slice hs k upto) (kept slice hs (arc_at plan at ∷ rest)) ≡ (v && same_arcs (arcs_left slice hs (k + 1) upto) (kept slice hs rest))
       compared rest =
           rw (left-cons slice hs k upto l, next rest)
-          (heads _ _ _ _ v (sym (s ∙ ap (same_arc (arc_at slice (hs.arcstart + 8 * k))) is-due)))
+          (heads _ _ _ _ v (sym (s ∙ ap (same_arc (arc_at slice (hs.arcstart + 8 * k))) is_due)))
 
       pub step_same : v ≡ true → Step (arc_at plan at) slice hs k upto (k + 1)
       step_same z = record {
@@ -209,7 +209,7 @@ module _ (plan : List ℕ) (start from to : ℕ) (slice : List ℕ) (hs : Header
 
   end : to ≤ j → kept slice hs (arcs_from plan (start + 8 * j) (to - j)) ≡ []
   unfolding restrict
-  end l = rw (row-end plan start to j l)
+  end l = rw (row_end plan start to j l)
 
   left_over : same_arcs (arcs_left slice hs k upto) [] ≡ eqb k upto
   left_over =

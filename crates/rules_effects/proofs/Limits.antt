@@ -19,12 +19,12 @@ use Rattle.file.proofs.Criterion.{passed}
 use Rattle.arcs_column.specs.Gain.{pulls}
 use Rattle.numbering.specs.Own.{Own}
 use Rattle.rules_tables.specs.Matched.{Matched}
-use Rattle.numbering.proofs.Lookup.{left_out, is-kept}
+use Rattle.numbering.proofs.Lookup.{left_out, is_kept}
 use Rattle.rules_tables.proofs.Caps.{capped-known}
-use Rattle.rules_tables.proofs.Runs.{entry_most, weight-found}
-use Rattle.file.proofs.Rows.{good-at}
+use Rattle.rules_tables.proofs.Runs.{entry_most, weight_found}
+use Rattle.file.proofs.Rows.{good_at}
 use Rattle.rules_effects.specs.Movers.{limit_on, change_limit, moved}
-use Rattle.rules_effects.proofs.Moving.{weight-most}
+use Rattle.rules_effects.proofs.Moving.{weight_most}
 
 -- nothing passes 2 ^ 32 - 1
 pub pulls-never : (g : ℕ) → g < 4294967296 → pulls 4294967295 g ≡ false
@@ -75,11 +75,11 @@ module _ (N : Net) (limit : List ℕ) (t : ℕ) (L : List ℕ) (acts : ℕ → B
 module _ (plan : List ℕ) (hp : Header) (table slice : List ℕ) (hs : Header) (ownp ownt : List ℕ) (m : Matched plan hp table slice hs ownp ownt) (bytes : (i : ℕ) → byte_at plan i < 256) (limit : List ℕ) where
   pub input-most : (p t : ℕ) → t < hp.transitions → input (net_from plan hp) p t ≤ 268435456
   unfolding input
-  input-most p t l = weight-most plan hp table m.planned m.starts bytes 0 p t (omega arith) l
+  input-most p t l = weight_most plan hp table m.planned m.starts bytes 0 p t (omega arith) l
 
   pub output-most : (p t : ℕ) → t < hp.transitions → output (net_from plan hp) p t ≤ 268435456
   unfolding output
-  output-most p t l = weight-most plan hp table m.planned m.starts bytes 1 p t (omega arith) l
+  output-most p t l = weight_most plan hp table m.planned m.starts bytes 1 p t (omega arith) l
 
   -- ---- rule 6
   module _ (Q : List ℕ) (e : criterion_refusal hp.places Q ≡ 0) (limits : (p : ℕ) → p < hp.places → get_or limit p 0 ≡ limit_on (among p Q) 0 4294967295) where
@@ -106,7 +106,7 @@ module _ (plan : List ℕ) (hp : Header) (table slice : List ℕ) (hs : Header) 
     limit_is p u =
         by_cases (eqb (get_or ownp p 0) 0)
         (λ z. limits p u ∙ rw (z, left_out (slice_from slice hs).place_origins ownp m.places p (omega (arith, m.places_reached)) (eqb-true _ _ z)))
-        (λ z. limits p u ∙ rw (z, is-kept (slice_from slice hs).place_origins ownp m.places p (omega (arith, m.places_reached)) (eqb-false _ _ z)))
+        (λ z. limits p u ∙ rw (z, is_kept (slice_from slice hs).place_origins ownp m.places p (omega (arith, m.places_reached)) (eqb-false _ _ z)))
 
     raised : (t : ℕ) → t < hp.transitions → (p : ℕ) → p < hp.places
         → pulls (get_or limit p 0) (1073741824 + output (net_from plan hp) p t - input (net_from plan hp) p t) ≡ (among p (slice_from slice hs).place_origins && raises (net_from plan hp) t p)
@@ -123,8 +123,8 @@ module _ (plan : List ℕ) (hp : Header) (table slice : List ℕ) (hs : Header) 
     unfolding raises output
     raised-known t l p k =
         let w = ltb→lt (input (net_from plan hp) p t) (output (net_from plan hp) p t) k in
-        let f = weight-found plan hp table m.planned m.starts 1 t (omega arith) l p (omega arith) in
-        let g = good-at plan hp m.planned f.0 (omega (arith, f.2, entry_most plan hp table m.planned m.starts (2 * t + 1 + 1) (omega arith))) in
+        let f = weight_found plan hp table m.planned m.starts 1 t (omega arith) l p (omega arith) in
+        let g = good_at plan hp m.planned f.0 (omega (arith, f.2, entry_most plan hp table m.planned m.starts (2 * t + 1 + 1) (omega arith))) in
         omega (arith, g.place, f.3)
 
     pub first-raiser : (r : ℕ) → r ≡ first (λ t. moved (net_from plan hp) limit t && not (among t (slice_from slice hs).transition_origins)) 0 hp.transitions
@@ -137,43 +137,43 @@ module _ (plan : List ℕ) (hp : Header) (table slice : List ℕ) (hs : Header) 
   -- ---- rule 10
   module _ (limits : (p : ℕ) → p < hp.places → get_or limit p 0 ≡ change_limit (get_or ownp p 0) ((net_from plan hp).cap p)) where
     -- the limit of a place that is kept and capped, and of the others
-    cap-limit : (p : ℕ) → p < hp.places → get_or limit p 0 ≡ limit_on (among p (slice_from slice hs).place_origins && capped (net_from plan hp) p) 0 4294967295
+    cap_limit : (p : ℕ) → p < hp.places → get_or limit p 0 ≡ limit_on (among p (slice_from slice hs).place_origins && capped (net_from plan hp) p) 0 4294967295
     unfolding capped
-    cap-limit p u =
+    cap_limit p u =
         let n = (net_from plan hp).cap p in
         let own = get_or ownp p 0 in
         by_cases (eqb own 0)
         (λ z. limits p u ∙ rw (z, left_out (slice_from slice hs).place_origins ownp m.places p (omega (arith, m.places_reached)) (eqb-true own 0 z)))
-        (λ z. let kept = is-kept (slice_from slice hs).place_origins ownp m.places p (omega (arith, m.places_reached)) (eqb-false own 0 z) in
+        (λ z. let kept = is_kept (slice_from slice hs).place_origins ownp m.places p (omega (arith, m.places_reached)) (eqb-false own 0 z) in
         by_cases (eqb n 0)
         (λ y. limits p u ∙ rw (z, y, kept, le-ltb 0 n (omega (arith, eqb-true n 0 y))))
         (λ y. limits p u ∙ rw (z, y, kept, lt-ltb 0 n (let o = eqb-false n 0 y in omega arith))))
 
-    cap-changed : (t : ℕ) → t < hp.transitions → (p : ℕ) → p < hp.places
+    cap_changed : (t : ℕ) → t < hp.transitions → (p : ℕ) → p < hp.places
         → pulls (get_or limit p 0) (1073741824 + output (net_from plan hp) p t - input (net_from plan hp) p t) ≡ (among p (slice_from slice hs).place_origins && (capped (net_from plan hp) p && changes (net_from plan hp) t p))
     unfolding changes
-    cap-changed t l p u =
+    cap_changed t l p u =
         let i = input (net_from plan hp) p t in
         let o = output (net_from plan hp) p t in
         let kept = among p (slice_from slice hs).place_origins in
         let bound = capped (net_from plan hp) p in
         by_cases (kept && bound)
-        (λ k. ap (λ (n : ℕ). pulls n (1073741824 + o - i)) (cap-limit p u ∙ ap (λ (b : Bool). limit_on b 0 4294967295) k) ∙ pulls-changed i o (input-most p t l) ∙ sym (ap (λ (b : Bool). b && not (eqb i o)) k) ∙ and_again kept bound (not (eqb i o)))
-        (λ k. ap (λ (n : ℕ). pulls n (1073741824 + o - i)) (cap-limit p u ∙ ap (λ (b : Bool). limit_on b 0 4294967295) k) ∙ pulls-never (1073741824 + o - i) (omega (arith, output-most p t l)) ∙ sym (ap (λ (b : Bool). b && not (eqb i o)) k) ∙ and_again kept bound (not (eqb i o)))
+        (λ k. ap (λ (n : ℕ). pulls n (1073741824 + o - i)) (cap_limit p u ∙ ap (λ (b : Bool). limit_on b 0 4294967295) k) ∙ pulls-changed i o (input-most p t l) ∙ sym (ap (λ (b : Bool). b && not (eqb i o)) k) ∙ and_again kept bound (not (eqb i o)))
+        (λ k. ap (λ (n : ℕ). pulls n (1073741824 + o - i)) (cap_limit p u ∙ ap (λ (b : Bool). limit_on b 0 4294967295) k) ∙ pulls-never (1073741824 + o - i) (omega (arith, output-most p t l)) ∙ sym (ap (λ (b : Bool). b && not (eqb i o)) k) ∙ and_again kept bound (not (eqb i o)))
 
     pub first-cap_changer : (r : ℕ) → r ≡ first (λ t. moved (net_from plan hp) limit t && not (among t (slice_from slice hs).transition_origins)) 0 hp.transitions
         → r ≡ breaker (rule10 (net_from plan hp) (slice_from slice hs))
     unfolding breaker breaks rule10
     first-cap_changer r q =
         q ∙ first-same _ _ 0 hp.transitions (λ t a l. ap (λ (b : Bool). b && not (among t (slice_from slice hs).transition_origins))
-        (moved_as (net_from plan hp) limit t (slice_from slice hs).place_origins (λ p. capped (net_from plan hp) p && changes (net_from plan hp) t p) (cap-changed t (omega arith))
+        (moved_as (net_from plan hp) limit t (slice_from slice hs).place_origins (λ p. capped (net_from plan hp) p && changes (net_from plan hp) t p) (cap_changed t (omega arith))
         (λ p k c. capped-known plan hp p (and_left (capped (net_from plan hp) p) (changes (net_from plan hp) t p) c))))
 
 -- ---- only transitions left out count
 
 module _ (os ownt : List ℕ) (o : Own os ownt) (t : ℕ) (l : t < length ownt) (n : ℕ) (e : n ≡ get_or ownt t 0) where
   pub when_kept : (n ≡ 0 → ⊥) → (v : Bool) → false ≡ (v && not (among t os))
-  when_kept z v = go v (among t os) (is-kept os ownt o t l (λ q. z (e ∙ q)))
+  when_kept z v = go v (among t os) (is_kept os ownt o t l (λ q. z (e ∙ q)))
     where
       go : (v b : Bool) → b ≡ true → false ≡ (v && not b)
       go true true q = refl
@@ -189,5 +189,5 @@ module _ (os ownt : List ℕ) (o : Own os ownt) (t : ℕ) (l : t < length ownt) 
       go v true q = absurd (let z : ◌≡◌ {A = ℕ} 0 1 = cc in omega arith)
 
 -- the limits have an entry for each place of the criterion
-pub criterion-fits : (P : ℕ) (Q : List ℕ) → criterion_refusal P Q ≡ 0 → (n : ℕ) → P ≤ n → (i : ℕ) → i < length Q → get_or Q i 0 < n
-criterion-fits P Q e n l i u = omega (arith, (passed P Q e).known_at i u)
+pub criterion_fits : (P : ℕ) (Q : List ℕ) → criterion_refusal P Q ≡ 0 → (n : ℕ) → P ≤ n → (i : ℕ) → i < length Q → get_or Q i 0 < n
+criterion_fits P Q e n l i u = omega (arith, (passed P Q e).known_at i u)

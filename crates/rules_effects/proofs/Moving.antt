@@ -22,8 +22,8 @@ use Rattle.file_words.proofs.Bytes.{le16-lt}
 use Rattle.arcs_column.specs.Gain.{sum_to, part, pulls, pulls_at, pulled_in, pulled_to, Run, Takes, Gives, Rested}
 use Rattle.arcs_column.proofs.Sums.{part-other}
 use Rattle.rules_tables.specs.Matched.{Starts}
-use Rattle.rules_tables.proofs.Runs.{entry_most, entries-rise, run-weight, weight-found}
-use Rattle.file.proofs.Rows.{good-at}
+use Rattle.rules_tables.proofs.Runs.{entry_most, entries-rise, run-weight, weight_found}
+use Rattle.file.proofs.Rows.{good_at}
 use Rattle.rules_effects.specs.Movers.{moved, Resting}
 
 -- ---- sums are small
@@ -96,8 +96,8 @@ pub record Turn (s : List ℕ) (h : Header) (t from middle to : ℕ) (limit colu
 
 module _ (s : List ℕ) (h : Header) (table : List ℕ) (so : Sound s h) (st : Starts s h table) (bytes : (i : ℕ) → byte_at s i < 256) where
   -- weights are small
-  pub weight-most : (d p t : ℕ) → d ≤ 1 → t < h.transitions → weight_on d p t (net_from s h).arcs ≤ 268435456
-  weight-most d p t dl l =
+  pub weight_most : (d p t : ℕ) → d ≤ 1 → t < h.transitions → weight_on d p t (net_from s h).arcs ≤ 268435456
+  weight_most d p t dl l =
       omega (
         arith,
         so.placed.arcs,
@@ -116,11 +116,11 @@ module _ (s : List ℕ) (h : Header) (table : List ℕ) (so : Sound s h) (st : S
     high : get_or table (2 * t + 1 + 1) 0 ≡ to
     high = ap (λ (k : ℕ). get_or table k 0) (let e : 2 * t + 1 + 1 ≡ 2 * t + 2 = omega arith in e) ∙ sym et
 
-    rise-in : from ≤ middle
-    rise-in = omega (arith, entries-rise s h table so st (2 * t) (2 * t + 1) (omega arith) (omega arith))
+    rise_in : from ≤ middle
+    rise_in = omega (arith, entries-rise s h table so st (2 * t) (2 * t + 1) (omega arith) (omega arith))
 
-    rise-out : middle ≤ to
-    rise-out = omega (arith, entries-rise s h table so st (2 * t + 1) (2 * t + 2) (omega arith) (omega arith))
+    rise_out : middle ≤ to
+    rise_out = omega (arith, entries-rise s h table so st (2 * t + 1) (2 * t + 2) (omega arith) (omega arith))
 
     most : to ≤ h.arcs
     most = omega (arith, entry_most s h table so st (2 * t + 2) (omega arith))
@@ -135,7 +135,7 @@ module _ (s : List ℕ) (h : Header) (table : List ℕ) (so : Sound s h) (st : S
 
     input-most : (p : ℕ) → input (net_from s h) p t ≤ 268435456
     unfolding input
-    input-most p = weight-most 0 p t (omega arith) l
+    input-most p = weight_most 0 p t (omega arith) l
 
     -- an arc of t at p, or no weight there
     At : ℕ → Type 0
@@ -144,17 +144,17 @@ module _ (s : List ℕ) (h : Header) (table : List ℕ) (so : Sound s h) (st : S
     by_input : (p : ℕ) → 0 < input (net_from s h) p t → At p
     unfolding input At
     by_input p w =
-        let f = weight-found s h table so st 0 t (omega arith) l p w in
-        (f.0, omega (arith, f.1, low), omega (arith, f.2, half, rise-out), f.3)
+        let f = weight_found s h table so st 0 t (omega arith) l p w in
+        (f.0, omega (arith, f.1, low), omega (arith, f.2, half, rise_out), f.3)
 
     by_output : (p : ℕ) → 0 < output (net_from s h) p t → At p
     unfolding output At
     by_output p w =
-        let f = weight-found s h table so st 1 t (omega arith) l p w in
-        (f.0, omega (arith, f.1, em, rise-in), omega (arith, f.2, high), f.3)
+        let f = weight_found s h table so st 1 t (omega arith) l p w in
+        (f.0, omega (arith, f.1, em, rise_in), omega (arith, f.2, high), f.3)
 
-    at-or_none : (p : ℕ) → At p ⊎ ((input (net_from s h) p t ≡ 0) × (output (net_from s h) p t ≡ 0))
-    at-or_none p = go (dec_lt 0 (input (net_from s h) p t)) (dec_lt 0 (output (net_from s h) p t))
+    at_or_none : (p : ℕ) → At p ⊎ ((input (net_from s h) p t ≡ 0) × (output (net_from s h) p t ≡ 0))
+    at_or_none p = go (dec_lt 0 (input (net_from s h) p t)) (dec_lt 0 (output (net_from s h) p t))
       where
         go : Dec (0 < input (net_from s h) p t) → Dec (0 < output (net_from s h) p t) → At p ⊎ ((input (net_from s h) p t ≡ 0) × (output (net_from s h) p t ≡ 0))
         go (yes w) d = inl (by_input p w)
@@ -165,7 +165,7 @@ module _ (s : List ℕ) (h : Header) (table : List ℕ) (so : Sound s h) (st : S
 
     module _ (column : List ℕ) (x : Resting h.places column) where
       inside : (i : ℕ) → i < to → (arc_at s (h.arcstart + 8 * i)).place < length column
-      inside i u = omega (arith, x.reached, (good-at s h so i (omega (arith, most))).place)
+      inside i u = omega (arith, x.reached, (good_at s h so i (omega (arith, most))).place)
 
       at_first : (p : ℕ) → p < length column → get_or column p 0 ≡ 1073741824
       at_first p u = x.rest p u
@@ -186,36 +186,36 @@ module _ (s : List ℕ) (h : Header) (table : List ℕ) (so : Sound s h) (st : S
 
       -- inputs can be taken
       take-run : Run s h.arcstart from middle (length column)
-      take-run = runs from middle (length column) rise-in rise-out refl
+      take-run = runs from middle (length column) rise_in rise_out refl
 
       take-room : (p : ℕ) → sum_to s h.arcstart p middle ≤ get_or column p 0 + sum_to s h.arcstart p from
       take-room p = go (dec_lt p (length column))
         where
           go : Dec (p < length column) → sum_to s h.arcstart p middle ≤ get_or column p 0 + sum_to s h.arcstart p from
-          go (yes u) = omega (arith, at_first p u, small p middle rise-out)
-          go (no u) = omega (arith, outside p middle rise-out (omega (arith, u)))
+          go (yes u) = omega (arith, at_first p u, small p middle rise_out)
+          go (no u) = omega (arith, outside p middle rise_out (omega (arith, u)))
 
       module _ (second : List ℕ) (tk : Takes s h.arcstart from middle column second) where
         -- outputs can be given
         give_run : Run s h.arcstart middle to (length second)
-        give_run = runs middle to (length second) rise-out (omega arith) tk.long
+        give_run = runs middle to (length second) rise_out (omega arith) tk.long
 
         give_room : (p : ℕ) → get_or second p 0 + sum_to s h.arcstart p to < 4294967296 + sum_to s h.arcstart p middle
         give_room p = go (dec_lt p (length column))
           where
             go : Dec (p < length column) → get_or second p 0 + sum_to s h.arcstart p to < 4294967296 + sum_to s h.arcstart p middle
-            go (yes u) = omega (arith, tk.at p, at_first p u, small p to (omega arith), small p from (omega (arith, rise-in, rise-out)))
+            go (yes u) = omega (arith, tk.at p, at_first p u, small p to (omega arith), small p from (omega (arith, rise_in, rise_out)))
             go (no u) = omega (arith, outside p to (omega arith) (omega (arith, u)), get_d_past second p (omega (arith, tk.long, u)))
 
         module _ (third : List ℕ) (gv : Gives s h.arcstart middle to second third) where
-          same-long : length third ≡ length column
-          same-long = gv.long ∙ tk.long
+          same_long : length third ≡ length column
+          same_long = gv.long ∙ tk.long
 
           pulled_run : Run s h.arcstart from to (length third)
-          pulled_run = runs from to (length third) (omega (arith, rise-in, rise-out)) (omega arith) same-long
+          pulled_run = runs from to (length third) (omega (arith, rise_in, rise_out)) (omega arith) same_long
 
-          third-long : (limit : List ℕ) → length limit ≡ length column → length limit ≡ length third
-          third-long limit e = e ∙ sym same-long
+          third_long : (limit : List ℕ) → length limit ≡ length column → length limit ≡ length third
+          third_long limit e = e ∙ sym same_long
 
           -- the column then stands at 2 ^ 30 and the effect
           column_is : (p : ℕ) → p < length column → get_or third p 0 ≡ 1073741824 + output (net_from s h) p t - input (net_from s h) p t
@@ -230,8 +230,8 @@ module _ (s : List ℕ) (h : Header) (table : List ℕ) (so : Sound s h) (st : S
           there limit k =
               let f = pulled_found s h.arcstart limit third from (to - from) k in
               let p = (arc_at s (h.arcstart + 8 * f.0)).place in
-              let low-to : f.0 < to = omega (arith, f.2, rise-in, rise-out) in
-              let known : p < h.places = (good-at s h so f.0 (omega (arith, most))).place in
+              let low-to : f.0 < to = omega (arith, f.2, rise_in, rise_out) in
+              let known : p < h.places = (good_at s h so f.0 (omega (arith, most))).place in
               any-has (λ p. pulls (get_or limit p 0) (1073741824 + output (net_from s h) p t - input (net_from s h) p t)) (selected (λ p. true) 0 h.places) p
               (below-has (λ p. true) h.places p known tt)
               (subst T (here limit p p refl (inside f.0 low-to)) f.3)
@@ -248,7 +248,7 @@ module _ (s : List ℕ) (h : Header) (table : List ℕ) (so : Sound s h) (st : S
               pulled_has s h.arcstart limit third from (to - from) (g.0 - from) (omega (arith, g.1, g.2))
               (subst T (sym (here limit p (arc_at s (h.arcstart + 8 * (from + (g.0 - from)))).place (ap (λ (i : ℕ). (arc_at s (h.arcstart + 8 * i)).place) e ∙ g.3) u)) f.2))
               (λ g. absurd (resting_still (get_or limit p 0) _ (omega (arith, g.0, g.1)) f.2))
-              (at-or_none p)
+              (at_or_none p)
 
           -- the answer
           moved-is : (limit : List ℕ) (r : Bool) → r ≡ pulled_to s h.arcstart limit third from to → r ≡ moved (net_from s h) limit t
@@ -258,12 +258,12 @@ module _ (s : List ℕ) (h : Header) (table : List ℕ) (so : Sound s h) (st : S
           rests_again : (last : List ℕ) → Rested s h.arcstart from to third last → Resting h.places last
           unfolding At
           rests_again last z = record {
-            reached = omega (arith, x.reached, z.long, same-long);
+            reached = omega (arith, x.reached, z.long, same_long);
             rest = λ p u. ⊎_elim
                 (λ e. ⊎_elim
                 (λ g. ap (λ (q : ℕ). get_or last q 0) (sym g.3) ∙ z.here g.0 g.1 g.2)
-                (λ g. omega (arith, e, g.0, g.1, column_is p (omega (arith, z.long, same-long))))
-                (at-or_none p))
+                (λ g. omega (arith, e, g.0, g.1, column_is p (omega (arith, z.long, same_long))))
+                (at_or_none p))
                 (λ e. e)
                 (z.other p);
           }
@@ -272,6 +272,6 @@ module _ (s : List ℕ) (h : Header) (table : List ℕ) (so : Sound s h) (st : S
       turn limit e = record {
         taking = (take-run, take-room);
         giving = λ second tk. (give_run second tk, give_room second tk);
-        pulling = λ second tk third gv. (pulled_run second tk third gv, third-long second tk third gv limit e);
+        pulling = λ second tk third gv. (pulled_run second tk third gv, third_long second tk third gv limit e);
         answer = λ second tk third gv r last a z. (moved-is second tk third gv limit r a, rests_again second tk third gv last z);
       }

@@ -16,17 +16,17 @@ use Rattle.rules_origins.specs.Known.{Known, first_unknown}
 -- ---- rules 1 and 2: an origin that the plan does not know
 
 module _ (limit : ℕ) (os : List ℕ) (n : ℕ) where
-  pub unknown-at : (i : ℕ) → i < n → limit ≤ get_or os i 0 → ((k : ℕ) → k < i → get_or os k 0 < limit) → i ≡ first_unknown limit os n
+  pub unknown_at : (i : ℕ) → i < n → limit ≤ get_or os i 0 → ((k : ℕ) → k < i → get_or os k 0 < limit) → i ≡ first_unknown limit os n
   unfolding first_unknown
-  unknown-at i l e known = first-is _ n i l (rw (le-ltb (get_or os i 0) limit e)) (λ k d. rw (lt-ltb (get_or os k 0) limit (known k d)))
+  unknown_at i l e known = first-is _ n i l (rw (le-ltb (get_or os i 0) limit e)) (λ k d. rw (lt-ltb (get_or os k 0) limit (known k d)))
 
-  pub unknown-none : ((k : ℕ) → k < n → get_or os k 0 < limit) → n ≡ first_unknown limit os n
+  pub unknown_none : ((k : ℕ) → k < n → get_or os k 0 < limit) → n ≡ first_unknown limit os n
   unfolding first_unknown
-  unknown-none known = first-none _ n (λ k d. rw (lt-ltb (get_or os k 0) limit (known k d)))
+  unknown_none known = first-none _ n (λ k d. rw (lt-ltb (get_or os k 0) limit (known k d)))
 
 -- origins rise: the last decides
-pub last-decides : (limit : ℕ) (os : List ℕ) → RisingFrom 0 os → (m : ℕ) → m < length os → get_or os m 0 < limit → (k : ℕ) → k < m + 1 → get_or os k 0 < limit
-last-decides limit os r m l h k d = by_order k m (λ e. omega (arith, rises os 0 r k m e l)) (λ e. rw e h) (λ e. absurd (omega arith))
+pub last_decides : (limit : ℕ) (os : List ℕ) → RisingFrom 0 os → (m : ℕ) → m < length os → get_or os m 0 < limit → (k : ℕ) → k < m + 1 → get_or os k 0 < limit
+last_decides limit os r m l h k d = by_order k m (λ e. omega (arith, rises os 0 r k m e l)) (λ e. rw e h) (λ e. absurd (omega arith))
 
 -- where none is unknown, all are known
 pub all_known : (limit : ℕ) (os : List ℕ) (n : ℕ) → length os ≡ n → n ≤ first_unknown limit os n → Known limit os

@@ -15,5 +15,5 @@ module _ (s : List ℕ) (h : Header) (w : Sound s h) (k : h.kind ≡ 1) where
   pub place-origins : Origins s h.originstart h.places
   place-origins = record { fit = omega (arith, whole); few = w.placed.places; rise = w.place_origins k }
 
-  pub transition-origins : Origins s (h.originstart + 2 * h.places) h.transitions
-  transition-origins = record { fit = omega (arith, whole); few = w.placed.transitions; rise = w.transition_origins k }
+  pub origins_of_transitions : Origins s (h.originstart + 2 * h.places) h.transitions
+  origins_of_transitions = record { fit = omega (arith, whole); few = w.placed.transitions; rise = w.transition_origins k }

@@ -8,7 +8,7 @@ use Rattle.net.specs.Numbers.{among}
 use Rattle.net.specs.Slice.{renumber, restrict}
 use Rattle.net.specs.declared.Arc.{Arc}
 use Rattle.file_arcs.specs.Layout.{arc_at, arcs_from}
-use Rattle.file_arcs.proofs.Laws.{arcs-cons, arcs-none}
+use Rattle.file_arcs.proofs.Laws.{arcs_cons, arcs_none}
 
 -- of n arcs, those from k on
 module _ (s : List ℕ) (start n k : ℕ) where
@@ -16,12 +16,12 @@ module _ (s : List ℕ) (start n k : ℕ) where
   row_cons l =
       let e : start + 8 * k + 8 ≡ start + 8 * (k + 1) = omega arith in
       let f : n - k - 1 ≡ n - (k + 1) = omega arith in
-      arcs-cons s (start + 8 * k) (n - k) (omega arith)
+      arcs_cons s (start + 8 * k) (n - k) (omega arith)
       ∙ ap (λ (at : ℕ). arc_at s (start + 8 * k) ∷ arcs_from s at (n - k - 1)) e
       ∙ ap (λ (m : ℕ). arc_at s (start + 8 * k) ∷ arcs_from s (start + 8 * (k + 1)) m) f
 
-  pub row-end : n ≤ k → arcs_from s (start + 8 * k) (n - k) ≡ []
-  row-end l = arcs-none s (start + 8 * k) (n - k) (omega arith)
+  pub row_end : n ≤ k → arcs_from s (start + 8 * k) (n - k) ≡ []
+  row_end l = arcs_none s (start + 8 * k) (n - k) (omega arith)
 
 -- an arc between what is kept, and one that is not
 module _ (ps ts : List ℕ) (a : Arc) (rest : List Arc) where

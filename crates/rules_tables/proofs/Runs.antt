@@ -18,29 +18,29 @@ use Rattle.file.specs.Layout.{net_from}
 use Rattle.file.specs.Facts.{Sound}
 use Rattle.file_header.specs.declared.Header.{Header}
 use Rattle.arcs_starts.specs.Table.{slot_at, Split}
-use Rattle.file_arcs.proofs.Rows.{arcs-append, first, later}
-use Rattle.file.proofs.Rows.{good-at}
+use Rattle.file_arcs.proofs.Rows.{arcs_append, first, later}
+use Rattle.file.proofs.Rows.{good_at}
 use Rattle.arcs_column.specs.Gain.{sum_to, part}
-use Rattle.arcs_column.proofs.Sums.{sum-next, sum_more, part-here}
-use Rattle.arcs_column.proofs.Weights.{weight-run}
+use Rattle.arcs_column.proofs.Sums.{sum_next, sum_more, part-here}
+use Rattle.arcs_column.proofs.Weights.{weight_run}
 use Rattle.rules_tables.specs.Matched.{Starts}
 
 -- ---- rows of arcs
 
 -- where no arc is of transition t, and where each is
-arcs-none : (t : ℕ) (s : List ℕ) (at n : ℕ) → ((i : ℕ) → i < n → (arc_at s (at + 8 * i)).transition ≡ t → ⊥) → arcs_of t (arcs_from s at n) ≡ []
+arcs_none : (t : ℕ) (s : List ℕ) (at n : ℕ) → ((i : ℕ) → i < n → (arc_at s (at + 8 * i)).transition ≡ t → ⊥) → arcs_of t (arcs_from s at n) ≡ []
 unfolding arcs_from arcs_of
-arcs-none t s at zero h = refl
-arcs-none t s at (suc n) h =
+arcs_none t s at zero h = refl
+arcs_none t s at (suc n) h =
     let e : eqb (arc_at s at).transition t ≡ false = ne_eqb (arc_at s at).transition t (λ q. h 0 (omega arith) (ap (λ (a : Arc). a.transition) (first s at) ∙ q)) in
-    rw (e, arcs_of) (arcs-none t s (at + 8) n (λ i l q. h (suc i) (omega arith) (ap (λ (a : Arc). a.transition) (later s at i) ∙ q)))
+    rw (e, arcs_of) (arcs_none t s (at + 8) n (λ i l q. h (suc i) (omega arith) (ap (λ (a : Arc). a.transition) (later s at i) ∙ q)))
 
-arcs-all : (t : ℕ) (s : List ℕ) (at n : ℕ) → ((i : ℕ) → i < n → (arc_at s (at + 8 * i)).transition ≡ t) → arcs_of t (arcs_from s at n) ≡ arcs_from s at n
+arcs_all : (t : ℕ) (s : List ℕ) (at n : ℕ) → ((i : ℕ) → i < n → (arc_at s (at + 8 * i)).transition ≡ t) → arcs_of t (arcs_from s at n) ≡ arcs_from s at n
 unfolding arcs_from arcs_of
-arcs-all t s at zero h = refl
-arcs-all t s at (suc n) h =
+arcs_all t s at zero h = refl
+arcs_all t s at (suc n) h =
     let e : eqb (arc_at s at).transition t ≡ true = eq-eqb (arc_at s at).transition t (sym (ap (λ (a : Arc). a.transition) (first s at)) ∙ h 0 (omega arith)) in
-    rw (e, arcs_of) (ap (λ (l : List Arc). arc_at s at ∷ l) (arcs-all t s (at + 8) n (λ i l. sym (ap (λ (a : Arc). a.transition) (later s at i)) ∙ h (suc i) (omega arith))))
+    rw (e, arcs_of) (ap (λ (l : List Arc). arc_at s at ∷ l) (arcs_all t s (at + 8) n (λ i l. sym (ap (λ (a : Arc). a.transition) (later s at i)) ∙ h (suc i) (omega arith))))
 
 -- the arcs in the middle of a row are those of t
 between : (t : ℕ) (s : List ℕ) (at b m r : ℕ)
@@ -49,13 +49,13 @@ between : (t : ℕ) (s : List ℕ) (at b m r : ℕ)
     → ((i : ℕ) → i < r → (arc_at s (at + 8 * b + 8 * m + 8 * i)).transition ≡ t → ⊥)
     → arcs_of t (arcs_from s at (b + (m + r))) ≡ arcs_from s (at + 8 * b) m
 between t s at b m r x y z =
-    let one = ap (arcs_of t) (arcs-append s at b (m + r)) ∙ arcs_of-append t (arcs_from s at b) (arcs_from s (at + 8 * b) (m + r)) in
-    let two = ap (arcs_of t) (arcs-append s (at + 8 * b) m r) ∙ arcs_of-append t (arcs_from s (at + 8 * b) m) (arcs_from s (at + 8 * b + 8 * m) r) in
+    let one = ap (arcs_of t) (arcs_append s at b (m + r)) ∙ arcs_of-append t (arcs_from s at b) (arcs_from s (at + 8 * b) (m + r)) in
+    let two = ap (arcs_of t) (arcs_append s (at + 8 * b) m r) ∙ arcs_of-append t (arcs_from s (at + 8 * b) m) (arcs_from s (at + 8 * b + 8 * m) r) in
     one
-    ∙ ap (λ (l : List Arc). l ++ arcs_of t (arcs_from s (at + 8 * b) (m + r))) (arcs-none t s at b x)
+    ∙ ap (λ (l : List Arc). l ++ arcs_of t (arcs_from s (at + 8 * b) (m + r))) (arcs_none t s at b x)
     ∙ two
-    ∙ ap (λ (l : List Arc). l ++ arcs_of t (arcs_from s (at + 8 * b + 8 * m) r)) (arcs-all t s (at + 8 * b) m y)
-    ∙ ap (λ (l : List Arc). arcs_from s (at + 8 * b) m ++ l) (arcs-none t s (at + 8 * b + 8 * m) r z)
+    ∙ ap (λ (l : List Arc). l ++ arcs_of t (arcs_from s (at + 8 * b + 8 * m) r)) (arcs_all t s (at + 8 * b) m y)
+    ∙ ap (λ (l : List Arc). arcs_from s (at + 8 * b) m ++ l) (arcs_none t s (at + 8 * b + 8 * m) r z)
     ∙ append-nil (arcs_from s (at + 8 * b) m)
 
 -- a sum that grows has an arc at the place
@@ -99,7 +99,7 @@ module _ (s : List ℕ) (h : Header) (table : List ℕ) (so : Sound s h) (st : S
     unfolding slot_at
     run-own i a b =
         let n : i < h.arcs = omega (arith, run-high.within) in
-        omega (arith, run-low.above i a n, run-high.below i b, (good-at s h so i n).direction)
+        omega (arith, run-low.above i a n, run-high.below i b, (good_at s h so i n).direction)
 
     run-before : (i : ℕ) → i < get_or table (2 * t) 0 → (arc_at s (h.arcstart + 8 * i)).transition ≡ t → ⊥
     unfolding slot_at
@@ -107,7 +107,7 @@ module _ (s : List ℕ) (h : Header) (table : List ℕ) (so : Sound s h) (st : S
 
     run-after : (i : ℕ) → get_or table (2 * t + 2) 0 ≤ i → i < h.arcs → (arc_at s (h.arcstart + 8 * i)).transition ≡ t → ⊥
     unfolding slot_at
-    run-after i a b q = omega (arith, run-high.above i a b, (good-at s h so i b).direction)
+    run-after i a b q = omega (arith, run-high.above i a b, (good_at s h so i b).direction)
 
     -- the arcs of t
     pub run_is : arcs_of t (net_from s h).arcs ≡ arcs_from s (h.arcstart + 8 * get_or table (2 * t) 0) (get_or table (2 * t + 2) 0 - get_or table (2 * t) 0)
@@ -136,11 +136,11 @@ module _ (s : List ℕ) (h : Header) (table : List ℕ) (so : Sound s h) (st : S
 
     -- its sum at p is the weight that joins p and t
     pub run-weight : (p : ℕ) → sum_to s h.arcstart p (get_or table (2 * t + d + 1) 0) ≡ sum_to s h.arcstart p (get_or table (2 * t + d) 0) + weight_on d p t (net_from s h).arcs
-    run-weight p = weight-run d p t s h.arcstart h.arcs _ _ dl (λ i a. (good-at s h so i a).direction) slot_low slot_high
+    run-weight p = weight_run d p t s h.arcstart h.arcs _ _ dl (λ i a. (good_at s h so i a).direction) slot_low slot_high
 
     -- a weight comes from an arc
-    pub weight-found : (p : ℕ) → 0 < weight_on d p t (net_from s h).arcs → (i : ℕ) × (get_or table (2 * t + d) 0 ≤ i) × (i < get_or table (2 * t + d + 1) 0) × ((arc_at s (h.arcstart + 8 * i)).place ≡ p)
-    weight-found p w =
+    pub weight_found : (p : ℕ) → 0 < weight_on d p t (net_from s h).arcs → (i : ℕ) × (get_or table (2 * t + d) 0 ≤ i) × (i < get_or table (2 * t + d + 1) 0) × ((arc_at s (h.arcstart + 8 * i)).place ≡ p)
+    weight_found p w =
         let b = get_or table (2 * t + d) 0 in
         let e = get_or table (2 * t + d + 1) 0 in
         let rise : b ≤ e = entries-rise (2 * t + d) (2 * t + d + 1) (omega arith) (omega arith) in
@@ -150,16 +150,16 @@ module _ (s : List ℕ) (h : Header) (table : List ℕ) (so : Sound s h) (st : S
         (r.0, r.1, omega arith, r.3)
 
     -- and an arc gives one
-    pub weight-there : (i : ℕ) → get_or table (2 * t + d) 0 ≤ i → i < get_or table (2 * t + d + 1) 0 → 0 < weight_on d (arc_at s (h.arcstart + 8 * i)).place t (net_from s h).arcs
-    weight-there i a b =
+    pub weight_there : (i : ℕ) → get_or table (2 * t + d) 0 ≤ i → i < get_or table (2 * t + d + 1) 0 → 0 < weight_on d (arc_at s (h.arcstart + 8 * i)).place t (net_from s h).arcs
+    weight_there i a b =
         let x = arc_at s (h.arcstart + 8 * i) in
-        let g = good-at s h so i (omega (arith, slot_high.within)) in
+        let g = good_at s h so i (omega (arith, slot_high.within)) in
         omega (
           arith,
           g.weight,
           run-weight x.place,
           sum_more s h.arcstart x.place (get_or table (2 * t + d) 0) i a,
-          sum-next s h.arcstart x.place i,
+          sum_next s h.arcstart x.place i,
           part-here x x.place refl,
           sum_more s h.arcstart x.place (i + 1) (get_or table (2 * t + d + 1) 0) (omega arith),
         )

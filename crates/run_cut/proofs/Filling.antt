@@ -77,8 +77,8 @@ unfolding chosen_by
 chosen-ended list last end x = x.all
 
 -- no more are chosen than there are firings before the end
-pub room-for_all : (list last : List ℕ) (end room : ℕ) → end ≡ end_of (chosen_by list last) → end ≤ room → ltb room (length (chosen_by list last)) ≡ false
-room-for_all list last end room e l =
+pub room_for_all : (list last : List ℕ) (end room : ℕ) → end ≡ end_of (chosen_by list last) → end ≤ room → ltb room (length (chosen_by list last)) ≡ false
+room_for_all list last end room e l =
     le-ltb room (length (chosen_by list last)) (omega (arith, ap length (chosen-ended list last end (ended_at list last end e)), length-selected (chosen_in list last) 0 end))
 
 -- before the end one is still to come
@@ -130,8 +130,8 @@ module _ (f : ℕ → Bool) (m count : ℕ) (out₀ : List ℕ) where
                 ap (λ (a : ℕ). get_or (set out n i) a 0) same ∙ get_or-set_same out n i 0 (omega (arith, x.room, x.long))
                 ∙ sym (ap (λ (s : List ℕ). get_or s j 0) (with_it f i e) ∙ ap (λ (a : ℕ). get_or (selected f 0 i ++ (i ∷ [])) a 0) (same ∙ x.written) ∙ get_or-append_seam (selected f 0 i) i [] 0)
 
-        other-front : f i ≡ false → (j : ℕ) → j < n + k → get_or (set out n i) j 0 ≡ get_or (selected f 0 (i + 1)) j 0
-        other-front e j h =
+        other_front : f i ≡ false → (j : ℕ) → j < n + k → get_or (set out n i) j 0 ≡ get_or (selected f 0 (i + 1)) j 0
+        other_front e j h =
             let k≡ : k ≡ 0 = counts ∙ ap (λ (b : Bool). choose b 1 0) e in
             get_or-set_other out n j i 0 (λ r. omega (arith, k≡, h)) ∙ x.front j (omega (arith, k≡, h)) ∙ sym (ap (λ (s : List ℕ). get_or s j 0) (without_it f i e))
 
@@ -142,7 +142,7 @@ module _ (f : ℕ → Bool) (m count : ℕ) (out₀ : List ℕ) where
           total = x.total;
           room = x.room;
           long = length-set out n i ∙ x.long;
-          front = λ j h. by_cases (f i) (λ e. chosen-front e j h) (λ e. other-front e j h);
+          front = λ j h. by_cases (f i) (λ e. chosen-front e j h) (λ e. other_front e j h);
           rest = λ j h. get_or-set_other out n j i 0 (λ r. omega arith) ∙ x.rest j h;
         }
 

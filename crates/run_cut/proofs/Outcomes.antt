@@ -13,7 +13,7 @@ use Rattle.net.specs.Slice.{Slice}
 use Rattle.net.specs.Guarantee.{PlanFires}
 use Rattle.net.specs.Run.{fed, run_cut}
 use Rattle.net.proofs.Numbers.{at_position, position-lt, length-selected}
-use Rattle.net.proofs.Replay.{replay-means, fires-replay}
+use Rattle.net.proofs.Replay.{replay-means, fires_replay}
 use Rattle.file.specs.Layout.{net_from}
 use Rattle.file_words.specs.Refusal.{refuse, or_else}
 use Rattle.file.specs.Facts.{Sound}
@@ -24,7 +24,7 @@ use Rattle.promise.specs.Calls.{CutAnswer, cut_answer, written}
 use Rattle.promise.specs.Firing.{ReplayAnswer, replay_or, list_refusal}
 use Rattle.promise.specs.RunCut.{RunAnswer, run_written, run_or, run_room, run_outcome}
 use Rattle.promise.proofs.Replays.{differ}
-use Rattle.inputs_lists.proofs.Passing.{list-short, list-known}
+use Rattle.inputs_lists.proofs.Passing.{list_short, list_known}
 use Rattle.replay.specs.Told.{outcome_numbers, held_back}
 use Rattle.replay.specs.declared.Outcome.TheVariants as outcome
 use Rattle.sets.specs.declared.KeptSets.{KeptSets}
@@ -92,8 +92,8 @@ module _ (s : List ℕ) (h : Header) (Q list entry slots : List ℕ) where
   abbrev due : RunAnswer
   due = run_outcome h.edition N Q list (length entry) (length slots)
 
-  pub refused-list : (k : ℕ) → outcome_numbers (outcome.Refused k) ≡ replay_or listed (replay N list).answer → Answers s h Q list (answer_to s h Q list (length entry) (length slots)) entry entry slots slots (Refused k)
-  refused-list k e =
+  pub refused_list : (k : ℕ) → outcome_numbers (outcome.Refused k) ≡ replay_or listed (replay N list).answer → Answers s h Q list (answer_to s h Q list (length entry) (length slots)) entry entry slots slots (Refused k)
+  refused_list k e =
       let t = told-refused listed (replay N list).answer k e in
       subst (λ (n : ℕ). Answers s h Q list (run_or n due) entry entry slots slots (Refused k)) (sym t.0) (by_number k t.1)
     where
@@ -101,35 +101,35 @@ module _ (s : List ℕ) (h : Header) (Q list entry slots : List ℕ) where
       by_number zero r = absurd (r refl)
       by_number (suc k) r = record { answer = refl; buffer = refl; second = refl }
 
-  pub short-list : (i p n : ℕ) → outcome_numbers (outcome.Short i p n) ≡ replay_or listed (replay N list).answer → Answers s h Q list (answer_to s h Q list (length entry) (length slots)) entry entry slots slots (Sticks i p n)
+  pub short_list : (i p n : ℕ) → outcome_numbers (outcome.Short i p n) ≡ replay_or listed (replay N list).answer → Answers s h Q list (answer_to s h Q list (length entry) (length slots)) entry entry slots slots (Sticks i p n)
   unfolding run_outcome
-  short-list i p n e =
+  short_list i p n e =
       let t = told-short listed (replay N list).answer i p n e in
       rw (t.0, t.1) (record { answer = refl; buffer = refl; second = refl })
 
-  pub full-list : (i p n : ℕ) → outcome_numbers (outcome.Full i p n) ≡ replay_or listed (replay N list).answer → Answers s h Q list (answer_to s h Q list (length entry) (length slots)) entry entry slots slots (Sticks i p n)
+  pub full_list : (i p n : ℕ) → outcome_numbers (outcome.Full i p n) ≡ replay_or listed (replay N list).answer → Answers s h Q list (answer_to s h Q list (length entry) (length slots)) entry entry slots slots (Sticks i p n)
   unfolding run_outcome
-  full-list i p n e =
+  full_list i p n e =
       let t = told-full listed (replay N list).answer i p n e in
       rw (t.0, t.1) (record { answer = refl; buffer = refl; second = refl })
 
   module _ (e : outcome_numbers outcome.Fired ≡ replay_or listed (replay N list).answer) where
-    list-passes : listed ≡ 0
-    list-passes = (told-fired listed (replay N list).answer e).0
+    list_passes : listed ≡ 0
+    list_passes = (told-fired listed (replay N list).answer e).0
 
     pub given : Sound s h → criterion_refusal h.places Q ≡ 0 → Given s h Q list
     unfolding PlanFires replay
     given sound passes = record {
       sound = sound;
       criterion = passes;
-      short = list-short h.transitions list list-passes;
-      known = list-known h.transitions list list-passes;
+      short = list_short h.transitions list list_passes;
+      known = list_known h.transitions list list_passes;
       fires = (rw (told-fired listed (replay N list).answer e).1 at (replay-means N 0 N.marking list (λ t m.
-          subst (λ (u : ℕ). u < h.transitions) (at_position t list m) (list-known h.transitions list list-passes _ (position-lt t list m))))).0;
+          subst (λ (u : ℕ). u < h.transitions) (at_position t list m) (list_known h.transitions list list_passes _ (position-lt t list m))))).0;
     }
 
-    pub fired-list : (exit positions : List ℕ) (r : _) → Answers s h Q list due entry exit slots positions r → Answers s h Q list (answer_to s h Q list (length entry) (length slots)) entry exit slots positions r
-    fired-list exit positions r x = subst (λ (n : ℕ). Answers s h Q list (run_or n due) entry exit slots positions r) (sym list-passes) x
+    pub fired_list : (exit positions : List ℕ) (r : _) → Answers s h Q list due entry exit slots positions r → Answers s h Q list (answer_to s h Q list (length entry) (length slots)) entry exit slots positions r
+    fired_list exit positions r x = subst (λ (n : ℕ). Answers s h Q list (run_or n due) entry exit slots positions r) (sym list_passes) x
 
 -- ---- the room
 
@@ -142,17 +142,17 @@ cut-written : (r len : ℕ) (S : Slice) (n p t : ℕ) → cut_numbers (cut.Writt
 cut-written zero len S n p t e = (refl, ap (λ (x : CutAnswer). x.length) e, ap (λ (x : CutAnswer). x.places) e, ap (λ (x : CutAnswer). x.transitions) e)
 cut-written (suc r) len S n p t e = differ (ap (λ (x : CutAnswer). x.refused) e)
 
-room-some : (b : Bool) → refuse b 13 0 ≢ 0 → b ≡ true
-room-some true r = refl
-room-some false r = absurd (r refl)
+room_some : (b : Bool) → refuse b 13 0 ≢ 0 → b ≡ true
+room_some true r = refl
+room_some false r = absurd (r refl)
 
-room-none : (b : Bool) → refuse b 13 0 ≡ 0 → b ≡ false
-room-none true e = absurd (omega arith)
-room-none false e = refl
+room_none : (b : Bool) → refuse b 13 0 ≡ 0 → b ≡ false
+room_none true e = absurd (omega arith)
+room_none false e = refl
 
-second-13 : (b : Bool) → refuse b 13 13 ≡ 13
-second-13 true = refl
-second-13 false = refl
+second_13 : (b : Bool) → refuse b 13 13 ≡ 13
+second_13 true = refl
+second_13 false = refl
 
 module _ (s : List ℕ) (h : Header) (Q list last : List ℕ) (kept : KeptSets) (end : ℕ) (g : Given s h Q list) (f : FedBy s h Q list last kept end) (entry slots : List ℕ) where
   abbrev M : Net
@@ -174,13 +174,13 @@ module _ (s : List ℕ) (h : Header) (Q list last : List ℕ) (kept : KeptSets) 
   counted : count ≡ length chosen
   counted = ap length f.positions
 
-  pub count-few : count < 65536
+  pub count_few : count < 65536
   unfolding chosen_by
-  count-few = omega (arith, length-selected (λ i. ltb i (get_or last (get_or list i 0) 0)) 0 (length list), g.short)
+  count_few = omega (arith, length-selected (λ i. ltb i (get_or last (get_or list i 0) 0)) 0 (length list), g.short)
 
   fires : (replay M list).answer ≡ fired
   unfolding replay PlanFires
-  fires = ap (λ (r : Replay). r.answer) (fires-replay M 0 M.marking list g.fires)
+  fires = ap (λ (r : Replay). r.answer) (fires_replay M 0 M.marking list g.fires)
 
   -- the answer is that of the room
   module _ (r : ℕ) (e : run_room h.edition M Q list (length entry) (length slots) ≡ r) where
@@ -188,12 +188,12 @@ module _ (s : List ℕ) (h : Header) (Q list last : List ℕ) (kept : KeptSets) 
     unfolding run_outcome
     due_is = rw (fires, e)
 
-  refused-13 : run_room h.edition M Q list (length entry) (length slots) ≡ 13 → (exit : List ℕ) → exit ≡ entry → Answers s h Q list (run_outcome h.edition M Q list (length entry) (length slots)) entry exit slots slots (Refused 13)
-  refused-13 e exit same = subst (λ (a : RunAnswer). Answers s h Q list a entry exit slots slots (Refused 13)) (sym (due_is 13 e)) (record { answer = refl; buffer = same; second = refl })
+  refused_13 : run_room h.edition M Q list (length entry) (length slots) ≡ 13 → (exit : List ℕ) → exit ≡ entry → Answers s h Q list (run_outcome h.edition M Q list (length entry) (length slots)) entry exit slots slots (Refused 13)
+  refused_13 e exit same = subst (λ (a : RunAnswer). Answers s h Q list a entry exit slots slots (Refused 13)) (sym (due_is 13 e)) (record { answer = refl; buffer = same; second = refl })
 
   pub no_entries : length slots < count → Answers s h Q list (run_outcome h.edition M Q list (length entry) (length slots)) entry entry slots slots (Refused 13)
   unfolding run_room
-  no_entries l = refused-13 (rw (lt-ltb (length slots) (length chosen) (omega (arith, counted))) (second-13 (ltb (length entry) (length (slice_bytes h.edition S))))) entry refl
+  no_entries l = refused_13 (rw (lt-ltb (length slots) (length chosen) (omega (arith, counted))) (second_13 (ltb (length entry) (length (slice_bytes h.edition S))))) entry refl
 
   module _ (exit : List ℕ) (buffer : exit ≡ written (room_refusal h.edition (length entry) K) (slice_bytes h.edition K) entry) where
     pub no_room : (k : ℕ) → cut_numbers (cut.Refused k) ≡ cut_answer (room_refusal h.edition (length entry) K) (length (slice_bytes h.edition K)) K
@@ -201,8 +201,8 @@ module _ (s : List ℕ) (h : Header) (Q list last : List ℕ) (kept : KeptSets) 
     unfolding run_room
     no_room k e =
         let some = cut-refused (room_refusal h.edition (length entry) K) (length (slice_bytes h.edition K)) K k e in
-        let short : ltb (length entry) (length (slice_bytes h.edition S)) ≡ true = ap (λ (x : Slice). ltb (length entry) (length (slice_bytes h.edition x))) (sym f.slice) ∙ room-some _ some in
-        refused-13 (rw short) exit (buffer ∙ sym (untouched (room_refusal h.edition (length entry) K) (slice_bytes h.edition K) entry some))
+        let short : ltb (length entry) (length (slice_bytes h.edition S)) ≡ true = ap (λ (x : Slice). ltb (length entry) (length (slice_bytes h.edition x))) (sym f.slice) ∙ room_some _ some in
+        refused_13 (rw short) exit (buffer ∙ sym (untouched (room_refusal h.edition (length entry) K) (slice_bytes h.edition K) entry some))
 
     module _ (n p t : ℕ) (told : cut_numbers (cut.Written n p t) ≡ cut_answer (room_refusal h.edition (length entry) K) (length (slice_bytes h.edition K)) K) (enough : count ≤ length slots) where
       says : (room_refusal h.edition (length entry) K ≡ 0) × (n ≡ length (slice_bytes h.edition K)) × (p ≡ K.net.places) × (t ≡ K.net.transitions)
@@ -211,7 +211,7 @@ module _ (s : List ℕ) (h : Header) (Q list last : List ℕ) (kept : KeptSets) 
       fits : run_room h.edition M Q list (length entry) (length slots) ≡ 0
       unfolding run_room
       fits =
-          let a : ltb (length entry) (length (slice_bytes h.edition S)) ≡ false = ap (λ (x : Slice). ltb (length entry) (length (slice_bytes h.edition x))) (sym f.slice) ∙ room-none _ says.0 in
+          let a : ltb (length entry) (length (slice_bytes h.edition S)) ≡ false = ap (λ (x : Slice). ltb (length entry) (length (slice_bytes h.edition x))) (sym f.slice) ∙ room_none _ says.0 in
           rw (a, le-ltb (length slots) (length chosen) (omega (arith, counted)))
 
       module _ (c : ℕ) (told-count : c ≡ count) where

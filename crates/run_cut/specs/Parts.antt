@@ -22,11 +22,11 @@ pub record Given (s : List ℕ) (h : Header) (Q list : List ℕ) : Type 0 where
 
 -- tables that reach the places, the arcs and the transitions, with nothing in them
 pub record Lent (h : Header) (head next first : List ℕ) : Type 0 where
-  pub head-long : 2 * h.places ≤ length head
-  pub next-long : h.arcs ≤ length next
-  pub first-long : h.transitions ≤ length first
+  pub head_long : 2 * h.places ≤ length head
+  pub next_long : h.arcs ≤ length next
+  pub first_long : h.transitions ≤ length first
   pub no_row : (k : ℕ) → get_or head k 0 ≡ 0
-  pub none-drawn : (t : ℕ) → get_or first t 0 ≡ 0
+  pub none_drawn : (t : ℕ) → get_or first t 0 ≡ 0
 
 -- a table with an entry for each transition, all of them 0
 pub record Cleared (h : Header) (last : List ℕ) : Type 0 where

@@ -12,19 +12,19 @@ module _ (ts first : List ℕ) where
   Zero k = get_or first (get_or ts k 0) 0 ≡ 0
 
   -- those of two stretches, one after the other
-  pub passed-more : {a b c : ℕ} → PassedBy ts first a b → PassedBy ts first b c → PassedBy ts first a c
-  passed-more {a} {b} {c} x y i l u = go (dec_lt i b)
+  pub passed_more : {a b c : ℕ} → PassedBy ts first a b → PassedBy ts first b c → PassedBy ts first a c
+  passed_more {a} {b} {c} x y i l u = go (dec_lt i b)
     where
       go : Dec (i < b) → Zero i
       go (yes v) = x i l v
       go (no v) = y i (omega arith) u
 
-  pub passed-one : {i : ℕ} → 0 < i → get_or first (get_or ts (i - 1) 0) 0 ≡ 0 → PassedBy ts first (i - 1) i
-  passed-one {i} n e j l u = let same : i - 1 ≡ j = omega arith in subst Zero same e
+  pub passed_one : {i : ℕ} → 0 < i → get_or first (get_or ts (i - 1) 0) 0 ≡ 0 → PassedBy ts first (i - 1) i
+  passed_one {i} n e j l u = let same : i - 1 ≡ j = omega arith in subst Zero same e
 
   -- four whose entries are 0 together
-  pub passed-four : {i a b c d : ℕ} → a ≡ get_or first (get_or ts i 0) 0 → b ≡ get_or first (get_or ts (i + 1) 0) 0 → c ≡ get_or first (get_or ts (i + 2) 0) 0 → d ≡ get_or first (get_or ts (i + 3) 0) 0 → a + b + c + d ≡ 0 → PassedBy ts first i (i + 4)
-  passed-four {i} e f g h z j l u = go (ℕ_discrete i j) (ℕ_discrete (i + 1) j) (ℕ_discrete (i + 2) j)
+  pub passed_four : {i a b c d : ℕ} → a ≡ get_or first (get_or ts i 0) 0 → b ≡ get_or first (get_or ts (i + 1) 0) 0 → c ≡ get_or first (get_or ts (i + 2) 0) 0 → d ≡ get_or first (get_or ts (i + 3) 0) 0 → a + b + c + d ≡ 0 → PassedBy ts first i (i + 4)
+  passed_four {i} e f g h z j l u = go (ℕ_discrete i j) (ℕ_discrete (i + 1) j) (ℕ_discrete (i + 2) j)
     where
       go : Dec (i ≡ j) → Dec (i + 1 ≡ j) → Dec (i + 2 ≡ j) → Zero j
       go (yes p) q r = subst Zero p (omega (arith, e, z))

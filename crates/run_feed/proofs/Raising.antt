@@ -19,7 +19,7 @@ use Rattle.sets.specs.Member.{member, Inserted}
 use Rattle.arcs_starts.specs.Table.{choose, Split}
 use Rattle.arcs_column.specs.Ways.{transition_at, direction_at, place_at}
 use Rattle.cut_rows.specs.Rows.{moves, Last, Rows}
-use Rattle.cut_rows.proofs.Inputs.{placed_in, placed-none, placed-more, InputsTo, to_none, to-more, to-stop, to-all}
+use Rattle.cut_rows.proofs.Inputs.{placed_in, placed_none, placed_more, InputsTo, to_none, to_more, to_stop, to_all}
 use Rattle.cut_rows.proofs.Row
 use Rattle.run_feed.specs.Back.{waits, drawn, Starts, RaisersAdded, Entered}
 
@@ -71,20 +71,20 @@ along_none s h p e last first lead = record {
 
 module _ (s : List ℕ) (h : Header) (head next : List ℕ) (rows : Rows s h head next) (p e : ℕ) (last first F : List ℕ) (x : Along s h p e last first F) where
   module _ (more : e ≡ 0 → ⊥) where
-    pub row-arc : e % 65536 ≡ suc (e % 65536 - 1)
-    row-arc = Row.row-arc s h 1 p e x.upto x.within x.lead more
+    pub row_arc : e % 65536 ≡ suc (e % 65536 - 1)
+    row_arc = Row.row-arc s h 1 p e x.upto x.within x.lead more
 
     pub row_below : e % 65536 - 1 < h.arcs
     row_below = Row.row_below s h 1 p e x.upto x.within x.lead more
 
-    pub row-begun : 0 < e / 65536
-    row-begun = Row.row-begun s h 1 p e x.upto x.within x.lead more
+    pub row_begun : 0 < e / 65536
+    row_begun = Row.row-begun s h 1 p e x.upto x.within x.lead more
 
     pub row_first : Split s h.arcstart h.arcs (2 * transition_at s h.arcstart (e % 65536 - 1)) (e / 65536 - 1)
     row_first = Row.row_first s h 1 p e x.upto x.within x.lead more
 
-    pub row-less : get_or next (e % 65536 - 1) 0 % 65536 < e % 65536
-    row-less = Row.row-less s h 1 p e x.upto x.within x.lead more next rows.nexts
+    pub row_less : get_or next (e % 65536 - 1) 0 % 65536 < e % 65536
+    row_less = Row.row-less s h 1 p e x.upto x.within x.lead more next rows.nexts
 
     -- the transition of the arc gets its entry
     module _ (t : ℕ) (same : t ≡ transition_at s h.arcstart (e % 65536 - 1)) (l : t < length F) where
@@ -92,7 +92,7 @@ module _ (s : List ℕ) (h : Header) (head next : List ℕ) (rows : Rows s h hea
       F' = set F t (due_of last t (e / 65536))
 
       drawn-is : (u : ℕ) → drawn last F' u ≡ drawn last F u || eqb u t
-      drawn-is u = drawn-set last F t (e / 65536) l row-begun u
+      drawn-is u = drawn-set last F t (e / 65536) l row_begun u
 
       stays : (u : ℕ) → T (drawn last F u) → T (drawn last F' u)
       stays u m = subst T (sym (drawn-is u)) (or_left (drawn last F u) (eqb u t) m)
@@ -158,8 +158,8 @@ module _ (s : List ℕ) (h : Header) (last : List ℕ) where
   entered_none new places first w known = record {
     kept = λ k. same_test (member places k) (member places k || new k) (or_left (member places k) (new k)) (λ m. by_or (member places k) (new k) m (λ a. a) (known k));
     raisers = λ r. r;
-    places-long = w;
-    first-long = refl;
+    places_long = w;
+    first_long = refl;
   }
 
   pub entered_known : (p : ℕ) (places first : List ℕ) → length places ≡ 16 → member places p ≡ true → Entered s h (λ k. eqb k p) last places first places first
@@ -177,20 +177,20 @@ module _ (s : List ℕ) (h : Header) (last : List ℕ) where
           (λ m. or_right (drawn last first t) (raises (net_from s h) t p) (subst (λ (u : ℕ). T (raises (net_from s h) t u)) (eqb→eq q p m) d)));
       starts = y.starts r.starts;
     };
-    places-long = x.long;
-    first-long = y.long;
+    places_long = x.long;
+    first_long = y.long;
   }
 
   pub entered_join : (a b c : ℕ → Bool) (P F P' F' P'' F'' : List ℕ) → Entered s h a last P F P' F' → Entered s h b last P' F' P'' F'' → ((k : ℕ) → a k || b k ≡ c k) → Entered s h c last P F P'' F''
   entered_join a b c P F P' F' P'' F'' x y e = record {
     kept = λ k. y.kept k ∙ ap (λ (z : Bool). z || b k) (x.kept k) ∙ or_assoc (member P k) (a k) (b k) ∙ ap (λ (z : Bool). member P k || z) (e k);
     raisers = λ r. y.raisers (x.raisers r);
-    places-long = y.places-long;
-    first-long = y.first-long ∙ x.first-long;
+    places_long = y.places_long;
+    first_long = y.first_long ∙ x.first_long;
   }
 
   entered_as : (a b : ℕ → Bool) (P F P' F' : List ℕ) → Entered s h a last P F P' F' → ((k : ℕ) → a k ≡ b k) → Entered s h b last P F P' F'
-  entered_as a b P F P' F' x e = record { kept = λ k. x.kept k ∙ ap (λ (z : Bool). member P k || z) (e k); raisers = x.raisers; places-long = x.places-long; first-long = x.first-long }
+  entered_as a b P F P' F' x e = record { kept = λ k. x.kept k ∙ ap (λ (z : Bool). member P k || z) (e k); raisers = x.raisers; places_long = x.places_long; first_long = x.first_long }
 
   -- the places of the input arcs of t from `from` up to j have entered
   pub record InputsEntered (from t j : ℕ) (places first places' first' : List ℕ) : Type 0 where
@@ -198,41 +198,41 @@ module _ (s : List ℕ) (h : Header) (last : List ℕ) where
     pub entered : Entered s h (placed_in s h.arcstart from (j - from)) last places first places' first'
 
   module _ (sound : Sound s h) (from t : ℕ) (tl : t < h.transitions) (low : Split s h.arcstart h.arcs (2 * t) from) (places first : List ℕ) where
-    pub inputs-none : length places ≡ 16 → InputsEntered from t from places first places first
-    inputs-none w = record {
+    pub inputs_none : length places ≡ 16 → InputsEntered from t from places first places first
+    inputs_none w = record {
       reach = to_none s h sound from t tl low;
-      entered = entered_none _ places first w (λ k m. absurd (fails _ (placed-none s h.arcstart from k) m));
+      entered = entered_none _ places first w (λ k m. absurd (fails _ (placed_none s h.arcstart from k) m));
     }
 
     module _ (j : ℕ) (P F : List ℕ) (x : InputsEntered from t j places first P F) where
       module _ (l : j < h.arcs) where
-        pub inputs-more : transition_at s h.arcstart j + direction_at s h.arcstart j * 65536 ≡ t → (p : ℕ) (P' F' : List ℕ) → p ≡ place_at s h.arcstart j → Entered s h (λ k. eqb k p) last P F P' F'
+        pub inputs_more : transition_at s h.arcstart j + direction_at s h.arcstart j * 65536 ≡ t → (p : ℕ) (P' F' : List ℕ) → p ≡ place_at s h.arcstart j → Entered s h (λ k. eqb k p) last P F P' F'
             → InputsEntered from t (j + 1) places first P' F'
-        inputs-more e p P' F' q y = record {
-          reach = to-more s h sound from t tl low j x.reach l e;
-          entered = entered_join _ _ _ places first P F P' F' x.entered y (placed-more s h.arcstart from j p x.reach.after q);
+        inputs_more e p P' F' q y = record {
+          reach = to_more s h sound from t tl low j x.reach l e;
+          entered = entered_join _ _ _ places first P F P' F' x.entered y (placed_more s h.arcstart from j p x.reach.after q);
         }
 
-        pub inputs-stop : (transition_at s h.arcstart j + direction_at s h.arcstart j * 65536 ≡ t → ⊥) → Entered s h (takes_from (net_from s h) t) last places first P F
-        inputs-stop n = entered_as _ _ places first P F x.entered (to-stop s h sound from t tl low j x.reach l n)
+        pub inputs_stop : (transition_at s h.arcstart j + direction_at s h.arcstart j * 65536 ≡ t → ⊥) → Entered s h (takes_from (net_from s h) t) last places first P F
+        inputs_stop n = entered_as _ _ places first P F x.entered (to_stop s h sound from t tl low j x.reach l n)
 
-      pub inputs-all : h.arcs ≤ j → Entered s h (takes_from (net_from s h) t) last places first P F
-      inputs-all l = entered_as _ _ places first P F x.entered (to-all s h sound from t tl low j x.reach l)
+      pub inputs_all : h.arcs ≤ j → Entered s h (takes_from (net_from s h) t) last places first P F
+      inputs_all l = entered_as _ _ places first P F x.entered (to_all s h sound from t tl low j x.reach l)
 
   -- the first numbers of the criterion have entered
   module _ (Q P F : List ℕ) where
-    pub criterion-none : length P ≡ 16 → Entered s h (λ k. among k (take 0 Q)) last P F P F
-    criterion-none w = entered_none (λ k. among k (take 0 Q)) P F w (λ k m. absurd (fails _ (none Q k) m))
+    pub criterion_none : length P ≡ 16 → Entered s h (λ k. among k (take 0 Q)) last P F P F
+    criterion_none w = entered_none (λ k. among k (take 0 Q)) P F w (λ k m. absurd (fails _ (none Q k) m))
       where
         none : (Q : List ℕ) (k : ℕ) → among k (take 0 Q) ≡ false
         none [] k = unfold among in refl
         none (x ∷ Q) k = unfold among in refl
 
     module _ (P' F' : List ℕ) (i : ℕ) (x : Entered s h (λ k. among k (take i Q)) last P F P' F') where
-      pub criterion-more : (q : ℕ) (P'' F'' : List ℕ) → i < length Q → q ≡ get_or Q i 0 → Entered s h (λ k. eqb k q) last P' F' P'' F'' → Entered s h (λ k. among k (take (i + 1) Q)) last P F P'' F''
-      criterion-more q P'' F'' l e y =
+      pub criterion_more : (q : ℕ) (P'' F'' : List ℕ) → i < length Q → q ≡ get_or Q i 0 → Entered s h (λ k. eqb k q) last P' F' P'' F'' → Entered s h (λ k. among k (take (i + 1) Q)) last P F P'' F''
+      criterion_more q P'' F'' l e y =
           let f : suc i ≡ i + 1 = omega arith in
           entered_join _ _ _ P F P' F' P'' F'' x y (λ k. ap (λ (v : ℕ). among k (take i Q) || eqb k v) e ∙ among_next Q i k l ∙ ap (λ (n : ℕ). among k (take n Q)) f)
 
-      pub criterion-end : length Q ≤ i → Entered s h (λ k. among k Q) last P F P' F'
-      criterion-end l = subst (λ (R : List ℕ). Entered s h (λ k. among k R) last P F P' F') (take_all i Q l) x
+      pub criterion_end : length Q ≤ i → Entered s h (λ k. among k Q) last P F P' F'
+      criterion_end l = subst (λ (R : List ℕ). Entered s h (λ k. among k R) last P F P' F') (take_all i Q l) x

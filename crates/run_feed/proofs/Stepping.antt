@@ -12,14 +12,14 @@ use Rattle.net.specs.Numbers.{among, any}
 use Rattle.net.specs.Net.{Net, raises, takes_from}
 use Rattle.net.specs.Run.{with_inputs}
 use Rattle.net.proofs.Numbers.{by_cases, by_or, holds, fails, is_true, is_false, same_test, or_left, or_right, any-has, any-finds}
-use Rattle.net.proofs.Feeding.{Feeding, feed, upto, upto_among, chosen_at, fed-below, added-below, added-keeps, added-inputs}
+use Rattle.net.proofs.Feeding.{Feeding, feed, upto, upto_among, chosen_at, fed-below, added_below, added_keeps, added_inputs}
 use Rattle.net.proofs.Run.{drop-next, drop_at}
 use Rattle.file.specs.Layout.{net_from}
 use Rattle.file.specs.Facts.{Sound}
 use Rattle.file_header.specs.declared.Header.{Header}
 use Rattle.sets.specs.Member.{member, Inserted}
 use Rattle.arcs_starts.specs.Table.{choose, Split}
-use Rattle.cut_rows.proofs.Inputs.{takes-inside}
+use Rattle.cut_rows.proofs.Inputs.{takes_inside}
 use Rattle.run_feed.specs.Back.{Known, waits, drawn, Raisers, Entered, Met, end_of, Back}
 
 or_swap : (a b : Bool) → a || b ≡ b || a
@@ -88,8 +88,8 @@ module _ (s : List ℕ) (h : Header) (sound : Sound s h) (Q : List ℕ) (known :
   -- t is drawn in exactly if it raises a place of W
   drawn-any : drawn L F t ≡ any (raises N t) r.places
   drawn-any = same_test (drawn L F t) (any (raises N t) r.places)
-      (λ m. let q = x.raisers.raise t m in any-has (raises N t) r.places q.0 (subst T (x.places-are q.0) q.1) q.2)
-      (λ m. let q = any-finds (raises N t) r.places m in x.raisers.there t q.0 (subst T (sym (x.places-are q.0)) q.1) q.2)
+      (λ m. let q = x.raisers.raise t m in any-has (raises N t) r.places q.0 (subst T (x.places_are q.0) q.1) q.2)
+      (λ m. let q = any-finds (raises N t) r.places m in x.raisers.there t q.0 (subst T (sym (x.places_are q.0)) q.1) q.2)
 
   same_back : (n : ℕ) (P' F' C' L' : List ℕ) (y : Feeding) → feed N Q k (drop k ts) ≡ y → n ≡ end_of y.positions
       → ((p : ℕ) → member P' p ≡ among p y.places) → ((u : ℕ) → member C' u ≡ among u y.chosen) → ((u : ℕ) → get_or L' u 0 ≡ upto at y.positions u)
@@ -98,21 +98,21 @@ module _ (s : List ℕ) (h : Header) (sound : Sound s h) (Q : List ℕ) (known :
   same_back n P' F' C' L' y e ended places chosen last raisers inputs p c f l = record {
     within = let w = x.within in omega arith;
     ended = ended ∙ ap (λ (z : Feeding). end_of z.positions) (sym e);
-    places-are = λ q. places q ∙ ap (λ (z : Feeding). among q z.places) (sym e);
-    chosen-are = λ u. chosen u ∙ ap (λ (z : Feeding). among u z.chosen) (sym e);
-    last-are = λ u. last u ∙ ap (λ (z : Feeding). upto at z.positions u) (sym e);
+    places_are = λ q. places q ∙ ap (λ (z : Feeding). among q z.places) (sym e);
+    chosen_are = λ u. chosen u ∙ ap (λ (z : Feeding). among u z.chosen) (sym e);
+    last_are = λ u. last u ∙ ap (λ (z : Feeding). upto at z.positions u) (sym e);
     raisers = raisers;
     inputs = inputs;
-    places-long = p;
-    chosen-long = c;
-    first-long = f;
-    last-long = l;
+    places_long = p;
+    chosen_long = c;
+    first_long = f;
+    last_long = l;
   }
 
   -- t raises no place of W
   skipped : drawn L F t ≡ false → Back s h Q ts k end P F C L
   skipped none =
-      same_back end P F C L r (next ∙ feed_skipped N Q k t (drop (suc k) ts) (sym drawn-any ∙ none)) x.ended x.places-are x.chosen-are x.last-are x.raisers x.inputs x.places-long x.chosen-long x.first-long x.last-long
+      same_back end P F C L r (next ∙ feed_skipped N Q k t (drop (suc k) ts) (sym drawn-any ∙ none)) x.ended x.places_are x.chosen_are x.last_are x.raisers x.inputs x.places_long x.chosen_long x.first_long x.last_long
 
   -- t is drawn in
   abbrev y : Feeding
@@ -125,17 +125,17 @@ module _ (s : List ℕ) (h : Header) (sound : Sound s h) (Q : List ℕ) (known :
   grown : (p : ℕ) → (member P p || takes_from N t p) ≡ among p (with_inputs N t r.places)
   grown p = same_test (member P p || takes_from N t p) (among p (with_inputs N t r.places))
       (λ m. by_or (member P p) (takes_from N t p) m
-      (λ w. let a = subst T (x.places-are p) w in added-keeps N t r.places p (fed-below N Q known (suc k) (drop (suc k) ts) p a) a)
-      (λ w. added-inputs N t r.places p (takes-inside s h sound t p w) w))
-      (λ m. by_or (among p r.places) (takes_from N t p) (added-below N t r.places p m).1
-      (λ w. or_left (member P p) (takes_from N t p) (subst T (sym (x.places-are p)) w))
+      (λ w. let a = subst T (x.places_are p) w in added_keeps N t r.places p (fed-below N Q known (suc k) (drop (suc k) ts) p a) a)
+      (λ w. added_inputs N t r.places p (takes_inside s h sound t p w) w))
+      (λ m. by_or (among p r.places) (takes_from N t p) (added_below N t r.places p m).1
+      (λ w. or_left (member P p) (takes_from N t p) (subst T (sym (x.places_are p)) w))
       (or_right (member P p) (takes_from N t p)))
 
   -- a transition has an entry in `last` exactly if it is chosen
   later : (u : ℕ) → ltb 0 (upto at r.positions u) ≡ member C u
   later u =
       upto_among at r.positions u
-      ∙ sym (x.chosen-are u ∙ ap (among u) (chosen_at N Q known at (suc k) (drop (suc k) ts) (λ i l. drop_at ts (suc k) i)))
+      ∙ sym (x.chosen_are u ∙ ap (among u) (chosen_at N Q known at (suc k) (drop (suc k) ts) (λ i l. drop_at ts (suc k) i)))
 
   upto_none : (u : ℕ) → ltb 0 (upto at r.positions u) ≡ false → upto at r.positions u ≡ 0
   upto_none u a = omega (arith, ltb-false 0 (upto at r.positions u) a)
@@ -143,7 +143,7 @@ module _ (s : List ℕ) (h : Header) (sound : Sound s h) (Q : List ℕ) (known :
   -- t was chosen at a later firing: W has its inputs
   module _ (again : get_or L t 0 ≡ 0 → ⊥) where
     chosen-later : member C t ≡ true
-    chosen-later = by_cases (member C t) (λ a. a) (λ a. absurd (again (x.last-are t ∙ upto_none t (later t ∙ a))))
+    chosen-later = by_cases (member C t) (λ a. a) (λ a. absurd (again (x.last_are t ∙ upto_none t (later t ∙ a))))
 
     kept : (u : ℕ) → upto at r.positions u ≡ upto at (k ∷ r.positions) u
     kept u = by_cases (ltb 0 (upto at r.positions u))
@@ -155,7 +155,7 @@ module _ (s : List ℕ) (h : Header) (sound : Sound s h) (Q : List ℕ) (known :
     same_end : end ≡ end_of (k ∷ r.positions)
     same_end = x.ended ∙ by_cases (ltb 0 (end_of r.positions))
         (λ a. sym (upto_later (λ i. 0) k r.positions 0 a))
-        (λ a. absurd (again (x.last-are t ∙ end_none at r.positions t a)))
+        (λ a. absurd (again (x.last_are t ∙ end_none at r.positions t a)))
 
     chosen-again : Back s h Q ts k end P F C L
     chosen-again =
@@ -163,14 +163,14 @@ module _ (s : List ℕ) (h : Header) (sound : Sound s h) (Q : List ℕ) (known :
         same_back end P F C L y (step on) same_end
         (λ p. same_test (member P p) (member P p || takes_from N t p) (or_left (member P p) (takes_from N t p))
         (λ m. by_or (member P p) (takes_from N t p) m (λ w. w) (x.inputs t p (holds _ chosen-later))) ∙ grown p)
-        (λ u. x.chosen-are u ∙ same_test (among u r.chosen) (among u (t ∷ r.chosen)) (λ m. unfold among in or_right (eqb u t) (among u r.chosen) m)
-        (λ m. by_or (eqb u t) (among u r.chosen) (unfold among in m) (λ w. subst (λ (v : ℕ). T (among v r.chosen)) (sym (eqb→eq u t w)) (subst T (x.chosen-are t) (holds _ chosen-later))) (λ w. w)))
-        (λ u. x.last-are u ∙ kept u)
-        x.raisers x.inputs x.places-long x.chosen-long x.first-long x.last-long
+        (λ u. x.chosen_are u ∙ same_test (among u r.chosen) (among u (t ∷ r.chosen)) (λ m. unfold among in or_right (eqb u t) (among u r.chosen) m)
+        (λ m. by_or (eqb u t) (among u r.chosen) (unfold among in m) (λ w. subst (λ (v : ℕ). T (among v r.chosen)) (sym (eqb→eq u t w)) (subst T (x.chosen_are t) (holds _ chosen-later))) (λ w. w)))
+        (λ u. x.last_are u ∙ kept u)
+        x.raisers x.inputs x.places_long x.chosen_long x.first_long x.last_long
 
   -- t does not wait: nothing changes
-  pub passed-by : get_or F t 0 ≡ 0 → Back s h Q ts k end P F C L
-  passed-by none = by_cases (ltb 0 (get_or L t 0))
+  pub passed_by : get_or F t 0 ≡ 0 → Back s h Q ts k end P F C L
+  passed_by none = by_cases (ltb 0 (get_or L t 0))
       (λ a. chosen-again (λ e. let w = ltb-true 0 (get_or L t 0) a in omega arith))
       (λ a. skipped (ap (λ (n : ℕ). ltb 0 n || ltb 0 (get_or L t 0)) none ∙ a))
 
@@ -194,14 +194,14 @@ module _ (s : List ℕ) (h : Header) (sound : Sound s h) (Q : List ℕ) (known :
     abbrev L' : List ℕ
     L' = set L t (suc k)
 
-    zero-at : get_or F° t 0 ≡ 0
-    zero-at = get_or-set_same F t 0 0 (let l = x.first-long in omega arith)
+    zero_at : get_or F° t 0 ≡ 0
+    zero_at = get_or-set_same F t 0 0 (let l = x.first_long in omega arith)
 
     some_at : get_or L' t 0 ≡ suc k
-    some_at = get_or-set_same L t (suc k) 0 (let l = x.last-long in omega arith)
+    some_at = get_or-set_same L t (suc k) 0 (let l = x.last_long in omega arith)
 
-    same-drawn : (u : ℕ) → drawn L' F° u ≡ drawn L F u
-    same-drawn u = by_cases (eqb u t)
+    same_drawn : (u : ℕ) → drawn L' F° u ≡ drawn L F u
+    same_drawn u = by_cases (eqb u t)
         (λ a. let u≡ : u ≡ t = eqb-true u t a in
         ap (λ (v : ℕ). drawn L' F° v) u≡ ∙ is_true _ (or_right (waits F° t) (ltb 0 (get_or L' t 0)) (holds _ (ap (ltb 0) some_at ∙ lt-ltb 0 (suc k) (omega arith)))) ∙ sym (ap (λ (v : ℕ). drawn L F v) u≡ ∙ on))
         (λ a. let n = eqb-false u t a in
@@ -209,10 +209,10 @@ module _ (s : List ℕ) (h : Header) (sound : Sound s h) (Q : List ℕ) (known :
 
     waits-no_more : Raisers s h (member P) L' F°
     waits-no_more = record {
-      raise = λ u m. x.raisers.raise u (subst T (same-drawn u) m);
-      there = λ u p a b. subst T (sym (same-drawn u)) (x.raisers.there u p a b);
+      raise = λ u m. x.raisers.raise u (subst T (same_drawn u) m);
+      there = λ u p a b. subst T (sym (same_drawn u)) (x.raisers.there u p a b);
       starts = λ u m. by_cases (eqb u t)
-          (λ a. absurd (fails _ (ap (λ (v : ℕ). waits F° v) (eqb-true u t a) ∙ ap (ltb 0) zero-at) m))
+          (λ a. absurd (fails _ (ap (λ (v : ℕ). waits F° v) (eqb-true u t a) ∙ ap (ltb 0) zero_at) m))
           (λ a. let n = eqb-false u t a in
           let v = get_or-set_other F t u 0 0 n in
           let st = x.raisers.starts u (subst T (ap (ltb 0) v) m) in
@@ -220,7 +220,7 @@ module _ (s : List ℕ) (h : Header) (sound : Sound s h) (Q : List ℕ) (known :
     }
 
     not-before : member C t ≡ false
-    not-before = sym (later t) ∙ ap (ltb 0) (sym (x.last-are t) ∙ none)
+    not-before = sym (later t) ∙ ap (ltb 0) (sym (x.last_are t) ∙ none)
 
     set_at : (u : ℕ) → get_or L' u 0 ≡ upto at (k ∷ r.positions) u
     set_at u = by_cases (eqb u t)
@@ -228,7 +228,7 @@ module _ (s : List ℕ) (h : Header) (sound : Sound s h) (Q : List ℕ) (known :
         let off : ltb 0 (upto at r.positions u) ≡ false = later u ∙ ap (member C) u≡ ∙ not-before in
         ap (λ (v : ℕ). get_or L' v 0) u≡ ∙ some_at ∙ sym (upto_here at k r.positions u off (eq-eqb (at k) u (sym same ∙ sym u≡))))
         (λ a. let off : eqb (at k) u ≡ false = is_false _ (λ m. eqb-false u t a (sym (eqb→eq (at k) u m) ∙ sym same)) in
-        get_or-set_other L t u (suc k) 0 (eqb-false u t a) ∙ x.last-are u ∙ by_cases (ltb 0 (upto at r.positions u))
+        get_or-set_other L t u (suc k) 0 (eqb-false u t a) ∙ x.last_are u ∙ by_cases (ltb 0 (upto at r.positions u))
         (λ b. sym (upto_later at k r.positions u b))
         (λ b. upto_none u b ∙ sym (upto_off at k r.positions u b off)))
 
@@ -240,13 +240,13 @@ module _ (s : List ℕ) (h : Header) (sound : Sound s h) (Q : List ℕ) (known :
     chosen-first P' F' C' i e =
         same_back (choose (eqb end 0) (suc k) end) P' F' C' L' y (step on) (ap (λ (n : ℕ). choose (eqb n 0) (suc k) n) x.ended ∙ end_next k r.positions)
         (λ p. e.kept p ∙ grown p)
-        (λ u. i.members u ∙ or_swap (member C u) (eqb u t) ∙ ap (λ (b : Bool). eqb u t || b) (x.chosen-are u) ∙ among-front u)
+        (λ u. i.members u ∙ or_swap (member C u) (eqb u t) ∙ ap (λ (b : Bool). eqb u t || b) (x.chosen_are u) ∙ among-front u)
         set_at
         (e.raisers waits-no_more)
         (λ u p m a. by_or (member C u) (eqb u t) (subst T (i.members u) m)
         (λ b. subst T (sym (e.kept p)) (or_left (member P p) (takes_from N t p) (x.inputs u p b a)))
         (λ b. subst T (sym (e.kept p)) (or_right (member P p) (takes_from N t p) (subst (λ (v : ℕ). T (takes_from N v p)) (eqb→eq u t b) a))))
-        e.places-long i.long (let a = x.first-long in let b = e.first-long in let c = length-set F t 0 in omega arith) (let a = x.last-long in let b = length-set L t (suc k) in omega arith)
+        e.places_long i.long (let a = x.first_long in let b = e.first_long in let c = length-set F t 0 in omega arith) (let a = x.last_long in let b = length-set L t (suc k) in omega arith)
 
 -- ---- the same at a call: the firing before k
 
@@ -263,9 +263,9 @@ module _ (s : List ℕ) (h : Header) (sound : Sound s h) (Q : List ℕ) (known :
       pub taken_start : Split s h.arcstart h.arcs (2 * t) (get_or F t 0 - 1)
       taken_start = starts-at s h sound Q known ts (k - 1) end P F C L here t same w tl
 
-      pub taken-up : (n : ℕ) → n ≡ choose (eqb end 0) k end → (P' F' C' : List ℕ) → Inserted t C C' → Entered s h (takes_from (net_from s h) t) (set L t k) P (set F t 0) P' F'
+      pub taken_up : (n : ℕ) → n ≡ choose (eqb end 0) k end → (P' F' C' : List ℕ) → Inserted t C C' → Entered s h (takes_from (net_from s h) t) (set L t k) P (set F t 0) P' F'
           → Back s h Q ts (k - 1) n P' F' C' (set L t k)
-      taken-up n told P' F' C' i e =
+      taken_up n told P' F' C' i e =
           let entered = subst (λ (j : ℕ). Entered s h (takes_from (net_from s h) t) (set L t j) P (set F t 0) P' F') before e in
           let chosen = chosen-first s h sound Q known ts (k - 1) end P F C L here t same w tl P' F' C' i entered in
           subst (λ (m : ℕ). Back s h Q ts (k - 1) m P' F' C' (set L t k)) (sym told) (subst (λ (j : ℕ). Back s h Q ts (k - 1) (choose (eqb end 0) j end) P' F' C' (set L t j)) (sym before) chosen)
@@ -275,7 +275,7 @@ module _ (s : List ℕ) (h : Header) (sound : Sound s h) (Q : List ℕ) (known :
   passed_over zero k r e none x = let same : k ≡ r = omega arith in subst (λ (i : ℕ). Back s h Q ts i end P F C L) same x
   passed_over (suc n) k r e none x =
       let some : 0 < k = omega arith in
-      let below = passed-by s h sound Q known ts (k - 1) end P F C L (here k some x) (get_or ts (k - 1) 0) refl (none (k - 1) (omega arith) (omega arith)) in
+      let below = passed_by s h sound Q known ts (k - 1) end P F C L (here k some x) (get_or ts (k - 1) 0) refl (none (k - 1) (omega arith) (omega arith)) in
       passed_over n (k - 1) r (omega arith) (λ i a b. none i a (omega arith)) below
 
   pub met_next : (k r : ℕ) → Met ts F k r → Back s h Q ts k end P F C L → Back s h Q ts r end P F C L

@@ -40,8 +40,8 @@ pub record RaisersAdded (s : List ℕ) (h : Header) (p : ℕ) (last first first'
 pub record Entered (s : List ℕ) (h : Header) (new : ℕ → Bool) (last places first places' first' : List ℕ) : Type 0 where
   pub kept : (k : ℕ) → member places' k ≡ member places k || new k
   pub raisers : Raisers s h (member places) last first → Raisers s h (member places') last first'
-  pub places-long : length places' ≡ 16
-  pub first-long : length first' ≡ length first
+  pub places_long : length places' ≡ 16
+  pub first_long : length first' ≡ length first
 
 -- none of the firings r..k waits
 abbrev pub PassedBy : List ℕ → List ℕ → ℕ → ℕ → Type 0
@@ -61,12 +61,12 @@ end_of positions = upto (λ i. 0) positions 0
 pub record Back (s : List ℕ) (h : Header) (Q ts : List ℕ) (k end : ℕ) (places first chosen last : List ℕ) : Type 0 where
   pub within : k ≤ length ts
   pub ended : end ≡ end_of (feed (net_from s h) Q k (drop k ts)).positions
-  pub places-are : (p : ℕ) → member places p ≡ among p (feed (net_from s h) Q k (drop k ts)).places
-  pub chosen-are : (t : ℕ) → member chosen t ≡ among t (feed (net_from s h) Q k (drop k ts)).chosen
-  pub last-are : (t : ℕ) → get_or last t 0 ≡ upto (λ i. get_or ts i 0) (feed (net_from s h) Q k (drop k ts)).positions t
+  pub places_are : (p : ℕ) → member places p ≡ among p (feed (net_from s h) Q k (drop k ts)).places
+  pub chosen_are : (t : ℕ) → member chosen t ≡ among t (feed (net_from s h) Q k (drop k ts)).chosen
+  pub last_are : (t : ℕ) → get_or last t 0 ≡ upto (λ i. get_or ts i 0) (feed (net_from s h) Q k (drop k ts)).positions t
   pub raisers : Raisers s h (member places) last first
   pub inputs : (t p : ℕ) → T (member chosen t) → T (takes_from (net_from s h) t p) → T (member places p)
-  pub places-long : length places ≡ 16
-  pub chosen-long : length chosen ≡ 16
-  pub first-long : h.transitions ≤ length first
-  pub last-long : h.transitions ≤ length last
+  pub places_long : length places ≡ 16
+  pub chosen_long : length chosen ≡ 16
+  pub first_long : h.transitions ≤ length first
+  pub last_long : h.transitions ≤ length last

@@ -119,8 +119,8 @@ module _ (places gone : List ℕ) (part : (k : ℕ) → T (member gone k) → T 
     unmarked : (k : ℕ) → bit marks (k / 64) ≡ false → waits places (member gone) k ≡ false
     unmarked k e = is_false _ (λ h. fails _ e (m.marked k h))
 
-    pub lowest-none : IsLowest 64 (bit marks) Nothing → LowestPending places gone marks Nothing
-    lowest-none none = record { lowest = λ k l. unmarked k (none (k / 64) (omega arith)); marked = m }
+    pub lowest_none : IsLowest 64 (bit marks) Nothing → LowestPending places gone marks Nothing
+    lowest_none none = record { lowest = λ k l. unmarked k (none (k / 64) (omega arith)); marked = m }
 
     module _ (i : ℕ) (first : IsLowest 64 (bit marks) (At i)) where
       pub first_word : i < 16
@@ -136,8 +136,8 @@ module _ (places gone : List ℕ) (part : (k : ℕ) → T (member gone k) → T 
               let e : i * 64 + (k - i * 64) ≡ k = omega arith in
               subst (λ (x : ℕ). waits places (member gone) x ≡ false) e (sym (waits-at i (k - i * 64) (omega arith)) ∙ none (k - i * 64) (omega arith))
 
-      pub lowest-at : (z : ℕ) → IsLowest 64 (bit (bit_xor (get_or places i 0) (get_or gone i 0))) (At z) → LowestPending places gone marks (At (i * 64 + z))
-      lowest-at z h = record {
+      pub lowest_at : (z : ℕ) → IsLowest 64 (bit (bit_xor (get_or places i 0) (get_or gone i 0))) (At z) → LowestPending places gone marks (At (i * 64 + z))
+      lowest_at z h = record {
         lowest = (omega (arith, first_word, h.0), sym (waits-at i z h.0) ∙ h.1, below z (omega (arith, h.0)) h.2);
         marked = m;
       }

@@ -34,8 +34,8 @@ module _ {table list : List ℕ} {o : Outcome} (g : Fireable table list o) {end 
   pub part-reached : Reached table (take end list)
   part-reached = subst⁻¹ (λ (n : ℕ). Reached table (take n list)) e g.reached
 
-  pub few-chosen : length (chosen_by table (take end list)) ≤ 65535
-  few-chosen = omega (arith, chosen-few table (take end list), part-reached.short)
+  pub few_chosen : length (chosen_by table (take end list)) ≤ 65535
+  few_chosen = omega (arith, chosen-few table (take end list), part-reached.short)
 
   pub cast_none : {out : List ℕ} {b : Bool} → b ≡ ltb (length out) (length (chosen_by table (take end list))) → b ≡ true
       → Casts (chosen_by table (take (fired_of o (length list)) list)) out out o (Refused 13)

@@ -18,16 +18,16 @@ use Rattle.file.specs.Layout.{net_from}
 use Rattle.file_words.specs.Refusal.{refuse, or_else}
 use Rattle.file_header.specs.declared.Header.{Header}
 use Rattle.file_words.proofs.Laws.{or-false}
-use Rattle.inputs_lists.proofs.Passing.{list-short, list-known}
+use Rattle.inputs_lists.proofs.Passing.{list_short, list_known}
 use Rattle.promise.specs.Calls.{written}
 use Rattle.promise.specs.Firing.{list_refusal, ReplayAnswer, replay_told, replay_or}
 use Rattle.promise.specs.Shadow.{fired_part, shadow_of, lent_refusal, ShadowAnswer, shadow_or}
-use Rattle.promise.proofs.Replays.{differ, list-known as known_among}
+use Rattle.promise.proofs.Replays.{differ, list_known as known_among}
 use Rattle.net.proofs.Markings.{length-tokens}
 use Rattle.replay.specs.Told.{outcome_numbers, held_back}
 use Rattle.replay.specs.declared.Outcome.{Outcome}
 use Rattle.replay.specs.declared.Outcome.TheVariants as outcome
-use Rattle.replay.proofs.Listing.{list-passes, room-enough}
+use Rattle.replay.proofs.Listing.{list_passes, room_enough}
 use Rattle.shadow.specs.Told.{shadow_numbers, fired_of, with_count, cast_by, due_of, fired_projection, Given, Casts, Follows}
 use Rattle.shadow.specs.declared.Shadow.{Shadow}
 use Rattle.shadow.specs.declared.Shadow.TheVariants.{Fired, Short, Full, Refused}
@@ -74,7 +74,7 @@ part_none : (T' : ℕ) (list : List ℕ) → Part T' list 0
 part_none T' list = record { part = omega arith; short = omega arith; known = λ i l. absurd (omega (arith, l)) }
 
 part-listed : (T' : ℕ) (list : List ℕ) (n : ℕ) → list_refusal T' list ≡ 0 → n ≤ length list → Part T' list n
-part-listed T' list n e l = record { part = l; short = omega (arith, l, list-short T' list e); known = λ i h. list-known T' list e i (omega (arith, h, l)) }
+part-listed T' list n e l = record { part = l; short = omega (arith, l, list_short T' list e); known = λ i h. list_known T' list e i (omega (arith, h, l)) }
 
 module _ (N : Net) (list : List ℕ) where
   -- what the answer means, for a list that is not refused
@@ -84,20 +84,20 @@ module _ (N : Net) (list : List ℕ) where
       let M = (replay_from N 0 N.marking list).marking in
       subst (λ (x : Answer). Meaning N 0 N.marking list x M) same (replay-means N 0 N.marking list (known_among N.transitions list passes))
 
-  short-inside : (i p n : ℕ) → list_refusal N.transitions list ≡ 0 → (replay N list).answer ≡ short i p n → i < length list
-  short-inside i p n passes same = let m = means (short i p n) passes same in omega (arith, m.1, m.2.inside)
+  short_inside : (i p n : ℕ) → list_refusal N.transitions list ≡ 0 → (replay N list).answer ≡ short i p n → i < length list
+  short_inside i p n passes same = let m = means (short i p n) passes same in omega (arith, m.1, m.2.inside)
 
-  full-inside : (i p n : ℕ) → list_refusal N.transitions list ≡ 0 → (replay N list).answer ≡ full i p n → i < length list
-  full-inside i p n passes same = let m = means (full i p n) passes same in omega (arith, m.1, m.2.inside)
+  full_inside : (i p n : ℕ) → list_refusal N.transitions list ≡ 0 → (replay N list).answer ≡ full i p n → i < length list
+  full_inside i p n passes same = let m = means (full i p n) passes same in omega (arith, m.1, m.2.inside)
 
   part_by : (k : ℕ) (o : Outcome) → outcome_numbers o ≡ replay_or k (replay N list).answer → (k ≡ 0 → list_refusal N.transitions list ≡ 0)
       → Part N.transitions list (fired_of o (length list))
   part_by zero outcome.Fired e z = part-listed N.transitions list (length list) (z refl) (omega arith)
   part_by zero (outcome.Short i p n) e z =
-      let l = short-inside i p n (z refl) (told-short i p n (replay N list).answer e) in
+      let l = short_inside i p n (z refl) (told-short i p n (replay N list).answer e) in
       part-listed N.transitions list i (z refl) (omega (arith, l))
   part_by zero (outcome.Full i p n) e z =
-      let l = full-inside i p n (z refl) (told-full i p n (replay N list).answer e) in
+      let l = full_inside i p n (z refl) (told-full i p n (replay N list).answer e) in
       part-listed N.transitions list i (z refl) (omega (arith, l))
   part_by zero (outcome.Refused n) e z = not-told n (replay N list).answer e
   part_by (suc k) outcome.Fired e z = differ (ap (λ (x : ReplayAnswer). x.refused) e)
@@ -109,7 +109,7 @@ module _ (N : Net) (list : List ℕ) where
 pub given_by : (plan : List ℕ) (p : Header) (list : List ℕ) (room : ℕ) {slice : List ℕ} {s : Header} {o : Outcome} → Sound slice s → s.kind ≡ 1
     → outcome_numbers o ≡ replay_or (held_back p list room) (replay (net_from plan p) list).answer → Given slice s list o p.transitions
 given_by plan p list room {slice} {s} {o} w k e =
-    let part = part_by (net_from plan p) list (held_back p list room) o e (λ z. list-passes p list room refl z) in
+    let part = part_by (net_from plan p) list (held_back p list room) o e (λ z. list_passes p list room refl z) in
     record { sound = w; kind = k; part = part.part; short = part.short; known = part.known }
 
 -- ---- the projection of what is fired is the shadow
@@ -135,9 +135,9 @@ module _ (N : Net) (S : Slice) (list : List ℕ) where
   abbrev P : List ℕ
   P = shadow_of N S list
 
-  pub shadow-few : length P ≤ length list
+  pub shadow_few : length P ≤ length list
   unfolding shadow_of
-  shadow-few = omega (arith, project-few S (fired_part answer list), part-few answer list)
+  shadow_few = omega (arith, project-few S (fired_part answer list), part-few answer list)
 
   projected : (o : Outcome) → outcome_numbers o ≡ replay_told answer → fired_projection S o list ≡ P
   unfolding shadow_of
@@ -216,15 +216,15 @@ written-long : (k : ℕ) (l entry : List ℕ) → length l ≤ length entry → 
 written-long zero l entry h = omega (arith, length-append l (drop (length l) entry), length-drop (length l) entry, h)
 written-long (suc k) l entry h = refl
 
-pub apart-long : (plan : List ℕ) (p : Header) (list entry : List ℕ) {apart : List ℕ} → p.places ≤ length entry
+pub apart_long : (plan : List ℕ) (p : Header) (list entry : List ℕ) {apart : List ℕ} → p.places ≤ length entry
     → apart ≡ written (held_back p list (length entry)) (tokens (net_from plan p) (replay (net_from plan p) list).marking) entry → length apart ≡ length entry
-apart-long plan p list entry h e =
+apart_long plan p list entry h e =
     let N = net_from plan p in
     let M = (replay N list).marking in
     ap length e ∙ written-long (held_back p list (length entry)) (tokens N M) entry (omega (arith, length-tokens N M, h))
 
-pub at-due : (apart m : List ℕ) {n due : ℕ} {m' : List ℕ} → n ≡ due → m' ≡ take n apart ++ drop n m → m' ≡ take due apart ++ drop due m
-at-due apart m e f = f ∙ ap (λ (x : ℕ). take x apart ++ drop x m) e
+pub at_due : (apart m : List ℕ) {n due : ℕ} {m' : List ℕ} → n ≡ due → m' ≡ take n apart ++ drop n m → m' ≡ take due apart ++ drop due m
+at_due apart m e f = f ∙ ap (λ (x : ℕ). take x apart ++ drop x m) e
 
 -- what a marking is copied from where it is due
 copied : (k c places n : ℕ) (a : Answer) (r : Shadow) (l rest m m' apart : List ℕ) → length l ≡ places → shadow_numbers r ≡ shadow_or (or_else k c) a n → apart ≡ written k l rest
@@ -238,8 +238,8 @@ copied zero (suc c) places n a r l rest m m' apart long e w f = f ∙ ap (λ (x 
 copied (suc k) c places n a r l rest m m' apart long e w f = f ∙ ap (λ (x : ℕ). take x apart ++ drop x m) (due_none r a k n places e)
 
 -- where it is not certain that the marking stays, the marking is long enough
-pub marking-long : (places : ℕ) (list out m : List ℕ) {b : Bool} → b ≡ (leb (length list) (length out) || ltb (length m) places) → b ≡ false → places ≤ length m
-marking-long places list out m e f = ltb-false (length m) places (or-false (leb (length list) (length out)) (ltb (length m) places) (sym e ∙ f)).1
+pub marking_long : (places : ℕ) (list out m : List ℕ) {b : Bool} → b ≡ (leb (length list) (length out) || ltb (length m) places) → b ≡ false → places ≤ length m
+marking_long places list out m e f = ltb-false (length m) places (or-false (leb (length list) (length out)) (ltb (length m) places) (sym e ∙ f)).1
 
 module _ (plan : List ℕ) (p : Header) (S : Slice) (list : List ℕ) where
   abbrev N : Net
@@ -263,9 +263,9 @@ module _ (plan : List ℕ) (p : Header) (S : Slice) (list : List ℕ) where
   roomy : (m out : List ℕ) → (leb (length list) (length out) || ltb (length m) p.places) ≡ true → held_back p list (length m) ≡ 0 → space_refusal N S list out ≡ 0
   roomy m out c z =
       by_cases (leb (length list) (length out))
-      (λ e. rw (le-ltb (length out) (length (shadow_of N S list)) (omega (arith, shadow-few N S list, leb-true (length list) (length out) e))))
+      (λ e. rw (le-ltb (length out) (length (shadow_of N S list)) (omega (arith, shadow_few N S list, leb-true (length list) (length out) e))))
       (λ e. let f : ltb (length m) p.places ≡ true = rw e at c in
-      absurd (omega (arith, ltb-true (length m) p.places f, room-enough p list (length m) refl z)))
+      absurd (omega (arith, ltb-true (length m) p.places f, room_enough p list (length m) refl z)))
 
   -- the marking that is lent is replayed in
   pub follows_straight : {o : Outcome} {m m' out out' : List ℕ} {r : Shadow} → (leb (length list) (length out) || ltb (length m) p.places) ≡ true

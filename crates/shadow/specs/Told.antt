@@ -76,8 +76,8 @@ pub record Casts (P entry exit : List ℕ) (o : Outcome) (r : Shadow) : Type 0 w
 -- the plan was read, and two markings of so many entries have one for each of its places
 pub record Roomy (plan : List ℕ) (p : Header) (apart entries : ℕ) : Type 0 where
   pub sound : Sound plan p
-  pub apart-long : p.places ≤ apart
-  pub marking-long : p.places ≤ entries
+  pub apart_long : p.places ≤ apart
+  pub marking_long : p.places ≤ entries
 
 -- all of it, for a plan and a slice that were read: m and out are the marking and the output list lent, m' and out' the same afterwards
 pub record Follows (N : Net) (S : Slice) (list m m' out out' : List ℕ) (r : Shadow) : Type 0 where

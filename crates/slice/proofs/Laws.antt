@@ -24,36 +24,36 @@ use Rattle.file_writing.proofs.Bytes.{length-places, length-origins, length-arcs
 use Rattle.file_writing.proofs.Parts.{length-trailer}
 use Rattle.file_arcs.proofs.Rows.{length-arcs_from, range_at}
 use Rattle.slice_arcs.specs.Between.{kept_arcs, Arcs, ArcsWritten}
-use Rattle.slice_arcs.proofs.Restricted.{arcs-restricted}
+use Rattle.slice_arcs.proofs.Restricted.{arcs_restricted}
 use Rattle.slice_parts.specs.Places.{kept_place_bytes}
 use Rattle.slice_parts.proofs.Steps.{places_same}
-use Rattle.tables.proofs.Sets.{sets-after, sets_first, take-sets}
+use Rattle.tables.proofs.Sets.{sets_after, sets_first, take-sets}
 use Rattle.sets.specs.Member.{member, count_below}
 use Rattle.sets.specs.declared.KeptSets.{KeptSets}
-use Rattle.slice_members.proofs.Selected.{selected-below, count-selected}
+use Rattle.slice_members.proofs.Selected.{selected-below, count_selected}
 use Rattle.slice.specs.Kept.{Within, Answers, kept_slice}
 use Rattle.slice.specs.Parts.{Listable, Lists, MembersListed, Tables}
 use Rattle.slice.specs.declared.Cut.{Cut}
 use Rattle.slice.specs.declared.Cut.TheVariants.{Written, Refused}
 
 -- the words that have the numbers below n
-abbrev pub words-for : ℕ → ℕ
-words-for n = (n + 63) / 64
+abbrev pub words_for : ℕ → ℕ
+words_for n = (n + 63) / 64
 
 -- the members of a set in the words for the numbers below n
 module _ {words : List ℕ} {n : ℕ} {list : List ℕ} (l : Listable words n list) where
-  members-are : selected (member words) 0 (words-for n * 64) ≡ selected (member words) 0 n
-  members-are = selected-below (member words) n (words-for n * 64) l.within (omega arith)
+  members_are : selected (member words) 0 (words_for n * 64) ≡ selected (member words) 0 n
+  members_are = selected-below (member words) n (words_for n * 64) l.within (omega arith)
 
-  pub members-fit : length (selected (member words) 0 (words-for n * 64)) ≤ length list
-  members-fit = omega (arith, ap length members-are, length-selected (member words) 0 n, l.room)
+  pub members_fit : length (selected (member words) 0 (words_for n * 64)) ≤ length list
+  members_fit = omega (arith, ap length members_are, length-selected (member words) 0 n, l.room)
 
-  pub members-listed : (stored : List ℕ) (r : ℕ) → r ≡ count_below (member words) (words-for n * 64) → stored ≡ sets list 0 (selected (member words) 0 (words-for n * 64)) → MembersListed words n stored r
-  members-listed stored r count e =
-      let counted : length (selected (member words) 0 (words-for n * 64)) ≡ r = omega (arith, count, count-selected (member words) (words-for n * 64)) in
+  pub members_listed : (stored : List ℕ) (r : ℕ) → r ≡ count_below (member words) (words_for n * 64) → stored ≡ sets list 0 (selected (member words) 0 (words_for n * 64)) → MembersListed words n stored r
+  members_listed stored r count e =
+      let counted : length (selected (member words) 0 (words_for n * 64)) ≡ r = omega (arith, count, count_selected (member words) (words_for n * 64)) in
       record {
-        within = omega (arith, counted, members-fit, ap length e, length-sets list 0 (selected (member words) 0 (words-for n * 64)));
-        members = ap (take r) e ∙ take-sets (selected (member words) 0 (words-for n * 64)) list r counted members-fit ∙ members-are;
+        within = omega (arith, counted, members_fit, ap length e, length-sets list 0 (selected (member words) 0 (words_for n * 64)));
+        members = ap (take r) e ∙ take-sets (selected (member words) 0 (words_for n * 64)) list r counted members_fit ∙ members_are;
       }
 
 module _ (words : List ℕ) (P : ℕ) (within : (p : ℕ) → member words p ≡ true → p < P) where
@@ -65,12 +65,12 @@ module _ (s : List ℕ) (h : Header) (kept : KeptSets) {places transitions : Lis
   pub lists_kept : Within kept h → Sound s h → Lists h (take p places) (take t transitions)
   lists_kept w sound =
       subst⁻¹ (λ (l : List ℕ). Lists h l (take t transitions)) ps.members (subst⁻¹ (Lists h (selected (member kept.places) 0 h.places)) ts.members (record {
-        few-places = omega (arith, length-selected (member kept.places) 0 h.places, sound.placed.places);
-        few-transitions = omega (arith, length-selected (member kept.transitions) 0 h.transitions, sound.placed.transitions);
-        places-rise = selected-rises (member kept.places) 0 h.places;
-        transitions-rise = selected-rises (member kept.transitions) 0 h.transitions;
-        places-known = member-known kept.places h.places w.places;
-        transitions-known = member-known kept.transitions h.transitions w.transitions;
+        few_places = omega (arith, length-selected (member kept.places) 0 h.places, sound.placed.places);
+        few_transitions = omega (arith, length-selected (member kept.transitions) 0 h.transitions, sound.placed.transitions);
+        places_rise = selected-rises (member kept.places) 0 h.places;
+        transitions_rise = selected-rises (member kept.transitions) 0 h.transitions;
+        places_known = member-known kept.places h.places w.places;
+        transitions_known = member-known kept.transitions h.transitions w.transitions;
       }))
 
   pub slice_kept : {entry exit : List ℕ} {r : Cut} → Answers h.edition (keeping (net_from s h) (take p places) (take t transitions)) entry exit r → Answers h.edition (kept_slice s h kept) entry exit r
@@ -82,16 +82,16 @@ module _ (s : List ℕ) (h : Header) (sound : Sound s h) (ps ts places transitio
   good : (j : ℕ) → j < h.arcs → ArcGood h.places h.transitions (arc_at s (h.arcstart + 8 * j))
   good j l = range_at h.places h.transitions s h.arcstart h.arcs j sound.arcs l
 
-  pub arcs-known : Arcs s h.arcstart h.arcs places transitions
-  arcs-known = record {
+  pub arcs_known : Arcs s h.arcstart h.arcs places transitions
+  arcs_known = record {
     few = sound.placed.arcs;
     fit = omega (arith, sound.placed.arcs_fit, sound.placed.origins_fit);
-    places-known = λ j l. omega (arith, (good j l).place, tables.places-reach);
-    transitions-known = λ j l. omega (arith, (good j l).transition, tables.transitions-reach);
+    places_known = λ j l. omega (arith, (good j l).place, tables.places_reach);
+    transitions_known = λ j l. omega (arith, (good j l).transition, tables.transitions_reach);
   }
 
-  pub arcs-are : kept_arcs places transitions (arcs_from s h.arcstart h.arcs) ≡ restrict ps ts (net_from s h).arcs
-  arcs-are = arcs-restricted ps ts places transitions s tables.places-own tables.transitions-own h.arcstart h.arcs arcs-known
+  pub arcs_are : kept_arcs places transitions (arcs_from s h.arcstart h.arcs) ≡ restrict ps ts (net_from s h).arcs
+  arcs_are = arcs_restricted ps ts places transitions s tables.places_own tables.transitions_own h.arcstart h.arcs arcs_known
 
 restrict-length : (ps ts : List ℕ) (l : List Arc) → length (restrict ps ts l) ≤ length l
 unfolding restrict
@@ -101,8 +101,8 @@ restrict-length ps ts (a ∷ l) =
     (λ e. rw (e, restrict) (omega (arith, restrict-length ps ts l)))
     (λ e. rw (e, restrict) (omega (arith, restrict-length ps ts l)))
 
-pub few-arcs : (s : List ℕ) (h : Header) (ps ts : List ℕ) → length (restrict ps ts (net_from s h).arcs) ≤ h.arcs
-few-arcs s h ps ts = omega (arith, restrict-length ps ts (net_from s h).arcs, length-arcs_from s h.arcstart h.arcs)
+pub few_arcs : (s : List ℕ) (h : Header) (ps ts : List ℕ) → length (restrict ps ts (net_from s h).arcs) ≤ h.arcs
+few_arcs s h ps ts = omega (arith, restrict-length ps ts (net_from s h).arcs, length-arcs_from s h.arcstart h.arcs)
 
 module _ (e : ℕ) (N : Net) (ps ts : List ℕ) where
   abbrev M : List ℕ
@@ -140,9 +140,9 @@ module _ (e : ℕ) (N : Net) (ps ts : List ℕ) where
   length_R : length R ≡ 16
   length_R = length-trailer 1 e (slice_body e (keeping N ps ts)) (keeping N ps ts).net.places (keeping N ps ts).net.transitions (length (keeping N ps ts).net.arcs)
 
-  file-parts : slice_bytes e (keeping N ps ts) ≡ M ++ A ++ origins_bytes ps ++ origins_bytes ts ++ R
+  file_parts : slice_bytes e (keeping N ps ts) ≡ M ++ A ++ origins_bytes ps ++ origins_bytes ts ++ R
   unfolding slice_bytes keeping
-  file-parts =
+  file_parts =
       ap (λ (l : List ℕ). l ++ A ++ origins_bytes ps ++ origins_bytes ts ++ R)
       (places_same e (λ i. N.marking (get_or ps i 0)) (on_kept ps N.marking) (λ i. N.cap (get_or ps i 0)) (on_kept ps N.cap) 0 (length ps)
       (λ i l. (below_at (length ps) (λ k. N.marking (get_or ps k 0)) (0 + i) (omega arith), below_at (length ps) (λ k. N.cap (get_or ps k 0)) (0 + i) (omega arith))))
@@ -151,10 +151,10 @@ module _ (e : ℕ) (N : Net) (ps ts : List ℕ) where
   unfolding slice_body keeping
   trailer_is = refl
 
-  pub file-length : length (slice_bytes e (keeping N ps ts)) ≡ places_length e (length ps) + 2 * length ps + 8 * length (restrict ps ts N.arcs) + 2 * length ts + 16
-  file-length =
+  pub file_length : length (slice_bytes e (keeping N ps ts)) ≡ places_length e (length ps) + 2 * length ps + 8 * length (restrict ps ts N.arcs) + 2 * length ts + 16
+  file_length =
       let all = length-append (M ++ A ++ origins_bytes ps ++ origins_bytes ts) R in
-      omega (arith, ap length (file-parts), all, length-4, length_R)
+      omega (arith, ap length (file_parts), all, length-4, length_R)
 
   pub kept-places : length ps ≡ (keeping N ps ts).net.places
   unfolding keeping
@@ -165,7 +165,7 @@ module _ (e : ℕ) (N : Net) (ps ts : List ℕ) where
   kept-transitions = refl
 
   -- the parts stored one after the other are the file
-  pub parts-stored : (found : List Arc) (start middle : ℕ) (s b₁ b₂ b₃ b₄ b₅ : List ℕ) → found ≡ restrict ps ts N.arcs
+  pub parts_stored : (found : List Arc) (start middle : ℕ) (s b₁ b₂ b₃ b₄ b₅ : List ℕ) → found ≡ restrict ps ts N.arcs
       → start ≡ places_length e (length ps)
       → b₁ ≡ sets s 0 (kept_place_bytes e N ps)
       → ArcsWritten b₁ start (arcs_bytes found) b₂ middle
@@ -173,7 +173,7 @@ module _ (e : ℕ) (N : Net) (ps ts : List ℕ) where
       → b₄ ≡ sets b₃ (middle + 2 * length ps) (origins_bytes ts)
       → b₅ ≡ sets b₄ (middle + 2 * length ps + 2 * length ts) (trailer_bytes 1 e (middle + 2 * length ps + 2 * length ts) (length ps) (length ts) ((middle - start) / 8))
       → b₅ ≡ sets s 0 (slice_bytes e (keeping N ps ts))
-  parts-stored found start middle s b₁ b₂ b₃ b₄ b₅ same e₀ e₁ w e₃ e₄ e₅ =
+  parts_stored found start middle s b₁ b₂ b₃ b₄ b₅ same e₀ e₁ w e₃ e₄ e₅ =
       let P = origins_bytes ps in
       let T = origins_bytes ts in
       let end : ℕ = middle + 2 * length ps + 2 * length ts in
@@ -181,12 +181,12 @@ module _ (e : ℕ) (N : Net) (ps ts : List ℕ) where
       let count : (middle - start) / 8 ≡ n = omega (arith, at) in
       let whole : end ≡ body n = omega (arith, at, e₀) in
       let here₅ : b₅ ≡ sets b₄ end R = e₅ ∙ (λ i. sets b₄ end (trailer_bytes 1 e (whole i) (length ps) (length ts) (count i))) ∙ ap (sets b₄ end) (sym trailer_is) in
-      let to₄ = sets-after P T b₂ middle (middle + 2 * length ps) e₃ e₄ (omega (arith, length-origins ps)) in
-      let to₅ = sets-after (P ++ T) R b₂ middle end to₄ here₅ (omega (arith, length-append P T, length-origins ps, length-origins ts)) in
+      let to₄ = sets_after P T b₂ middle (middle + 2 * length ps) e₃ e₄ (omega (arith, length-origins ps)) in
+      let to₅ = sets_after (P ++ T) R b₂ middle end to₄ here₅ (omega (arith, length-append P T, length-origins ps, length-origins ts)) in
       let rest : b₅ ≡ sets b₁ start (A ++ (P ++ T ++ R)) =
       to₅ ∙ w.same (P ++ T ++ R) (omega (arith, length-append (P ++ T) R, length_R)) ∙ ap (λ (l : List Arc). sets b₁ start (arcs_bytes l ++ (P ++ T ++ R))) same in
       let regroup : M ++ (A ++ (P ++ T ++ R)) ≡ M ++ A ++ P ++ T ++ R = simp append_assoc in
-      sets-after M (A ++ (P ++ T ++ R)) s 0 start e₁ rest (omega (arith, length-1, e₀)) ∙ ap (sets s 0) (regroup ∙ sym (file-parts))
+      sets_after M (A ++ (P ++ T ++ R)) s 0 start e₁ rest (omega (arith, length-1, e₀)) ∙ ap (sets s 0) (regroup ∙ sym (file_parts))
 
 -- the answers
 module _ (e : ℕ) (S : Slice) (entry : List ℕ) where

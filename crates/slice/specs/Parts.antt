@@ -18,12 +18,12 @@ pub record MembersListed (words : List ℕ) (n : ℕ) (list : List ℕ) (r : ℕ
 
 -- rising lists of the plan's places and transitions
 pub record Lists (h : Header) (ps ts : List ℕ) : Type 0 where
-  pub few-places : length ps ≤ 1024
-  pub few-transitions : length ts ≤ 1024
-  pub places-rise : Rising ps
-  pub transitions-rise : Rising ts
-  pub places-known : (i : ℕ) → i < length ps → get_or ps i 0 < h.places
-  pub transitions-known : (i : ℕ) → i < length ts → get_or ts i 0 < h.transitions
+  pub few_places : length ps ≤ 1024
+  pub few_transitions : length ts ≤ 1024
+  pub places_rise : Rising ps
+  pub transitions_rise : Rising ts
+  pub places_known : (i : ℕ) → i < length ps → get_or ps i 0 < h.places
+  pub transitions_known : (i : ℕ) → i < length ts → get_or ts i 0 < h.transitions
 
 -- a table of zeros that reaches the numbers below n
 pub record Cleared (n : ℕ) (table : List ℕ) : Type 0 where
@@ -32,7 +32,7 @@ pub record Cleared (n : ℕ) (table : List ℕ) : Type 0 where
 
 -- the tables of the new numbers of places and transitions
 pub record Tables (h : Header) (ps ts places transitions : List ℕ) : Type 0 where
-  pub places-reach : h.places ≤ length places
-  pub transitions-reach : h.transitions ≤ length transitions
-  pub places-own : Own ps places
-  pub transitions-own : Own ts transitions
+  pub places_reach : h.places ≤ length places
+  pub transitions_reach : h.transitions ≤ length transitions
+  pub places_own : Own ps places
+  pub transitions_own : Own ts transitions

@@ -50,5 +50,5 @@ module _ (ps ts P T s : List ℕ) (places : Own ps P) (transitions : Own ts T) w
       (subst (λ (a : Arc). a.place < length P) (first s at) (h 0 (omega arith)))
       (subst (λ (a : Arc). a.transition < length T) (first s at) (g 0 (omega arith)))
 
-  pub arcs-restricted : (start n : ℕ) → Arcs s start n P T → kept_arcs P T (arcs_from s start n) ≡ restrict ps ts (arcs_from s start n)
-  arcs-restricted start n k = all start n k.places-known k.transitions-known
+  pub arcs_restricted : (start n : ℕ) → Arcs s start n P T → kept_arcs P T (arcs_from s start n) ≡ restrict ps ts (arcs_from s start n)
+  arcs_restricted start n k = all start n k.places_known k.transitions_known

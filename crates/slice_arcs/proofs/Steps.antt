@@ -7,7 +7,7 @@ use lib.ListN.{length, get_or, length-append}
 use Rattle.net.specs.declared.Arc.{Arc}
 use Rattle.file_arcs.specs.Layout.{arc_at, arcs_from}
 use Rattle.file_writing.specs.Writing.{arc_bytes, arcs_bytes}
-use Rattle.file_arcs.proofs.Laws.{arcs-cons, arcs-none}
+use Rattle.file_arcs.proofs.Laws.{arcs_cons, arcs_none}
 use Rattle.slice_arcs.specs.Between.{kept_arc, kept_arcs}
 
 bytes-append : (l m : List Arc) → arcs_bytes (l ++ m) ≡ arcs_bytes l ++ arcs_bytes m
@@ -36,8 +36,8 @@ module _ (t p : ℕ) (a : Arc) where
 abbrev pub arcs_at : List ℕ → ℕ → ℕ → ℕ → List Arc
 arcs_at s start j n = arcs_from s (start + 8 * j) (n - j)
 
-pub arcs-all : (s : List ℕ) (start n : ℕ) → arcs_from s start n ≡ arcs_at s start 0 n
-arcs-all s start n = let e : start ≡ start + 8 * 0 = omega arith in let d : n ≡ n - 0 = omega arith in λ i. arcs_from s (e i) (d i)
+pub arcs_all : (s : List ℕ) (start n : ℕ) → arcs_from s start n ≡ arcs_at s start 0 n
+arcs_all s start n = let e : start ≡ start + 8 * 0 = omega arith in let d : n ≡ n - 0 = omega arith in λ i. arcs_from s (e i) (d i)
 
 module _ (s : List ℕ) (start : ℕ) (P T : List ℕ) (j n : ℕ) where
   module _ (a : Arc) (e : a ≡ arc_at s (start + 8 * j)) (h : j < n) where
@@ -53,7 +53,7 @@ module _ (s : List ℕ) (start : ℕ) (P T : List ℕ) (j n : ℕ) where
         let after : start + 8 * j + 8 ≡ start + 8 * (j + 1) = omega arith in
         let less : n - j - 1 ≡ n - (j + 1) = omega arith in
         let same = sym e in
-        ap (kept_arcs P T) (arcs-cons s (start + 8 * j) (n - j) (omega arith))
+        ap (kept_arcs P T) (arcs_cons s (start + 8 * j) (n - j) (omega arith))
         ∙ (λ i. kept_arc (get_or T (same i).transition 0) (get_or P (same i).place 0) (same i) ++ kept_arcs P T (arcs_from s (after i) (less i)))
 
     pub next-bytes : arcs_bytes (kept_arcs P T (arcs_at s start j n)) ≡ arcs_bytes here ++ arcs_bytes rest
@@ -64,7 +64,7 @@ module _ (s : List ℕ) (start : ℕ) (P T : List ℕ) (j n : ℕ) where
 
   pub none_left : n ≤ j → kept_arcs P T (arcs_at s start j n) ≡ []
   unfolding kept_arcs
-  none_left h = rw (arcs-none s (start + 8 * j) (n - j) (omega arith), kept_arcs)
+  none_left h = rw (arcs_none s (start + 8 * j) (n - j) (omega arith), kept_arcs)
 
 pub no_bytes : {l : List Arc} → l ≡ [] → arcs_bytes l ≡ []
 unfolding arcs_bytes

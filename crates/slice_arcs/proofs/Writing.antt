@@ -9,7 +9,7 @@ use Rattle.net.specs.declared.Arc.{Arc}
 use Rattle.file_words.specs.Word.{bytes16}
 use Rattle.file_writing.specs.Writing.{arc_bytes, arcs_bytes}
 use Rattle.file_writing.proofs.Bytes.{length-arc}
-use Rattle.tables.proofs.Sets.{sets-join, sets_over}
+use Rattle.tables.proofs.Sets.{sets_join, sets_over}
 use Rattle.slice_arcs.specs.Between.{renumbered, kept_arc, ArcsWritten}
 
 -- 65,535 more is one less in 16 bits
@@ -46,7 +46,7 @@ module _ {entry : List ℕ} {first : ℕ} {all l : List ℕ} {at : ℕ} where
       long = ap length e ∙ length-sets l at bytes ∙ w.long;
       count = omega (arith, w.count, length-append bytes left, eight, f);
       same = λ rest h.
-          ap (λ (x : List ℕ). sets x k (left ++ rest)) e ∙ sets-join bytes (left ++ rest) l at k (omega (arith, f, eight))
+          ap (λ (x : List ℕ). sets x k (left ++ rest)) e ∙ sets_join bytes (left ++ rest) l at k (omega (arith, f, eight))
           ∙ ap (sets l at) (sym (append_assoc bytes left rest)) ∙ w.same rest h;
     }
 

@@ -24,8 +24,8 @@ kept_arcs places transitions (a ∷ rest) = kept_arc (get_or transitions a.trans
 pub record Arcs (s : List ℕ) (start count : ℕ) (places transitions : List ℕ) : Type 0 where
   pub few : count ≤ 4096
   pub fit : start + 8 * count ≤ length s
-  pub places-known : (j : ℕ) → j < count → (arc_at s (start + 8 * j)).place < length places
-  pub transitions-known : (j : ℕ) → j < count → (arc_at s (start + 8 * j)).transition < length transitions
+  pub places_known : (j : ℕ) → j < count → (arc_at s (start + 8 * j)).place < length places
+  pub transitions_known : (j : ℕ) → j < count → (arc_at s (start + 8 * j)).transition < length transitions
 
 -- the list `all` stands in the buffer from `first` to `end`, once what follows it, eight bytes or more, is written too
 pub record ArcsWritten (entry : List ℕ) (first : ℕ) (all exit : List ℕ) (end : ℕ) : Type 0 where

@@ -48,15 +48,15 @@ selected-below f n m h l =
     ∙ append-nil (selected f 0 n)
 
 -- the count of those below n that pass
-pub count-selected : (f : ℕ → Bool) (n : ℕ) → count_below f n ≡ length (selected f 0 n)
+pub count_selected : (f : ℕ → Bool) (n : ℕ) → count_below f n ≡ length (selected f 0 n)
 unfolding count_below selected
-count-selected f zero = refl
-count-selected f (suc n) =
+count_selected f zero = refl
+count_selected f (suc n) =
     let e : 0 + n ≡ n = omega arith in
     let next = rw e at (count_next f 0 n) in
     by_cases (f n)
-    (λ h. rw h (omega (arith, rw h at next, count-selected f n)))
-    (λ h. rw h (omega (arith, rw h at next, count-selected f n)))
+    (λ h. rw h (omega (arith, rw h at next, count_selected f n)))
+    (λ h. rw h (omega (arith, rw h at next, count_selected f n)))
 
 -- the lowest that passes, and those that pass once it does not
 pub selected-lowest : (f g : ℕ → Bool) (a z n : ℕ) → z < n → ((k : ℕ) → k < z → f (a + k) ≡ false) → f (a + z) ≡ true → g (a + z) ≡ false
@@ -79,9 +79,9 @@ selected-lowest f g a (suc z) (suc n) l under at gone others =
 
 -- ---- the bits of a word
 
-same-digit : (b : Bool) → differs b false ≡ b
-same-digit true = refl
-same-digit false = refl
+same_digit : (b : Bool) → differs b false ≡ b
+same_digit true = refl
+same_digit false = refl
 
 pub bits_none : (base : ℕ) → bits_from base 0 ≡ []
 unfolding bits_from
@@ -114,8 +114,8 @@ without_lowest (suc d) w h = go (w % 2) refl h (λ l. without_lowest d (w / 2) l
         ∙ sym (xor_step w 1 ∙ (λ i. bit_xor (w / 2) 0 * 2 + differ (one i) 1) ∙ ap (λ (x : ℕ). x * 2 + 0) (xor_zero_r (w / 2)))
 
 module _ (base w : ℕ) (small : w < 2 ^ 64) (some : w ≢ 0) where
-  low-lt : count_trailing_zeros 64 w < 64
-  low-lt = lt_of_not-le (λ h. some (trailing_all 64 w small h))
+  low_lt : count_trailing_zeros 64 w < 64
+  low_lt = lt_of_not-le (λ h. some (trailing_all 64 w small h))
 
   bits_next : bits_from base w ≡ (base + count_trailing_zeros 64 w) ∷ bits_from base (bit_xor w (2 ^ count_trailing_zeros 64 w))
   unfolding bits_from
@@ -124,14 +124,14 @@ module _ (base w : ℕ) (small : w < 2 ^ 64) (some : w ≢ 0) where
       let p : ℕ = 2 ^ z in
       let back : (k : ℕ) → base + k - base ≡ k = λ k. omega arith in
       let after : (k : ℕ) → bit (bit_xor w p) k ≡ differs (bit w k) (eqb k z) = λ k. bit-xor w p k ∙ ap (λ (b : Bool). differs (bit w k) b) (bit-pow z k) in
-      selected-lowest (λ k. bit w (k - base)) (λ k. bit (bit_xor w p) (k - base)) base z 64 low-lt
+      selected-lowest (λ k. bit w (k - base)) (λ k. bit (bit_xor w p) (k - base)) base z 64 low_lt
       (λ k l. ap (bit w) (back k) ∙ trailing_below 64 w k l)
-      (ap (bit w) (back z) ∙ trailing_at 64 w low-lt)
-      (ap (bit (bit_xor w p)) (back z) ∙ after z ∙ rw (eq-eqb z z refl, trailing_at 64 w low-lt))
-      (λ x l q. after (x - base) ∙ rw (ne_eqb (x - base) z (λ e. q (omega arith))) (same-digit (bit w (x - base))))
+      (ap (bit w) (back z) ∙ trailing_at 64 w low_lt)
+      (ap (bit (bit_xor w p)) (back z) ∙ after z ∙ rw (eq-eqb z z refl, trailing_at 64 w low_lt))
+      (λ x l q. after (x - base) ∙ rw (ne_eqb (x - base) z (λ e. q (omega arith))) (same_digit (bit w (x - base))))
 
   pub bits_rest : bits_from base w ≡ (base + count_trailing_zeros 64 w) ∷ bits_from base (bit_and w (w - 1))
-  bits_rest = bits_next ∙ ap (λ (x : ℕ). (base + count_trailing_zeros 64 w) ∷ bits_from base x) (sym (without_lowest 64 w low-lt))
+  bits_rest = bits_next ∙ ap (λ (x : ℕ). (base + count_trailing_zeros 64 w) ∷ bits_from base x) (sym (without_lowest 64 w low_lt))
 
 -- word i of a set
 pub word-bits : (words : List ℕ) (i : ℕ) → selected (member words) (i * 64) 64 ≡ bits_from (i * 64) (get_or words i 0)
@@ -142,15 +142,15 @@ word-bits words i = selected-same (member words) (λ k. bit (get_or words i 0) (
 
 -- the members from word i on: those of word i, and those from the next word on
 module _ (words : List ℕ) (i m : ℕ) (h : i < m) where
-  pub members-next : selected (member words) (i * 64) (m * 64 - i * 64) ≡ bits_from (i * 64) (get_or words i 0) ++ selected (member words) ((i + 1) * 64) (m * 64 - (i + 1) * 64)
-  members-next =
+  pub members_next : selected (member words) (i * 64) (m * 64 - i * 64) ≡ bits_from (i * 64) (get_or words i 0) ++ selected (member words) ((i + 1) * 64) (m * 64 - (i + 1) * 64)
+  members_next =
       let e : m * 64 - i * 64 ≡ 64 + (m * 64 - (i + 1) * 64) = omega arith in
       let d : i * 64 + 64 ≡ (i + 1) * 64 = omega arith in
       ap (selected (member words) (i * 64)) e ∙ selected-parts (member words) (i * 64) 64 (m * 64 - (i + 1) * 64)
       ∙ (λ j. word-bits words i j ++ selected (member words) (d j) (m * 64 - (i + 1) * 64))
 
-  pub members-count : length (selected (member words) (i * 64) (m * 64 - i * 64)) ≡ length (bits_from (i * 64) (get_or words i 0)) + length (selected (member words) ((i + 1) * 64) (m * 64 - (i + 1) * 64))
-  members-count = ap length members-next ∙ length-append (bits_from (i * 64) (get_or words i 0)) (selected (member words) ((i + 1) * 64) (m * 64 - (i + 1) * 64))
+  pub members_count : length (selected (member words) (i * 64) (m * 64 - i * 64)) ≡ length (bits_from (i * 64) (get_or words i 0)) + length (selected (member words) ((i + 1) * 64) (m * 64 - (i + 1) * 64))
+  members_count = ap length members_next ∙ length-append (bits_from (i * 64) (get_or words i 0)) (selected (member words) ((i + 1) * 64) (m * 64 - (i + 1) * 64))
 
 -- nothing from word m on
 pub selected-end : (f : ℕ → Bool) (i m : ℕ) → m ≤ i → selected f (i * 64) (m * 64 - i * 64) ≡ []

@@ -20,10 +20,10 @@ places_same e M m C c a (suc n) h =
     λ x. place_bytes (eqb e 2) (here.0 x) (here.1 x) ++ rest x
 
 module _ (l : List ℕ) (i : ℕ) where
-  pub origins-next : i < length l → origins_bytes (drop i l) ≡ bytes16 (get_or l i 0) ++ origins_bytes (drop (i + 1) l)
+  pub origins_next : i < length l → origins_bytes (drop i l) ≡ bytes16 (get_or l i 0) ++ origins_bytes (drop (i + 1) l)
   unfolding origins_bytes
-  origins-next h = rw (drop-cons l i 0 h, origins_bytes, add-one i)
+  origins_next h = rw (drop-cons l i 0 h, origins_bytes, add-one i)
 
-  pub origins-end : i ≡ length l → origins_bytes (drop i l) ≡ []
+  pub origins_end : i ≡ length l → origins_bytes (drop i l) ≡ []
   unfolding origins_bytes
-  origins-end e = ap (λ (k : ℕ). origins_bytes (drop k l)) e ∙ ap origins_bytes (drop-length l)
+  origins_end e = ap (λ (k : ℕ). origins_bytes (drop k l)) e ∙ ap origins_bytes (drop-length l)

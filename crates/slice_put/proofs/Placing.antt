@@ -16,7 +16,7 @@ use Rattle.file_words.proofs.Bytes.{length-32}
 use Rattle.file_header.specs.Layout.{pick, places_length}
 use Rattle.file_writing.specs.Writing.{place_bytes, places_bytes, arc_bytes, arcs_bytes}
 use Rattle.file_writing.proofs.Bytes.{length-arc}
-use Rattle.tables.proofs.Sets.{sets-after}
+use Rattle.tables.proofs.Sets.{sets_after}
 use Rattle.tables.proofs.Storing.{Storing, storing_as, storing_part}
 
 -- ---- a place by edition
@@ -28,16 +28,16 @@ place-next e p = go (eqb e 2)
     go true = omega arith
     go false = omega arith
 
-pub places-none : (e : ℕ) → 0 ≡ places_length e 0
-places-none e = go (eqb e 2)
+pub places_none : (e : ℕ) → 0 ≡ places_length e 0
+places_none e = go (eqb e 2)
   where
     go : (b : Bool) → 0 ≡ pick b (8 * 0) (4 * 0)
     go true = refl
     go false = refl
 
 -- one more of n places lies within the bytes of all
-pub places-within : (e p n : ℕ) → p < n → places_length e (p + 1) ≤ places_length e n
-places-within e p n l = go (eqb e 2)
+pub places_within : (e p n : ℕ) → p < n → places_length e (p + 1) ≤ places_length e n
+places_within e p n l = go (eqb e 2)
   where
     go : (b : Bool) → pick b (8 * (p + 1)) (4 * (p + 1)) ≤ pick b (8 * n) (4 * n)
     go true = omega arith
@@ -52,7 +52,7 @@ plain_length e n h = ap (λ (b : Bool). pick b (8 * n) (4 * n)) (ne_eqb e 2 h)
 module _ (l : List ℕ) (e p m c : ℕ) where
   pub capped-put : {a b : List ℕ} → e ≡ 2 → a ≡ sets l (8 * p) (bytes32 m) → b ≡ sets a (8 * p + 4) (bytes32 c) → b ≡ sets l (places_length e p) (place_bytes (eqb e 2) m c)
   capped-put h f g =
-      sets-after (bytes32 m) (bytes32 c) l (8 * p) (8 * p + 4) f g (omega (arith, length-32 m))
+      sets_after (bytes32 m) (bytes32 c) l (8 * p) (8 * p + 4) f g (omega (arith, length-32 m))
       ∙ (λ i. sets l (sym (capped-length e p h) i) (place_bytes (sym (eq-eqb e 2 h) i) m c))
 
   pub plain_put : {a : List ℕ} → e ≢ 2 → a ≡ sets l (4 * p) (bytes32 m) → a ≡ sets l (places_length e p) (place_bytes (eqb e 2) m c)
@@ -68,21 +68,21 @@ module _ (e : ℕ) (M C : ℕ → ℕ) (n : ℕ) where
   abbrev pub places_from : ℕ → List ℕ
   places_from p = places_bytes e M C p (n - p)
 
-  pub places-all : places_bytes e M C 0 n ≡ places_from 0
-  places-all = let z : n ≡ n - 0 = omega arith in ap (places_bytes e M C 0) z
+  pub places_all : places_bytes e M C 0 n ≡ places_from 0
+  places_all = let z : n ≡ n - 0 = omega arith in ap (places_bytes e M C 0) z
 
-  places-next : (p : ℕ) → p < n → places_from p ≡ place_bytes (eqb e 2) (M p) (C p) ++ places_from (p + 1)
+  places_next : (p : ℕ) → p < n → places_from p ≡ place_bytes (eqb e 2) (M p) (C p) ++ places_from (p + 1)
   unfolding places_bytes
-  places-next p l = let z : n - p ≡ suc (n - (p + 1)) = omega arith in rw (z, add-one p)
+  places_next p l = let z : n - p ≡ suc (n - (p + 1)) = omega arith in rw (z, add-one p)
 
-  pub places-end : (p : ℕ) → n ≤ p → places_from p ≡ []
+  pub places_end : (p : ℕ) → n ≤ p → places_from p ≡ []
   unfolding places_bytes
-  places-end p l = let z : n - p ≡ 0 = omega arith in rw z
+  places_end p l = let z : n - p ≡ 0 = omega arith in rw z
 
   pub place-stored : {l₀ l next : List ℕ} {first : ℕ} {all : List ℕ} (p : ℕ) → p < n → Storing l₀ first all l (places_length e p) (places_from p)
       → next ≡ sets l (places_length e p) (place_bytes (eqb e 2) (M p) (C p)) → Storing l₀ first all next (places_length e (p + 1)) (places_from (p + 1))
   place-stored p l s f =
-      storing_part (place_bytes (eqb e 2) (M p) (C p)) (places_from (p + 1)) _ (places_length e (p + 1)) (storing_as s (places-next p l)) f
+      storing_part (place_bytes (eqb e 2) (M p) (C p)) (places_from (p + 1)) _ (places_length e (p + 1)) (storing_as s (places_next p l)) f
       (omega (arith, place-next e p, place-long (eqb e 2) (M p) (C p)))
 
 -- ---- a row of arcs

@@ -5,9 +5,9 @@ use mathlib.Core.Path.{◌≡◌, ap, ◌∙◌}
 use native.Mathlib.Omega.{arith}
 use Rattle.file_words.specs.Word.{bytes16}
 
-pub kind-edition : (k e : ℕ) → k ≤ 1 → e ≤ 2 → bytes16 (k + 256 * e) ≡ k ∷ e ∷ []
+pub kind_edition : (k e : ℕ) → k ≤ 1 → e ≤ 2 → bytes16 (k + 256 * e) ≡ k ∷ e ∷ []
 unfolding bytes16
-kind-edition k e l h =
+kind_edition k e l h =
     let kind : (k + 256 * e) % 256 ≡ k = omega arith in
     let whole : (k + 256 * e) / 256 ≡ e = omega arith in
     let small : e % 256 ≡ e = omega arith in

@@ -23,7 +23,7 @@ use Rattle.file_writing.proofs.Bytes.{length-place, length-places}
 use Rattle.file_words.specs.Refusal.{refuse}
 use Rattle.promise.specs.Calls.{CutAnswer, cut_answer, written}
 use Rattle.promise.specs.Starts.{starting_at}
-use Rattle.tables.proofs.Sets.{sets_first, sets-after}
+use Rattle.tables.proofs.Sets.{sets_first, sets_after}
 use Rattle.slice_parts.proofs.Steps.{places_same}
 use Rattle.sets.specs.Member.{bit, member}
 use Rattle.sets.proofs.Bits.{bit-zero}
@@ -34,9 +34,9 @@ use Rattle.starting.specs.Cuts.{given, passed_bytes, NoneKept}
 
 -- ---- a place in either edition
 
-pub least-place : (b : Bool) → 4 ≤ pick b 8 4
-least-place true = omega arith
-least-place false = omega arith
+pub least_place : (b : Bool) → 4 ≤ pick b 8 4
+least_place true = omega arith
+least_place false = omega arith
 
 module _ (e tokens most : ℕ) where
   pub place-capped : e ≡ 2 → bytes32 tokens ++ bytes32 most ≡ place_bytes (eqb e 2) tokens most
@@ -78,10 +78,10 @@ module _ (e : ℕ) (M C : ℕ → ℕ) where
   shifted m c a (suc n) = ap (λ (l : List ℕ). place_bytes (eqb e 2) (m (suc a)) (c (suc a)) ++ l) (shifted m c (suc a) n)
 
   module _ (test : ℕ → Bool) where
-    pub passed-listed : (p n : ℕ) → passed_bytes e M C test p n ≡ listed (selected test p n)
+    pub passed_listed : (p n : ℕ) → passed_bytes e M C test p n ≡ listed (selected test p n)
     unfolding passed_bytes places_bytes selected
-    passed-listed p zero = refl
-    passed-listed p (suc n) = by (test p) (selected test (suc p) n) (passed-listed (suc p) n)
+    passed_listed p zero = refl
+    passed_listed p (suc n) = by (test p) (selected test (suc p) n) (passed_listed (suc p) n)
       where
         by : (b : Bool) (ps : List ℕ) → passed_bytes e M C test (suc p) n ≡ listed ps
             → given b (place_bytes (eqb e 2) (M p) (C p)) ++ passed_bytes e M C test (suc p) n ≡ listed (elim b [ true ↦ p ∷ ps | false ↦ ps ])
@@ -138,15 +138,15 @@ module _ (e : ℕ) (M : Marking) (N : Net) (ps ts : List ℕ) where
   unfolding slice_bytes slice_body keeping
   moved-file = simp append_assoc
 
-  places-long : (m : Marking) → length (places m) ≡ places_length e (length ps)
-  places-long m = length-places e (on_kept ps m) (on_kept ps N.cap) 0 (length ps)
+  places_long : (m : Marking) → length (places m) ≡ places_length e (length ps)
+  places_long m = length-places e (on_kept ps m) (on_kept ps N.cap) 0 (length ps)
 
-  file-long : length (slice_bytes e own) ≡ length (slice_bytes e moved)
-  file-long =
-      omega (arith, ap length own-file, ap length moved-file, length-append (places N.marking) rest, length-append (places M) rest, places-long M, places-long N.marking)
+  file_long : length (slice_bytes e own) ≡ length (slice_bytes e moved)
+  file_long =
+      omega (arith, ap length own-file, ap length moved-file, length-append (places N.marking) rest, length-append (places M) rest, places_long M, places_long N.marking)
 
-  room-same : (n : ℕ) → room_refusal e n own ≡ room_refusal e n moved
-  room-same n = ap (λ (k : ℕ). refuse (ltb n k) 13 0) file-long
+  room_same : (n : ℕ) → room_refusal e n own ≡ room_refusal e n moved
+  room_same n = ap (λ (k : ℕ). refuse (ltb n k) 13 0) file_long
 
   count_same : (k n : ℕ) → cut_answer k n own ≡ cut_answer k n moved
   unfolding keeping
@@ -156,8 +156,8 @@ module _ (e : ℕ) (M : Marking) (N : Net) (ps ts : List ℕ) where
   answer-same : (n : ℕ) → cut_answer (room_refusal e n own) (length (slice_bytes e own)) own ≡ cut_answer (room_refusal e n moved) (length (slice_bytes e moved)) moved
   answer-same n =
       count_same (room_refusal e n own) (length (slice_bytes e own))
-      ∙ ap (λ (k : ℕ). cut_answer k (length (slice_bytes e own)) moved) (room-same n)
-      ∙ ap (λ (l : ℕ). cut_answer (room_refusal e n moved) l moved) file-long
+      ∙ ap (λ (k : ℕ). cut_answer k (length (slice_bytes e own)) moved) (room_same n)
+      ∙ ap (λ (l : ℕ). cut_answer (room_refusal e n moved) l moved) file_long
 
   module _ {entry b : List ℕ} {r : Cut} (a : Answers e own entry b r) where
     abbrev k : ℕ
@@ -175,10 +175,10 @@ module _ (e : ℕ) (M : Marking) (N : Net) (ps ts : List ℕ) where
     none (suc m) n t = let z : ◌≡◌ {A = ℕ} 0 1 = cc in absurd (omega (arith, z))
 
     -- refused: nothing is written
-    pub refused-too : (cut_numbers r).refused ≡ true → Answers e moved entry b r
-    refused-too t = record {
+    pub refused_too : (cut_numbers r).refused ≡ true → Answers e moved entry b r
+    refused_too t = record {
       answer = a.answer ∙ answer-same (length entry);
-      buffer = a.buffer ∙ stays k (length (slice_bytes e own)) (sym told ∙ t) (slice_bytes e own) (slice_bytes e moved) entry ∙ ap (λ (m : ℕ). written m (slice_bytes e moved) entry) (room-same (length entry));
+      buffer = a.buffer ∙ stays k (length (slice_bytes e own)) (sym told ∙ t) (slice_bytes e own) (slice_bytes e moved) entry ∙ ap (λ (m : ℕ). written m (slice_bytes e moved) entry) (room_same (length entry));
     }
 
     module _ (t : (cut_numbers r).refused ≡ false) where
@@ -194,11 +194,11 @@ module _ (e : ℕ) (M : Marking) (N : Net) (ps ts : List ℕ) where
           ∙ append_assoc (places N.marking) rest past
 
       pub room_for : length (places M) ≤ length b
-      room_for = omega (arith, ap length stands, length-append (places N.marking) (rest ++ past), places-long M, places-long N.marking)
+      room_for = omega (arith, ap length stands, length-append (places N.marking) (rest ++ past), places_long M, places_long N.marking)
 
       seam : drop (length (places M)) b ≡ rest ++ past
       seam =
-          let same : length (places M) ≡ length (places N.marking) = omega (arith, places-long M, places-long N.marking) in
+          let same : length (places M) ≡ length (places N.marking) = omega (arith, places_long M, places_long N.marking) in
           ap (λ (n : ℕ). drop n b) same ∙ ap (drop (length (places N.marking))) stands ∙ drop-append_seam (places N.marking) (rest ++ past)
 
       -- the markings written over
@@ -208,15 +208,15 @@ module _ (e : ℕ) (M : Marking) (N : Net) (ps ts : List ℕ) where
         buffer =
             f ∙ sets_first (places M) b room_for ∙ ap (λ (l : List ℕ). places M ++ l) seam ∙ sym (append_assoc (places M) rest past)
             ∙ ap (λ (l : List ℕ). l ++ past) (sym moved-file)
-            ∙ ap (λ (n : ℕ). slice_bytes e moved ++ drop n entry) file-long
-            ∙ ap (λ (m : ℕ). written m (slice_bytes e moved) entry) (sym no_refusal ∙ room-same (length entry));
+            ∙ ap (λ (n : ℕ). slice_bytes e moved ++ drop n entry) file_long
+            ∙ ap (λ (m : ℕ). written m (slice_bytes e moved) entry) (sym no_refusal ∙ room_same (length entry));
       }
 
 -- the places of that file, by the test that they pass
-pub passed-kept : (e : ℕ) (M : Marking) (N : Net) (test : ℕ → Bool) (n : ℕ) → passed_bytes e M N.cap test 0 n ≡ places_bytes e (on_kept (selected test 0 n) M) (on_kept (selected test 0 n) N.cap) 0 (length (selected test 0 n))
-passed-kept e M N test n =
+pub passed_kept : (e : ℕ) (M : Marking) (N : Net) (test : ℕ → Bool) (n : ℕ) → passed_bytes e M N.cap test 0 n ≡ places_bytes e (on_kept (selected test 0 n) M) (on_kept (selected test 0 n) N.cap) 0 (length (selected test 0 n))
+passed_kept e M N test n =
     let ps = selected test 0 n in
-    passed-listed e M N.cap test 0 n
+    passed_listed e M N.cap test 0 n
     ∙ sym (places_same e (λ i. M (get_or ps i 0)) (on_kept ps M) (λ i. N.cap (get_or ps i 0)) (on_kept ps N.cap) 0 (length ps)
     (λ i l. (below_at (length ps) (λ k. M (get_or ps k 0)) (0 + i) (omega arith), below_at (length ps) (λ k. N.cap (get_or ps k 0)) (0 + i) (omega arith))))
 
@@ -227,4 +227,4 @@ as_kept s h kept a = a
 
 -- two numbers stored one after the other
 pub two_stored : (l : List ℕ) (i k : ℕ) {a b : List ℕ} {x y m c : ℕ} → k ≡ i + 4 → a ≡ sets l i (bytes32 x) → b ≡ sets a k (bytes32 y) → x ≡ m → y ≡ c → b ≡ sets l i (bytes32 m ++ bytes32 c)
-two_stored l i k {x = x} {y = y} e f g x≡ y≡ = rw (x≡, y≡) at (sets-after (bytes32 x) (bytes32 y) l i k f g (omega (arith, e, length-32 x)))
+two_stored l i k {x = x} {y = y} e f g x≡ y≡ = rw (x≡, y≡) at (sets_after (bytes32 x) (bytes32 y) l i k f g (omega (arith, e, length-32 x)))

@@ -18,7 +18,7 @@ use Rattle.promise.specs.Firing.{replay_told, list_refusal}
 use Rattle.promise.specs.Together.{standing}
 use Rattle.promise.specs.Starts.{starting_at, started_from}
 use Rattle.promise.proofs.Started.{start_fits, start_none}
-use Rattle.inputs_lists.proofs.Passing.{list-short, list-known}
+use Rattle.inputs_lists.proofs.Passing.{list_short, list_known}
 use Rattle.inputs_starts.specs.Startable.{Startable}
 use Rattle.inputs_starts.proofs.Calls.{entries, started-at}
 use Rattle.replay_steps.specs.Steps.{held, Listed}
@@ -38,14 +38,14 @@ by_test i m (short p n) e = refl
 by_test i m (full p n) e = refl
 
 module _ (M : Marking) (N : Net) where
-  from-same : (ts : List ℕ) (i : ℕ) (m : Marking) → replay_from (starting_at M N) i m ts ≡ replay_from N i m ts
+  from_same : (ts : List ℕ) (i : ℕ) (m : Marking) → replay_from (starting_at M N) i m ts ≡ replay_from N i m ts
   unfolding replay_from test_firing test_inputs test_caps short_place full_place fire capped input output
-  from-same [] i m = refl
-  from-same (t ∷ ts) i m = by_test i m (test_firing N t m) (from-same ts (suc i) (fire N t m))
+  from_same [] i m = refl
+  from_same (t ∷ ts) i m = by_test i m (test_firing N t m) (from_same ts (suc i) (fire N t m))
 
   pub from_start : (ts : List ℕ) → replay (starting_at M N) ts ≡ replay_from N 0 M ts
   unfolding replay
-  from_start ts = from-same ts 0 M
+  from_start ts = from_same ts 0 M
 
 -- ---- a start that is not refused
 
@@ -60,8 +60,8 @@ module _ {d : Due} {s : List ℕ} {h : Header} {start : List ℕ} (r : Startable
 
   pub listed : {ts : List ℕ} → list_refusal h.transitions ts ≡ 0 → Listed s h ts start
   listed {ts} e = record {
-    short = list-short h.transitions ts e;
-    known = list-known h.transitions ts e;
+    short = list_short h.transitions ts e;
+    known = list_known h.transitions ts e;
     low = λ p. low p (dec_lt p h.places);
     caps = within;
   }

@@ -25,8 +25,8 @@ use Rattle.starting.specs.Cuts.{Cuts}
 
 pub within : (k : Kind) (s : List ℕ) (h : Header) (Q : List ℕ) (kept : KeptSets) → Kept (growth_of (draws_all k) (net_from s h) Q) kept → Within kept h
 unfolding safety branching growth
-within Safety s h Q kept x = record { places = x.places-below; transitions = x.transitions-below }
-within Branching s h Q kept x = record { places = x.places-below; transitions = x.transitions-below }
+within Safety s h Q kept x = record { places = x.places_below; transitions = x.transitions_below }
+within Branching s h Q kept x = record { places = x.places_below; transitions = x.transitions_below }
 
 -- a cut grows by arcs and caps
 growth-same : (k : Kind) (M : Marking) (N : Net) (Q : List ℕ) → growth_of (draws_all k) N Q ≡ growth_of (draws_all k) (starting_at M N) Q

@@ -6,7 +6,7 @@ use native.Mathlib.Numerals.{add-one}
 use native.Mathlib.Omega.{arith}
 use lib.ListN.{length, set, length-set, length-append}
 use lib.Seq.{sets, length-sets}
-use Rattle.tables.proofs.Sets.{sets-join}
+use Rattle.tables.proofs.Sets.{sets_join}
 
 -- of `all`, to be stored in l₀ from `first` on, `left` is to be stored in l from `at` on
 pub record Storing (l₀ : List ℕ) (first : ℕ) (all l : List ℕ) (at : ℕ) (left : List ℕ) : Type 0 where
@@ -39,7 +39,7 @@ module _ {l₀ : List ℕ} {first : ℕ} {all l : List ℕ} {at : ℕ} where
   storing_part vs ws next k s e f = record {
     long = ap length e ∙ length-sets l at vs ∙ s.long;
     count = omega (arith, s.count, length-append vs ws, f);
-    same = ap (λ (x : List ℕ). sets x k ws) e ∙ sets-join vs ws l at k f ∙ s.same;
+    same = ap (λ (x : List ℕ). sets x k ws) e ∙ sets_join vs ws l at k f ∙ s.same;
   }
 
   -- nothing of it

@@ -12,12 +12,12 @@ use Rattle.file.specs.Layout.{net_from}
 use Rattle.file.specs.Facts.{Sound}
 use Rattle.file_header.specs.declared.Header.{Header}
 use Rattle.file_arcs.proofs.Rows.{key-le}
-use Rattle.file.proofs.Rows.{good-at}
+use Rattle.file.proofs.Rows.{good_at}
 use Rattle.promise.specs.Together.{standing, TogetherAnswer, together_told}
 use Rattle.arcs_starts.specs.Table.{slot_at, Split}
 use Rattle.arcs_column.specs.Ways.{transition_at, direction_at}
 use Rattle.arcs_column.proofs.Sums.{sum_more}
-use Rattle.arcs_column.proofs.Weights.{weight-run, rising}
+use Rattle.arcs_column.proofs.Weights.{weight_run, rising}
 use Rattle.together.specs.Told.{together_numbers}
 use Rattle.together.specs.Inputs.{drawn, OneWay, MostTimes, TakesTimes}
 use Rattle.together.specs.declared.Together.TheVariants.{Times, Unlimited}
@@ -45,15 +45,15 @@ module _ {s : List ℕ} {h : Header} {t from to : ℕ} (f : Found s h t from to)
   last₀ = subst (λ (k : ℕ). Parts k to) (let e : 2 * t + 1 ≡ 2 * t + 0 + 1 = omega arith in e) f.last
 
   ways : (i : ℕ) → i < h.arcs → direction_at s h.arcstart i ≤ 1
-  ways i l = (good-at s h f.sound i l).direction
+  ways i l = (good_at s h f.sound i l).direction
 
   -- what they take is in(p,t)
   pub drawn-is : (p : ℕ) → Taken p ≡ input N p t
   unfolding input
-  drawn-is p = omega (arith, weight-run 0 p t s h.arcstart h.arcs from to (omega arith) ways first₀ last₀)
+  drawn-is p = omega (arith, weight_run 0 p t s h.arcstart h.arcs from to (omega arith) ways first₀ last₀)
 
-  times-is : (k p : ℕ) → k * Taken p ≡ k * input N p t
-  times-is k p = ap (λ (n : ℕ). k * n) (drawn-is p)
+  times_is : (k p : ℕ) → k * Taken p ≡ k * input N p t
+  times_is k p = ap (λ (n : ℕ). k * n) (drawn-is p)
 
   -- the arcs from `from` to `to` are inputs of t
   of_t : (i : ℕ) → from ≤ i → i < to → (transition_at s h.arcstart i ≡ t) × (direction_at s h.arcstart i ≡ 0)
@@ -71,7 +71,7 @@ module _ {s : List ℕ} {h : Header} {t from to : ℕ} (f : Found s h t from to)
           rising = omega arith;
           fit = omega (arith, f.sound.placed.arcs_fit, f.sound.placed.origins_fit);
           short = f.sound.placed.short;
-          places = λ i a. (good-at s h f.sound i (omega arith)).place;
+          places = λ i a. (good_at s h f.sound i (omega arith)).place;
         };
         few = omega (arith, f.sound.placed.arcs);
         transitions = λ i a b. (of_t i a b).0 ∙ sym (of_t from (omega arith) l).0;
@@ -80,7 +80,7 @@ module _ {s : List ℕ} {h : Header} {t from to : ℕ} (f : Found s h t from to)
             let x = of_t i a (omega arith) in
             let y = of_t j (omega arith) c in
             omega (arith, x.0, x.1, y.0, y.1, key-le s h.arcstart 0 h.arcs i j f.sound.order b (omega arith));
-        weights = λ i a b. (good-at s h f.sound i (omega arith)).weight;
+        weights = λ i a b. (good_at s h f.sound i (omega arith)).weight;
       }
 
   pub one_way : (m : List ℕ) → length m ≡ h.places → from < to → OneWay s h.arcstart from to (length m)
@@ -109,5 +109,5 @@ module _ {s : List ℕ} {h : Header} {t from to : ℕ} (f : Found s h t from to)
     unfolding Takable remainder
     most {k} x y =
         let z = x.no_more in
-        by (times k) (law.is-times N t M k (λ p l. omega (arith, x.fits p, times-is k p)) (z.0, omega (arith, z.1, places), omega (arith, z.2, times-is (suc k) z.0)))
-        (y.long ∙ places) (λ p l. omega (arith, y.at p, times-is k p))
+        by (times k) (law.is-times N t M k (λ p l. omega (arith, x.fits p, times_is k p)) (z.0, omega (arith, z.1, places), omega (arith, z.2, times_is (suc k) z.0)))
+        (y.long ∙ places) (λ p l. omega (arith, y.at p, times_is k p))

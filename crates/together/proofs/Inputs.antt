@@ -11,7 +11,7 @@ use Rattle.net.specs.declared.Arc.{Arc}
 use Rattle.file_arcs.specs.Layout.{arc_at}
 use Rattle.arcs_column.specs.Gain.{part}
 use Rattle.arcs_column.specs.Ways.{place_at}
-use Rattle.arcs_column.proofs.Sums.{sum-next, sum_more, part-here, part-other}
+use Rattle.arcs_column.proofs.Sums.{sum_next, sum_more, part-here, part-other}
 use Rattle.arcs_groups.specs.Groups.{weight_at, run_weight}
 use Rattle.together.specs.Inputs
 
@@ -24,7 +24,7 @@ module _ (s : List ℕ) (start from : ℕ) where
   drawn-none p = omega arith
 
   pub drawn-next : (j p : ℕ) → from ≤ j → Taken (j + 1) p ≡ Taken j p + part p (arc_at s (start + 8 * j))
-  drawn-next j p l = omega (arith, sum-next s start p j, sum_more s start p from j l)
+  drawn-next j p l = omega (arith, sum_next s start p j, sum_more s start p from j l)
 
   pub drawn-more : (j k p : ℕ) → j ≤ k → Taken j p ≤ Taken k p
   drawn-more j k p l = omega (arith, sum_more s start p j k l)
@@ -45,17 +45,17 @@ module _ (s : List ℕ) (start from : ℕ) where
       let e : j + suc n ≡ j + n + 1 = omega arith in
       rw e (omega (arith, drawn-next (j + n) p (omega arith), part-here (arc_at s (start + 8 * (j + n))) p (f (j + n) (omega arith) (omega arith)), all-at p j n l (λ i a b. f i a (omega arith))))
 
-  none-at : (p j n : ℕ) → from ≤ j → ((i : ℕ) → j ≤ i → i < j + n → place_at s start i ≡ p → ⊥) → Taken (j + n) p ≡ Taken j p
-  none-at p j zero l f = let e : j + 0 ≡ j = omega arith in rw e (omega arith)
-  none-at p j (suc n) l f =
+  none_at : (p j n : ℕ) → from ≤ j → ((i : ℕ) → j ≤ i → i < j + n → place_at s start i ≡ p → ⊥) → Taken (j + n) p ≡ Taken j p
+  none_at p j zero l f = let e : j + 0 ≡ j = omega arith in rw e (omega arith)
+  none_at p j (suc n) l f =
       let e : j + suc n ≡ j + n + 1 = omega arith in
-      rw e (omega (arith, drawn-other (j + n) p (omega arith) (f (j + n) (omega arith) (omega arith)), none-at p j n l (λ i a b. f i a (omega arith))))
+      rw e (omega (arith, drawn-other (j + n) p (omega arith) (f (j + n) (omega arith) (omega arith)), none_at p j n l (λ i a b. f i a (omega arith))))
 
   pub at_one : (p j e : ℕ) → from ≤ j → j ≤ e → ((i : ℕ) → j ≤ i → i < e → place_at s start i ≡ p) → Taken e p ≡ Taken j p + run_weight s start j (e - j)
   at_one p j e l u f = let q : j + (e - j) ≡ e = omega arith in rw q at (all-at p j (e - j) l (λ i a b. f i a (omega arith)))
 
   pub at_none : (p j e : ℕ) → from ≤ j → j ≤ e → ((i : ℕ) → j ≤ i → i < e → place_at s start i ≡ p → ⊥) → Taken e p ≡ Taken j p
-  at_none p j e l u f = let q : j + (e - j) ≡ e = omega arith in rw q at (none-at p j (e - j) l (λ i a b. f i a (omega arith)))
+  at_none p j e l u f = let q : j + (e - j) ≡ e = omega arith in rw q at (none_at p j (e - j) l (λ i a b. f i a (omega arith)))
 
 -- ---- the weights of arcs taken k times
 
@@ -68,8 +68,8 @@ takes_none {s} {start} {from} {k} {m} = record {
 pub takes_all : {s : List ℕ} {start from to j k : ℕ} {was is : List ℕ} → Inputs.TakesTimes s start from j k was is → j ≤ to → to ≤ j → Inputs.TakesTimes s start from to k was is
 takes_all {s} {start} {from} {to} {j} {k} {was} {is} x l u = let e : j ≡ to = omega arith in subst (λ (n : ℕ). Inputs.TakesTimes s start from n k was is) e x
 
-pub takes-from : {s : List ℕ} {start from to k : ℕ} {first was is : List ℕ} → was ≡ first → Inputs.TakesTimes s start from to k was is → Inputs.TakesTimes s start from to k first is
-takes-from {s} {start} {from} {to} {k} {first} {was} {is} e x = subst (λ (m : List ℕ). Inputs.TakesTimes s start from to k m is) e x
+pub takes_from_lem : {s : List ℕ} {start from to k : ℕ} {first was is : List ℕ} → was ≡ first → Inputs.TakesTimes s start from to k was is → Inputs.TakesTimes s start from to k first is
+takes_from_lem {s} {start} {from} {to} {k} {first} {was} {is} e x = subst (λ (m : List ℕ). Inputs.TakesTimes s start from to k m is) e x
 
 module _ {s : List ℕ} {start from j k : ℕ} {was is : List ℕ} (x : Inputs.TakesTimes s start from j k was is) (begun : from ≤ j) (a : Arc) (e : a ≡ arc_at s (start + 8 * j)) where
   here : place_at s start j ≡ a.place
@@ -90,8 +90,8 @@ module _ {s : List ℕ} {start from j k : ℕ} {was is : List ℕ} (x : Inputs.T
         mul-le-mul_left k (drawn-more s start from (j + 1) to a.place (omega arith)),
       )
 
-  pub takes-more : a.place < length was → k * a.weight ≤ get_or is a.place 0 → Inputs.TakesTimes s start from (j + 1) k was (set is a.place (get_or is a.place 0 - k * a.weight))
-  takes-more inside h = record { long = length-set is a.place _ ∙ x.long; at = λ p. go p (ℕ_discrete a.place p) }
+  pub takes_more : a.place < length was → k * a.weight ≤ get_or is a.place 0 → Inputs.TakesTimes s start from (j + 1) k was (set is a.place (get_or is a.place 0 - k * a.weight))
+  takes_more inside h = record { long = length-set is a.place _ ∙ x.long; at = λ p. go p (ℕ_discrete a.place p) }
     where
       go : (p : ℕ) → Dec (a.place ≡ p) → get_or (set is a.place (get_or is a.place 0 - k * a.weight)) p 0 + k * Inputs.drawn s start from (j + 1) p ≡ get_or was p 0
       go p (yes q) =

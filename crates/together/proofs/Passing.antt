@@ -24,8 +24,8 @@ module _ (h : Header) (t entries room : ℕ) {n : ℕ} (e : n ≡ held_back h t 
   pub as_many : entries ≡ h.places
   as_many = eqb-true entries h.places (not-false (eqb entries h.places) tests.1)
 
-  pub room-enough : h.places ≤ room
-  room-enough = ltb-false room h.places tests.2
+  pub room_enough : h.places ≤ room
+  room_enough = ltb-false room h.places tests.2
 
 -- "A refusal returns its number with zeros elsewhere"
 pub told-refused : (m : ℕ) {n : ℕ} (x : Takings) → n ≡ m → (n ≡ 0 → ⊥) → record { refused = true; refusal = n; unlimited = false; times = 0 } ≡ together_or m x

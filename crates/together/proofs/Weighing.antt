@@ -27,8 +27,8 @@ module _ {s : List ℕ} {start from to : ℕ} {m : List ℕ} (o : OneWay s start
   pub stands : {j k : ℕ} → Weighed s start from to m j k → j < to → Stands s start j to
   stands w l = record { some = l; few = o.few; fit = o.run.fit; short = o.run.short }
 
-  pub weighed-none : {k : ℕ} → ((p : ℕ) → get_or m p 0 ≤ k) → Weighed s start from to m from k
-  weighed-none {k} low = record {
+  pub weighed_none : {k : ℕ} → ((p : ℕ) → get_or m p 0 ≤ k) → Weighed s start from to m from k
+  weighed_none {k} low = record {
     begun = omega arith;
     within = o.run.rising;
     opens = λ l i a b. absurd (omega arith);
@@ -67,8 +67,8 @@ module _ {s : List ℕ} {start from to : ℕ} {m : List ℕ} (o : OneWay s start
         omega (arith, weight_is, drawn-more s start from (j + 1) e p (omega arith), at_one s start from p j (j + 1) w.begun (omega arith) (λ i a b. at_p i a (omega arith)), run-one s start j)
 
     -- the next arc is at a higher place
-    opens-next : e < to → (i : ℕ) → from ≤ i → i < e → place_at s start i < place_at s start e
-    opens-next u i a b =
+    opens_next : e < to → (i : ℕ) → from ≤ i → i < e → place_at s start i < place_at s start e
+    opens_next u i a b =
         let d = after in
         let b₁ = w.begun in
         omega (arith, above (ℕ_discrete (place_at s start e) p), o.order i (e - 1) a (omega arith) (omega arith), at_p (e - 1) (omega arith) (omega arith))
@@ -83,16 +83,16 @@ module _ {s : List ℕ} {start from to : ℕ} {m : List ℕ} (o : OneWay s start
 
     -- the group allows so many times
     module _ {here : ℕ} (q : here ≡ get_or m p 0 / run_weight s start j (e - j)) where
-      here-fits : here * drawn s start from e p ≤ get_or m p 0
-      here-fits = rw (q, weight_is) (div-mul-le_self (get_or m p 0) (run_weight s start j (e - j)))
+      here_fits : here * drawn s start from e p ≤ get_or m p 0
+      here_fits = rw (q, weight_is) (div-mul-le_self (get_or m p 0) (run_weight s start j (e - j)))
 
-      here-no_more : get_or m p 0 < suc here * drawn s start from e p
-      here-no_more = rw (q, weight_is) (omega (arith, lt-div-mul-add {a = get_or m p 0} {b = run_weight s start j (e - j)} (let z = own-share in let y = o.weights j w.begun l in omega arith)))
+      here_no_more : get_or m p 0 < suc here * drawn s start from e p
+      here_no_more = rw (q, weight_is) (omega (arith, lt-div-mul-add {a = get_or m p 0} {b = run_weight s start j (e - j)} (let z = own-share in let y = o.weights j w.begun l in omega arith)))
 
       fits_next : (r : ℕ) → Dec (p ≡ r) → min k here * drawn s start from e r ≤ get_or m r 0
       fits_next r (yes z) =
           subst (λ (r : ℕ). min k here * drawn s start from e r ≤ get_or m r 0) z
-          (omega (arith, here-fits, mul-le-mul_right (drawn s start from e p) (let u : min k here ≤ here = omega arith in u)))
+          (omega (arith, here_fits, mul-le-mul_right (drawn s start from e p) (let u : min k here ≤ here = omega arith in u)))
       fits_next r (no z) =
           omega (
             arith,
@@ -111,13 +111,13 @@ module _ {s : List ℕ} {start from to : ℕ} {m : List ℕ} (o : OneWay s start
           started-by : Dec (j ≡ from) → from < j
           started-by (yes y) = absurd (omega (arith, q, w.untouched y p, div-le_self (get_or m p 0) (run_weight s start j (e - j))))
           started-by (no y) = omega (arith, w.begun)
-      stops (no z) = let u : min k here ≡ here = omega arith in rw u (p, o.run.places j l, here-no_more)
+      stops (no z) = let u : min k here ≡ here = omega arith in rw u (p, o.run.places j l, here_no_more)
 
-      pub weighed-next : Weighed s start from to m e (min k here)
-      weighed-next = record {
+      pub weighed_next : Weighed s start from to m e (min k here)
+      weighed_next = record {
         begun = omega (arith, w.begun, after);
         within = g.within;
-        opens = opens-next;
+        opens = opens_next;
         fits = λ r. fits_next r (ℕ_discrete p r);
         untouched = λ z. absurd (omega (arith, z, w.begun, after));
         no_more = λ z. stops (dec_lt k here);
@@ -137,9 +137,9 @@ module _ {s : List ℕ} {start from to : ℕ} {m : List ℕ} (o : OneWay s start
     pub weigh : {e weight k' : ℕ} → GroupEnd s start j to e → weight ≡ run_weight s start j (e - j) → k' ≡ min k (get_or m a.place 0 / weight) → Weighed s start from to m e k'
     weigh {e} {weight} g ws r =
         let same = ap₂ (λ (p n : ℕ). min k (get_or m p 0 / n)) (ap (λ (b : Arc). b.place) is) ws in
-        subst (λ (n : ℕ). Weighed s start from to m e n) (sym (r ∙ same)) (weighed-next w l g refl)
+        subst (λ (n : ℕ). Weighed s start from to m e n) (sym (r ∙ same)) (weighed_next w l g refl)
 
-  pub weighed-all : {j k : ℕ} → Weighed s start from to m j k → from < to → to ≤ j → MostTimes s start from to m k
-  weighed-all {j} {k} w l u =
+  pub weighed_all : {j k : ℕ} → Weighed s start from to m j k → from < to → to ≤ j → MostTimes s start from to m k
+  weighed_all {j} {k} w l u =
       let e : j ≡ to = omega (arith, w.within) in
       subst (λ (n : ℕ). MostTimes s start from n m k) e (record { fits = w.fits; no_more = w.no_more (omega arith) })

@@ -5,7 +5,7 @@ use native.Mathlib.Omega.{arith}
 use lib.ListN.{length}
 use Rattle.net.specs.declared.Arc.{Arc}
 use Rattle.arcs_column.specs.Gain.{Takes}
-use Rattle.arcs_column.proofs.Sums.{enough, takes-more}
+use Rattle.arcs_column.proofs.Sums.{enough, takes_more}
 use Rattle.arcs_column.proofs.take.Goals as goal
 use Rattle.arcs_column.proofs.take.Goals.{After-arc-a}
 
@@ -26,7 +26,7 @@ pub bounds-column-p-in-loop-j : goal.bounds-column-p-in-loop-j
 bounds-column-p-in-loop-j c = omega (arith, inside (goal.at.bounds-column-p-in-loop-j c).After-arc-a, c.loop-j.invariant.2.long)
 
 pub loop-j-preserved : goal.loop-j-preserved
-loop-j-preserved c = (search rules, search rules, takes-more c.args.file.now _ _ _ _ _ _ c.arc-a.ensures.0 (inside (goal.at.loop-j-preserved c).After-arc-a) c.loop-j.invariant.2 (enough c.args.file.now _ _ _ _ _ _ c.arc-a.ensures.0 (inside (goal.at.loop-j-preserved c).After-arc-a) _ c.loop-j-test.true c.loop-j.invariant.2 c.requires.by_index))
+loop-j-preserved c = (search rules, search rules, takes_more c.args.file.now _ _ _ _ _ _ c.arc-a.ensures.0 (inside (goal.at.loop-j-preserved c).After-arc-a) c.loop-j.invariant.2 (enough c.args.file.now _ _ _ _ _ _ c.arc-a.ensures.0 (inside (goal.at.loop-j-preserved c).After-arc-a) _ c.loop-j-test.true c.loop-j.invariant.2 c.requires.by_index))
 
 pub returns : goal.returns
 returns c =

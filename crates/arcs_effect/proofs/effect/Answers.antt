@@ -4,7 +4,7 @@ use mir.Facts.{to_z-of_z}
 use native.Mathlib.Omega.{arith}
 use Rattle.arcs_starts.proofs.Reached.{ordered}
 use Rattle.arcs_starts.proofs.Splits.{past_by}
-use Rattle.arcs_effect.proofs.Parts.{inputs_in, outputs-in, effect_is}
+use Rattle.arcs_effect.proofs.Parts.{inputs_in, outputs_in, effect_is}
 use Rattle.arcs_effect.proofs.effect.Goals as goal
 use Rattle.arcs_effect.proofs.effect.Goals.{After-next_from-c, Start}
 
@@ -26,7 +26,7 @@ weight-input-requires c = inputs_in _ _ (call c).requires.0 _ _ _ _ c.first_from
 pub weight-output-requires : goal.weight-output-requires
 weight-output-requires c =
     let found = c in
-    outputs-in _ _ (call (goal.at.weight-output-requires found).After-next_from-c).requires.0 _ _ _ _ found.first_from-a.ensures found.next_from-b.ensures found.next_from-c.ensures
+    outputs_in _ _ (call (goal.at.weight-output-requires found).After-next_from-c).requires.0 _ _ _ _ found.first_from-a.ensures found.next_from-b.ensures found.next_from-c.ensures
 
 pub returns : goal.returns
 returns c =

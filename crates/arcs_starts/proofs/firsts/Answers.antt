@@ -5,7 +5,7 @@ use lib.ListN.{length}
 use Rattle.net.specs.declared.Arc.{Arc}
 use Rattle.file_arcs.specs.Layout.{arc_at}
 use Rattle.arcs_starts.specs.Table.{slot_at}
-use Rattle.arcs_starts.proofs.Filling.{firsts-none, firsts_more, firsts-end}
+use Rattle.arcs_starts.proofs.Filling.{firsts_none, firsts_more, firsts_end}
 use Rattle.arcs_starts.proofs.firsts.Goals as goal
 use Rattle.arcs_starts.proofs.firsts.Goals.{After-arc-a, At-loop-j, Start}
 
@@ -25,7 +25,7 @@ owner_known c =
     (omega (arith, is_owner c, pre.slots t.loop-j.j t.loop-j-test.true), omega (arith, pre.long))
 
 pub loop-j-init : goal.loop-j-init
-loop-j-init c = (omega arith, omega arith, refl, firsts-none)
+loop-j-init c = (omega arith, omega arith, refl, firsts_none)
 
 pub overflow_mul-j : goal.overflow_mul-j
 overflow_mul-j c = omega (arith, c.loop-j-test.true, (call (goal.at.overflow_mul-j c).At-loop-j).requires.tabled.few)
@@ -72,4 +72,4 @@ returns c =
     let inv = left.loop-j.invariant in
     let pre = (call (goal.at.returns left).At-loop-j).requires in
     let up = put.put_up.ensures in
-    (up.long ∙ inv.2, firsts-end pre.tabled pre.by_index inv.3 (omega (arith, left.loop-j-test.false)) up)
+    (up.long ∙ inv.2, firsts_end pre.tabled pre.by_index inv.3 (omega (arith, left.loop-j-test.false)) up)

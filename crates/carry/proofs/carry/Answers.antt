@@ -6,7 +6,7 @@ use lib.ListN.{length, replicate, length-replicate}
 use lib.Seq.{length-take-le}
 use Rattle.net.specs.Numbers.{any}
 use Rattle.promise.specs.Transfer.{names_no_place, table_wrong}
-use Rattle.carry.proofs.Sums.{right, carry_22, carry_23, carry_rest, zeros-taken}
+use Rattle.carry.proofs.Sums.{right, carry_22, carry_23, carry_rest, zeros_taken}
 use Rattle.carry.proofs.carry.Goals as goal
 use Rattle.carry.proofs.carry.Goals.{Else-table_wrong, Start}
 
@@ -50,7 +50,7 @@ carry_in-requires c =
         small = omega (arith, long, s.requires.sound.placed.places);
         placed = subst⁻¹ (λ (P : ℕ). any (names_no_place P) s.args.table.now ≡ false) long (known (goal.at.carry_in-requires t).Else-table_wrong).2;
         targets = sym e.stranded.ensures ∙ e.if-stranded.false;
-        zeros = zeros-taken s.args.h.places 1024;
+        zeros = zeros_taken s.args.h.places 1024;
       };
     }
 

@@ -8,7 +8,7 @@ use Rattle.file.specs.Layout.{net_from}
 use Rattle.promise.specs.Starts.{overfull}
 use Rattle.promise.specs.Transfer.{carried_to}
 use Rattle.inputs_lists.proofs.Passing.{written-whole}
-use Rattle.carry.proofs.Sums.{sums-over, room-short, sums-pass, above-over, sums_same, sums-are}
+use Rattle.carry.proofs.Sums.{sums_over, room_short, sums_pass, above_over, sums_same, sums_are}
 use Rattle.carry.proofs.carry_in.Goals as goal
 use Rattle.carry.proofs.carry_in.Goals.{After-add_up, Else-not-add_up, Else-overfull, Start}
 
@@ -34,7 +34,7 @@ pub returns-then-not-add_up : goal.returns-then-not-add_up
 returns-then-not-add_up c =
     let m = c in
     let s = call (goal.at.returns-then-not-add_up m).After-add_up in
-    record { value = sums-over _ _ _ _ (above-over (net_from s.args.new.now s.args.h) s.args.running.now s.args.table.now 0 s.requires.sums_len m.add_up.ensures (not-true _ c.if-not-add_up.true-raw)); marking_after = refl }
+    record { value = sums_over _ _ _ _ (above_over (net_from s.args.new.now s.args.h) s.args.running.now s.args.table.now 0 s.requires.sums_len m.add_up.ensures (not-true _ c.if-not-add_up.true-raw)); marking_after = refl }
 
 pub overfull-requires : goal.overfull-requires
 overfull-requires c =
@@ -47,10 +47,10 @@ returns-then-overfull c =
     let e = c in
     let m = made (goal.at.returns-then-overfull e).Else-not-add_up in
     let s = call m in
-    record { value = sums-over _ _ _ _ (sym (sums_same (net_from s.args.new.now s.args.h) s.args.running.now s.args.table.now 0 s.requires.sums_len m.add_up.ensures (not-false _ e.if-not-add_up.false-raw)) ∙ sym c.overfull.ensures ∙ c.if-overfull.true); marking_after = refl }
+    record { value = sums_over _ _ _ _ (sym (sums_same (net_from s.args.new.now s.args.h) s.args.running.now s.args.table.now 0 s.requires.sums_len m.add_up.ensures (not-false _ e.if-not-add_up.false-raw)) ∙ sym c.overfull.ensures ∙ c.if-overfull.true); marking_after = refl }
 
 pub returns-then-marking-places : goal.returns-then-marking-places
-returns-then-marking-places c = record { value = room-short _ _ _ _ (none_over (goal.at.returns-then-marking-places c).Else-overfull) c.if-marking-places.true; marking_after = refl }
+returns-then-marking-places c = record { value = room_short _ _ _ _ (none_over (goal.at.returns-then-marking-places c).Else-overfull) c.if-marking-places.true; marking_after = refl }
 
 pub slice_bounds-copy-end-2 : goal.slice_bounds-copy-end-2
 slice_bounds-copy-end-2 c =
@@ -73,7 +73,7 @@ returns c =
     let s = call m in
     let N = net_from s.args.new.now s.args.h in
     record {
-      value = sums-pass _ _ _ _ (none_over (goal.at.returns e).Else-overfull) e.if-marking-places.false;
+      value = sums_pass _ _ _ _ (none_over (goal.at.returns e).Else-overfull) e.if-marking-places.false;
       marking_after = written-whole 0 s.args.h.places _ _ s.args.marking.now refl refl (length-tokens N _)
-          (copied.copy.ensures ∙ sums-are N s.args.running.now s.args.table.now 0 s.requires.sums_len m.add_up.ensures (not-false _ (within (goal.at.returns e).Else-overfull).if-not-add_up.false-raw));
+          (copied.copy.ensures ∙ sums_are N s.args.running.now s.args.table.now 0 s.requires.sums_len m.add_up.ensures (not-false _ (within (goal.at.returns e).Else-overfull).if-not-add_up.false-raw));
     }

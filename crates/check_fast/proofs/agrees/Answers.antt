@@ -6,10 +6,10 @@ use Rattle.net.specs.Numbers.{among}
 use Rattle.net.proofs.Numbers.{holds}
 use Rattle.file.specs.Layout.{slice_from}
 use Rattle.file.proofs.Criterion.{passed}
-use Rattle.check_fast.proofs.Filling.{criterion-reached, all_there, ready}
-use Rattle.check_fast.proofs.Holding.{nothing_known, passed-agreed}
+use Rattle.check_fast.proofs.Filling.{criterion_reached, all_there, ready}
+use Rattle.check_fast.proofs.Holding.{nothing_known, passed_agreed}
 use native.Mathlib.Omega.{arith}
-use Rattle.rules_origins.proofs.Reached.{place-origins, transition-origins}
+use Rattle.rules_origins.proofs.Reached.{place-origins, origins_of_transitions}
 use Rattle.check_fast.specs.Pass.{Ready}
 use Rattle.check_fast.proofs.agrees.Goals as goal
 use Rattle.check_fast.proofs.agrees.Goals.{After-all_kept, After-mark, After-mark_capped, After-number, After-number-2, Else-not-all_kept, Start}
@@ -62,13 +62,13 @@ pub number-requires-2 : goal.number-requires-2
 number-requires-2 c =
     let places = c in
     let pre = (call (goal.at.number-requires-2 places).After-number).requires in
-    record { origins = transition-origins _ _ pre.sound_2 pre.kind_value; reached = pre.blank.transition-origins; unit_bound = omega arith }
+    record { origins = origins_of_transitions _ _ pre.sound_2 pre.kind_value; reached = pre.blank.origins_of_transitions; unit_bound = omega arith }
 
 pub all_kept-requires : goal.all_kept-requires
 all_kept-requires c =
     let p = places_of (goal.at.all_kept-requires c).After-number-2 in
     let pre = (call p).requires in
-    criterion-reached _ _ _ _ _ pre.sound pre.sound_2 pre.kind_value pre.criterion_value _ _ pre.blank _ p.number.ensures
+    criterion_reached _ _ _ _ _ pre.sound pre.sound_2 pre.kind_value pre.criterion_value _ _ pre.blank _ p.number.ensures
 
 pub returns-then-not-all_kept : goal.returns-then-not-all_kept
 returns-then-not-all_kept c = record { agreed = nothing_known _ _ _ _ (omega arith); ready = λ l. absurd (omega arith) }
@@ -77,7 +77,7 @@ pub mark-requires : goal.mark-requires
 mark-requires c =
     let p = places_of (numbered (goal.at.mark-requires c).After-all_kept) in
     let pre = (call p).requires in
-    criterion-reached _ _ _ _ _ pre.sound pre.sound_2 pre.kind_value pre.criterion_value _ _ pre.blank _ p.number.ensures
+    criterion_reached _ _ _ _ _ pre.sound pre.sound_2 pre.kind_value pre.criterion_value _ _ pre.blank _ p.number.ensures
 
 pub mark_capped-requires : goal.mark_capped-requires
 mark_capped-requires c =
@@ -94,4 +94,4 @@ returns c =
     let filled = c in
     let s = call (places_of (numbered (goal.at.Else-not-all_kept (kept_of (marked_of (goal.at.returns filled).After-mark_capped))).After-all_kept)) in
     let known : (q : ℕ) → among q s.args.criterion.now ≡ true → q < s.args.hp.places = λ q e. (passed s.args.hp.places s.args.criterion.now s.requires.criterion_value).known q (holds _ e) in
-    record { agreed = passed-agreed _ _ _ _ _ _ c.pass.ensures known (criterion_at (goal.at.returns filled).After-mark_capped); ready = λ l. ready_at (goal.at.returns filled).After-mark_capped }
+    record { agreed = passed_agreed _ _ _ _ _ _ c.pass.ensures known (criterion_at (goal.at.returns filled).After-mark_capped); ready = λ l. ready_at (goal.at.returns filled).After-mark_capped }

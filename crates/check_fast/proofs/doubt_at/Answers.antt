@@ -1,7 +1,7 @@
 use mathlib.Core.Path.{sym, ◌∙◌}
 use native.Mathlib.Omega.{arith}
 use Rattle.check_fast.proofs.Walking.{joined-fits}
-use Rattle.check_fast.proofs.Settling.{eighth-in_doubt, sixth-in_doubt}
+use Rattle.check_fast.proofs.Settling.{eighth_in_doubt, sixth_in_doubt}
 use Rattle.check_fast.proofs.doubt_at.Goals as goal
 use Rattle.check_fast.proofs.doubt_at.Goals.{After-word-w, Start}
 
@@ -18,7 +18,7 @@ pub returns-then-z-eq8 : goal.returns-then-z-eq8
 returns-then-z-eq8 c = λ h.
     let read = c in
     let pre = (start (goal.at.returns-then-z-eq8 read).After-word-w).requires in
-    eighth-in_doubt _ _ _ _ _ _ _ pre.ready _ pre.j_lt_arcs _ read.word-w.ensures (omega arith) _ c.joined-z.ensures c.if-z-eq8.true
+    eighth_in_doubt _ _ _ _ _ _ _ pre.ready _ pre.j_lt_arcs _ read.word-w.ensures (omega arith) _ c.joined-z.ensures c.if-z-eq8.true
 
 pub returns-then-kept : goal.returns-then-kept
 returns-then-kept c = λ h. absurd (omega arith)
@@ -28,4 +28,4 @@ returns c = λ h.
     let sum = c in
     let read = sum in
     let pre = (start (goal.at.returns read).After-word-w).requires in
-    sixth-in_doubt _ _ _ _ _ _ _ pre.ready _ pre.j_lt_arcs _ read.word-w.ensures (omega arith) _ sum.joined-z.ensures (sym c.kept.ensures ∙ c.if-kept.false)
+    sixth_in_doubt _ _ _ _ _ _ _ pre.ready _ pre.j_lt_arcs _ read.word-w.ensures (omega arith) _ sum.joined-z.ensures (sym c.kept.ensures ∙ c.if-kept.false)

@@ -1,7 +1,7 @@
 use native.Mathlib.Omega.{arith}
 use Rattle.check_fast.proofs.Walking.{joined-fits}
-use Rattle.check_fast.proofs.Parting.{level-start}
-use Rattle.check_fast.proofs.Meeting.{can_be_due, level-met, parted, parted_end}
+use Rattle.check_fast.proofs.Parting.{level_start}
+use Rattle.check_fast.proofs.Meeting.{can_be_due, level_met, parted, parted_end}
 use Rattle.check_fast.proofs.first_other.Goals as goal
 use Rattle.check_fast.proofs.first_other.Goals.{After-word-w, At-loop-j, Start}
 
@@ -13,7 +13,7 @@ abbrev start_of : At-loop-j → Start
 start_of c = (goal.at.At-loop-j c).Start
 
 pub loop-j-init : goal.loop-j-init
-loop-j-init c = level-start _ _ _ _
+loop-j-init c = level_start _ _ _ _
 
 pub joined-requires : goal.joined-requires
 joined-requires c =
@@ -45,7 +45,7 @@ loop-j-preserved c =
     let met = c in
     let read = met in
     let at = loop_at (goal.at.loop-j-preserved read).After-word-w in
-    level-met _ _ _ _ _ _ _ (start_of at).requires _ read.loop-j-test.true _ read.word-w.ensures (omega arith) _ met.joined.ensures _ at.loop-j.invariant _ met.meet-next.ensures c.if-hs-next.false
+    level_met _ _ _ _ _ _ _ (start_of at).requires _ read.loop-j-test.true _ read.word-w.ensures (omega arith) _ met.joined.ensures _ at.loop-j.invariant _ met.meet-next.ensures c.if-hs-next.false
 
 pub origin-requires-2 : goal.origin-requires-2
 origin-requires-2 c = let pre = (start_of (goal.at.origin-requires-2 c).At-loop-j).requires in record { sound = pre.sliced; kind_value = pre.kind }

@@ -3,7 +3,7 @@ use mathlib.Core.Path.{ap, ◌∙◌}
 use native.Mathlib.Omega.{arith}
 use lib.ListN.{length, get_or}
 use borrow.Author.Tests.{ne_eqb}
-use Rattle.file.proofs.Caps.{no_cap-by}
+use Rattle.file.proofs.Caps.{no_cap_by}
 use Rattle.check_fast.specs.Entries.{bound}
 use Rattle.check_fast.proofs.Growing.{bound-start, bound-next, bound_all, bound-none}
 use Rattle.check_fast.proofs.mark_capped.Goals as goal
@@ -24,7 +24,7 @@ within c = omega (arith, c.loop-p-test.true, c.loop-p.invariant.1.long, (call (g
 pub returns-then-hp-ne-CAPS : goal.returns-then-hp-ne-CAPS
 returns-then-hp-ne-CAPS c =
     let s = c in
-    bound-none _ _ (no_cap-by s.args.plan.now s.args.hp (ne_eqb _ _ c.if-hp-ne-CAPS.true))
+    bound-none _ _ (no_cap_by s.args.plan.now s.args.hp (ne_eqb _ _ c.if-hp-ne-CAPS.true))
 
 pub loop-p-init : goal.loop-p-init
 loop-p-init c = (omega arith, bound-start _ _)

@@ -3,7 +3,7 @@ use mathlib.Core.Path.{refl, subst, ◌∙◌, sym}
 use mathlib.Core.List.{List}
 use lib.Seq.{take_all}
 use native.Mathlib.Nat.{mul-le-mul}
-use Rattle.file.proofs.Rows.{length-words, words-at}
+use Rattle.file.proofs.Rows.{length-words, words_at}
 use native.Mathlib.Omega.{arith}
 use lib.ListN.{length}
 use Rattle.file.specs.Layout.{words_from}
@@ -19,7 +19,7 @@ overflow_sub-table c =
     let a = c.args in
     let i = c.loop-i.i in
     let l : i < length (words_from a.file.now a.start a.count) = omega (arith, length-words a.file.now a.start a.count) in
-    let e = words-at a.file.now a.start a.count i c.loop-i-test.true in
+    let e = words_at a.file.now a.start a.count i c.loop-i-test.true in
     omega (arith, e, c.get16-origin.ensures.0, c.requires.reached.at i l, c.requires.reached.few)
 
 pub overflow_mul-table : goal.overflow_mul-table
@@ -32,7 +32,7 @@ bounds-table-origin c =
     let a = c.args in
     let i = c.loop-i.i in
     let l : i < length (words_from a.file.now a.start a.count) = omega (arith, length-words a.file.now a.start a.count) in
-    let e = words-at a.file.now a.start a.count i c.loop-i-test.true in
+    let e = words_at a.file.now a.start a.count i c.loop-i-test.true in
     omega (arith, e, c.get16-origin.ensures.0, c.requires.reached.at i l, c.loop-i.invariant.1.long)
 
 pub loop-i-preserved : goal.loop-i-preserved
@@ -42,7 +42,7 @@ loop-i-preserved c =
     let long = length-words a.file.now a.start a.count in (
       omega (arith, c.loop-i-test.true),
       numbered_next _ _ c.requires.origins.rise at.i (omega (arith, long, c.loop-i-test.true)) at.invariant.1
-          (c.get16-origin.ensures.0 ∙ sym (words-at _ _ _ _ c.loop-i-test.true)) refl,
+          (c.get16-origin.ensures.0 ∙ sym (words_at _ _ _ _ c.loop-i-test.true)) refl,
     )
 
 pub returns : goal.returns

@@ -5,7 +5,7 @@ use mathlib.Core.Path.{refl, sym, ap, ◌∙◌}
 use native.Mathlib.Omega.{arith}
 use Rattle.net.specs.declared.Arc.{Arc}
 use Rattle.check_fast.proofs.Ends.{apart}
-use Rattle.check_fast.proofs.Walking.{joined-fits, good-word}
+use Rattle.check_fast.proofs.Walking.{joined-fits, good_word}
 use Rattle.check_fast.proofs.Settling.{settled_raise, settled_change, nine_ten}
 use Rattle.check_fast.proofs.settled.Goals as goal
 use Rattle.check_fast.proofs.settled.Goals.{After-arc_of-a, After-word-w, Start}
@@ -23,7 +23,7 @@ known : (c : After-arc_of-a) → c.arc_of-a.result.transition < (call (word_of c
 known c =
     let w = word_of c in
     let s = call w in
-    omega (arith, (good-word _ _ _ _ _ _ _ s.requires.ready _ s.requires.j_lt_arcs _ w.word-w.ensures (omega arith)).transition, ap (λ (a : Arc). a.transition) c.arc_of-a.ensures.0)
+    omega (arith, (good_word _ _ _ _ _ _ _ s.requires.ready _ s.requires.j_lt_arcs _ w.word-w.ensures (omega arith)).transition, ap (λ (a : Arc). a.transition) c.arc_of-a.ensures.0)
 
 pub joined-z-requires : goal.joined-z-requires
 joined-z-requires c =

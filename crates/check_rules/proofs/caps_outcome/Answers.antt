@@ -1,8 +1,8 @@
 use mathlib.Core.Path.{sym, ◌∙◌}
 use native.Mathlib.Omega.{arith}
 use borrow.Author.Tests.{not-true}
-use Rattle.file.proofs.Caps.{none-capped}
-use Rattle.check_rules.proofs.Steps.{broken-here, holds_here, caps-left, none_left, range9, range10}
+use Rattle.file.proofs.Caps.{none_capped}
+use Rattle.check_rules.proofs.Steps.{broken_here, holds_here, caps_left, none_left, range9, range10}
 use Rattle.check_rules.proofs.caps_outcome.Goals as goal
 use Rattle.check_rules.proofs.caps_outcome.Goals.{After-cap_changer_missing-mover, After-has_caps, After-output_missing-giver, After-slice_known-4-1, Else-giver-transitions, Start}
 
@@ -22,13 +22,13 @@ outputs_at c = (goal.at.After-cap_changer_missing-mover c).Else-giver-transition
 pub returns-then-not-has_caps : goal.returns-then-not-has_caps
 returns-then-not-has_caps c =
     let s = start (goal.at.returns-then-not-has_caps c).After-has_caps in
-    caps-left _ _ (none-capped s.args.plan.now s.args.hp (sym c.has_caps.ensures ∙ not-true _ c.if-not-has_caps.true-raw))
+    caps_left _ _ (none_capped s.args.plan.now s.args.hp (sym c.has_caps.ensures ∙ not-true _ c.if-not-has_caps.true-raw))
 
 pub overflow_cast-result : goal.overflow_cast-result
 overflow_cast-result c = omega (arith, c.if-giver-transitions.true, (start (caps_at (goal.at.overflow_cast-result c).After-output_missing-giver)).requires.cases.planned.placed.transitions)
 
 pub returns-then-giver-transitions : goal.returns-then-giver-transitions
-returns-then-giver-transitions c = broken-here 9 _ _ _ _ (range9 _ _) c.output_missing-giver.ensures c.if-giver-transitions.true
+returns-then-giver-transitions c = broken_here 9 _ _ _ _ (range9 _ _) c.output_missing-giver.ensures c.if-giver-transitions.true
 
 pub overflow_cast-result-then-mover-transitions : goal.overflow_cast-result-then-mover-transitions
 overflow_cast-result-then-mover-transitions c = omega (arith, c.if-mover-transitions.true, (start (caps_at (goal.at.Else-giver-transitions (outputs_at (changes_at (goal.at.overflow_cast-result-then-mover-transitions c).After-slice_known-4-1))).After-output_missing-giver)).requires.cases.planned.placed.transitions)
@@ -37,7 +37,7 @@ pub returns-then-mover-transitions : goal.returns-then-mover-transitions
 returns-then-mover-transitions c =
     let changed = changes_at (goal.at.returns-then-mover-transitions c).After-slice_known-4-1 in
     let held = outputs_at changed in
-    broken-here 10 _ _ _ _ (range10 _ _) changed.cap_changer_missing-mover.ensures.value c.if-mover-transitions.true
+    broken_here 10 _ _ _ _ (range10 _ _) changed.cap_changer_missing-mover.ensures.value c.if-mover-transitions.true
     ∙ holds_here 9 _ _ _ _ (range9 _ _) held.output_missing-giver.ensures held.if-giver-transitions.false
 
 pub returns : goal.returns

@@ -31,10 +31,10 @@ links_outcome-requires c =
         starts = record { long = omega (arith, made.0, pre.room.starts); split = made.1 };
         places = own.places;
         transitions = own.transitions;
-        places_reached = omega (arith, own.long-p, pre.room.places);
-        transitions_reached = omega (arith, own.long-t, pre.room.transitions);
+        places_reached = omega (arith, own.long_p, pre.room.places);
+        transitions_reached = omega (arith, own.long_t, pre.room.transitions);
       };
-      transitions_in_bounds = pre.room.runs-start;
+      transitions_in_bounds = pre.room.runs_start;
       criterion_value = pre.judged.criterion;
       resting = pre.resting;
       limit_len = pre.limit_len;

@@ -1,5 +1,5 @@
 use mathlib.Core.Path.{refl, ◌∙◌}
-use Rattle.check_rules.proofs.Steps.{broken-here, holds_here, range4, range5}
+use Rattle.check_rules.proofs.Steps.{broken_here, holds_here, range4, range5}
 use Rattle.check_rules.proofs.links_outcome.Goals as goal
 use Rattle.check_rules.proofs.links_outcome.Goals.{After-arcs_breaker-other, After-slice_known-3-1, Else-other-transitions, Start}
 
@@ -17,7 +17,7 @@ pub arcs_breaker-other-requires : goal.arcs_breaker-other-requires
 arcs_breaker-other-requires c = let pre = (start (goal.at.arcs_breaker-other-requires c).After-slice_known-3-1).requires in record { cases = pre.cases; transitions_in_bounds = pre.transitions_in_bounds; unbroken = pre.agreed.fourth }
 
 pub returns-then-other-transitions : goal.returns-then-other-transitions
-returns-then-other-transitions c = broken-here 4 _ _ _ _ (range4 _ _) c.arcs_breaker-other.ensures c.if-other-transitions.true
+returns-then-other-transitions c = broken_here 4 _ _ _ _ (range4 _ _) c.arcs_breaker-other.ensures c.if-other-transitions.true
 
 pub criterion_missing-missing-requires : goal.criterion_missing-missing-requires
 criterion_missing-missing-requires c = let pre = (start_of (arcs_at c)).requires in record { criterion_value = pre.criterion_value; places_in_bounds = pre.cases.places_reached }
@@ -25,7 +25,7 @@ criterion_missing-missing-requires c = let pre = (start_of (arcs_at c)).requires
 pub returns-then-missing-places : goal.returns-then-missing-places
 returns-then-missing-places c =
     let arcs = arcs_at (goal.at.returns-then-missing-places c).Else-other-transitions in
-    broken-here 5 _ _ _ _ (range5 _ _ _) (c.criterion_missing-missing.ensures _ _ refl (start_of arcs).requires.cases.places) c.if-missing-places.true
+    broken_here 5 _ _ _ _ (range5 _ _ _) (c.criterion_missing-missing.ensures _ _ refl (start_of arcs).requires.cases.places) c.if-missing-places.true
     ∙ holds_here 4 _ _ _ _ (range4 _ _) arcs.arcs_breaker-other.ensures c.if-other-transitions.false
 
 pub movers_outcome-requires : goal.movers_outcome-requires

@@ -1,6 +1,6 @@
 use native.Mathlib.Omega.{arith}
 use mathlib.Core.Path.{◌∙◌}
-use Rattle.check_rules.proofs.Steps.{broken-here, holds_here, range6, range7, range8}
+use Rattle.check_rules.proofs.Steps.{broken_here, holds_here, range6, range7, range8}
 use Rattle.check_rules.proofs.movers_outcome.Goals as goal
 use Rattle.check_rules.proofs.movers_outcome.Goals.{After-caps_outcome, After-change_breaker-changer, After-raiser_missing-raiser, After-slice_known-2-1, After-slice_known-6-1, Else-changer-transitions, Else-raiser-transitions, Else-taker-transitions, Start}
 
@@ -27,7 +27,7 @@ pub change_breaker-changer-requires : goal.change_breaker-changer-requires
 change_breaker-changer-requires c = let pre = (start (goal.at.change_breaker-changer-requires c).After-slice_known-2-1).requires in record { cases = pre.cases; criterion_value = pre.criterion_value; resting = pre.resting; limit_len = pre.limit_len; unbroken = pre.agreed.sixth }
 
 pub returns-then-changer-transitions : goal.returns-then-changer-transitions
-returns-then-changer-transitions c = broken-here 6 _ _ _ _ (range6 _ _ _) c.change_breaker-changer.ensures.value c.if-changer-transitions.true
+returns-then-changer-transitions c = broken_here 6 _ _ _ _ (range6 _ _ _) c.change_breaker-changer.ensures.value c.if-changer-transitions.true
 
 pub input_breaker-taker-requires : goal.input_breaker-taker-requires
 input_breaker-taker-requires c = let pre = (start_of (changes_at c)).requires in record { cases = pre.cases; unbroken = pre.agreed.seventh }
@@ -37,7 +37,7 @@ overflow_cast-result-then-taker-transitions c = omega (arith, c.if-taker-transit
 
 pub returns-then-taker-transitions : goal.returns-then-taker-transitions
 returns-then-taker-transitions c =
-    broken-here 7 _ _ _ _ (range7 _ _) c.input_breaker-taker.ensures c.if-taker-transitions.true
+    broken_here 7 _ _ _ _ (range7 _ _) c.input_breaker-taker.ensures c.if-taker-transitions.true
     ∙ holds_here 6 _ _ _ _ (range6 _ _ _) (changes_at (goal.at.returns-then-taker-transitions c).Else-changer-transitions).change_breaker-changer.ensures.value c.if-changer-transitions.false
 
 pub raiser_missing-raiser-requires : goal.raiser_missing-raiser-requires
@@ -54,7 +54,7 @@ pub returns-then-raiser-transitions : goal.returns-then-raiser-transitions
 returns-then-raiser-transitions c =
     let raised = raises_at (goal.at.returns-then-raiser-transitions c).After-slice_known-6-1 in
     let fed = inputs_at raised in
-    broken-here 8 _ _ _ _ (range8 _ _) raised.raiser_missing-raiser.ensures.value c.if-raiser-transitions.true
+    broken_here 8 _ _ _ _ (range8 _ _) raised.raiser_missing-raiser.ensures.value c.if-raiser-transitions.true
     ∙ holds_here 7 _ _ _ _ (range7 _ _) fed.input_breaker-taker.ensures fed.if-taker-transitions.false
     ∙ holds_here 6 _ _ _ _ (range6 _ _ _) (changes_at (goal.at.Else-taker-transitions fed).Else-changer-transitions).change_breaker-changer.ensures.value fed.if-changer-transitions.false
 

@@ -13,7 +13,7 @@ lent_outcome-requires c =
       agreed = pre.agreed;
       room = record {
         starts = omega (arith, judged.planned.placed.transitions);
-        runs-start = omega (arith, judged.sliced.placed.transitions);
+        runs_start = omega (arith, judged.sliced.placed.transitions);
         places = judged.planned.placed.places;
         transitions = judged.planned.placed.transitions;
       };

@@ -6,7 +6,7 @@ use lib.Seq.{length-take-le}
 use Rattle.net.specs.Checker.{verdict}
 use Rattle.file.specs.Layout.{net_from, slice_from}
 use Rattle.promise.specs.Calls.{Checked, told}
-use Rattle.checker.proofs.Listed.{list-passed, list-is}
+use Rattle.checker.proofs.Listed.{list_passed, list_is}
 use Rattle.checker.proofs.judge_in.Goals as goal
 use Rattle.checker.proofs.judge_in.Goals.{After-decode, Start}
 
@@ -27,7 +27,7 @@ pub judge-requires : goal.judge-requires
 judge-requires c =
     let decoded = c in
     let pre = (call (goal.at.judge-requires decoded).After-decode).requires in
-    record { planned = pre.sound; sliced = pre.sound_2; kind = pre.kind_value; criterion = list-passed _ _ pre.q_value _ decoded.decode.ensures }
+    record { planned = pre.sound; sliced = pre.sound_2; kind = pre.kind_value; criterion = list_passed _ _ pre.q_value _ decoded.decode.ensures }
 
 pub returns : goal.returns
 returns c =
@@ -37,4 +37,4 @@ returns c =
     let S = slice_from s.args.slice.now s.args.hs in
     c.code.ensures
     ∙ ap (λ (x : Checked). x.code) c.judge.ensures
-    ∙ ap (λ (l : List ℕ). (told (verdict N S l)).code) (list-is _ _ s.requires.q_value _ decoded.decode.ensures)
+    ∙ ap (λ (l : List ℕ). (told (verdict N S l)).code) (list_is _ _ s.requires.q_value _ decoded.decode.ensures)

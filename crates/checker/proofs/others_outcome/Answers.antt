@@ -1,6 +1,6 @@
 use borrow.Author.Rules.{rules}
 use native.Mathlib.Omega.{arith}
-use Rattle.check_rules.proofs.Steps.{broken-here, range4}
+use Rattle.check_rules.proofs.Steps.{broken_here, range4}
 use Rattle.checker.proofs.OnePass.{agreed_told}
 use Rattle.checker.proofs.others_outcome.Goals as goal
 use Rattle.checker.proofs.others_outcome.Goals.{After-agreeing-found, Else-doubt-eq0, Start}
@@ -25,7 +25,7 @@ pub overflow_cast-result : goal.overflow_cast-result
 overflow_cast-result c = omega (arith, c.if-t-hp.true, (start (passed (goal.at.overflow_cast-result c).Else-doubt-eq0)).requires.judged.planned.placed.transitions)
 
 pub returns-then-t-hp : goal.returns-then-t-hp
-returns-then-t-hp c = broken-here 4 _ _ _ _ (range4 _ _) ((passed (goal.at.returns-then-t-hp c).Else-doubt-eq0).agreeing-found.ensures.other_value c.if-t-hp.true) c.if-t-hp.true
+returns-then-t-hp c = broken_here 4 _ _ _ _ (range4 _ _) ((passed (goal.at.returns-then-t-hp c).Else-doubt-eq0).agreeing-found.ensures.other_value c.if-t-hp.true) c.if-t-hp.true
 
 pub in_doubt-requires : goal.in_doubt-requires
 in_doubt-requires c = let found = passed (goal.at.in_doubt-requires c).Else-doubt-eq0 in record { judged = (start found).requires.judged; agreed = found.agreeing-found.ensures.agreed }

@@ -6,9 +6,9 @@ use Rattle.net.specs.Checker.{verdict_from, verdict}
 use Rattle.file.specs.Layout.{net_from, slice_from}
 use Rattle.promise.specs.Calls.{told}
 use Rattle.file.proofs.Rows.{length-words}
-use Rattle.rules_origins.proofs.Keeping.{places-known, transitions-known}
+use Rattle.rules_origins.proofs.Keeping.{places_known, transitions_known}
 use Rattle.check_rules.specs.Room.{rules_from4}
-use Rattle.check_rules.proofs.Steps.{broken-here, holds_here, range1, range2, range3, all-rules}
+use Rattle.check_rules.proofs.Steps.{broken_here, holds_here, range1, range2, range3, all-rules}
 use Rattle.check_sizes.specs.Sizes.{KnownIn}
 use Rattle.checker.proofs.whole_outcome.Goals as goal
 use Rattle.checker.proofs.whole_outcome.Goals.{After-unknown_place-i, After-unknown_transition-j, Else-p-hp, Start}
@@ -46,18 +46,18 @@ known : (c : Else-p-hp) → KnownIn (start c).args.hp (slice_from (start c).args
 known c =
     let N = net_from (start c).args.plan.now (start c).args.hp in
     record {
-      places = places-known N _ (length-words _ _ _) (least _ _ _ ((places_at c).unknown_place-i.ensures N refl) (transitions_at c).if-i-hs.false);
-      transitions = transitions-known N _ (length-words _ _ _) (least _ _ _ ((transitions_at c).unknown_transition-j.ensures N refl) c.if-j-hs.false);
+      places = places_known N _ (length-words _ _ _) (least _ _ _ ((places_at c).unknown_place-i.ensures N refl) (transitions_at c).if-i-hs.false);
+      transitions = transitions_known N _ (length-words _ _ _) (least _ _ _ ((transitions_at c).unknown_transition-j.ensures N refl) c.if-j-hs.false);
     }
 
 pub returns-then-i-hs : goal.returns-then-i-hs
 returns-then-i-hs c =
-    broken-here 1 _ _ _ _ (range1 _ _) (c.unknown_place-i.ensures _ refl) c.if-i-hs.true ∙ all-rules _ _ _
+    broken_here 1 _ _ _ _ (range1 _ _) (c.unknown_place-i.ensures _ refl) c.if-i-hs.true ∙ all-rules _ _ _
 
 pub returns-then-j-hs : goal.returns-then-j-hs
 returns-then-j-hs c =
     let at = c in
-    broken-here 2 _ _ _ _ (range2 _ _) (at.unknown_transition-j.ensures _ refl) c.if-j-hs.true
+    broken_here 2 _ _ _ _ (range2 _ _) (at.unknown_transition-j.ensures _ refl) c.if-j-hs.true
     ∙ holds_here 1 _ _ _ _ (range1 _ _) (at.unknown_place-i.ensures _ refl) at.if-i-hs.false
     ∙ all-rules _ _ _
 
@@ -67,13 +67,13 @@ other_marking-p-requires c =
     let places = at in
     let start = places in
     let N = net_from start.args.plan.now start.args.hp in
-    let all = places-known N _ (length-words _ _ _) (least _ _ _ (places.unknown_place-i.ensures N refl) at.if-i-hs.false) in
+    let all = places_known N _ (length-words _ _ _) (least _ _ _ (places.unknown_place-i.ensures N refl) at.if-i-hs.false) in
     record { sound = start.requires.planned; sound_2 = start.requires.sliced; kind_value = start.requires.kind; known = all }
 
 pub returns-then-p-hp : goal.returns-then-p-hp
 returns-then-p-hp c =
     let at = c in
-    broken-here 3 _ _ _ _ (range3 _ _) c.other_marking-p.ensures c.if-p-hp.true
+    broken_here 3 _ _ _ _ (range3 _ _) c.other_marking-p.ensures c.if-p-hp.true
     ∙ holds_here 2 _ _ _ _ (range2 _ _) (at.unknown_transition-j.ensures _ refl) c.if-j-hs.false
     ∙ holds_here 1 _ _ _ _ (range1 _ _) (at.unknown_place-i.ensures _ refl) at.if-i-hs.false
     ∙ all-rules _ _ _

@@ -3,7 +3,7 @@ use native.Mathlib.Omega.{arith}
 use lib.ListN.{length}
 use Rattle.file_words.specs.Word.{Bytes}
 use Rattle.plan_put.specs.Told.{file_numbers}
-use Rattle.clients_normal.proofs.Forms.{differ, fits, first-refused, second-refused, other-lengths, same_bytes, other-bytes}
+use Rattle.clients_normal.proofs.Forms.{differ, fits, first-refused, second_refused, other_lengths, same_bytes, other_bytes}
 use Rattle.clients_normal.proofs.one_net.Goals as goal
 use Rattle.clients_normal.proofs.one_net.Goals.{After-length_of-m, After-normal-first, After-normal-second, After-number-other, After-number-refusal, Start}
 
@@ -48,7 +48,7 @@ returns-then-other-ne0 c =
     let s = start_of n in
     let f = n.normal-first.ensures in
     let g = again.normal-second.ensures in
-    second-refused s.args.a.now s.args.b.now _ _ s.args.two.now (length s.args.one.now) f.answer f.form g.answer g.buffer g.form (bytes_of n) (none again) c.number-other.ensures
+    second_refused s.args.a.now s.args.b.now _ _ s.args.two.now (length s.args.one.now) f.answer f.form g.answer g.buffer g.form (bytes_of n) (none again) c.number-other.ensures
 
 pub returns-then-n-m : goal.returns-then-n-m
 returns-then-n-m c =
@@ -58,7 +58,7 @@ returns-then-n-m c =
     let f = n.normal-first.ensures in
     let g = again.normal-second.ensures in
     let s = start_of n in
-    other-lengths s.args.a.now s.args.b.now _ _ s.args.two.now (length s.args.one.now) f.answer f.form g.answer g.buffer g.form (bytes_of n) (none again) (none_2 (goal.at.returns-then-n-m l).After-length_of-m) l.length_of-n.ensures l.length_of-m.ensures c.if-n-m.true
+    other_lengths s.args.a.now s.args.b.now _ _ s.args.two.now (length s.args.one.now) f.answer f.form g.answer g.buffer g.form (bytes_of n) (none again) (none_2 (goal.at.returns-then-n-m l).After-length_of-m) l.length_of-n.ensures l.length_of-m.ensures c.if-n-m.true
 
 pub equal-requires : goal.equal-requires
 equal-requires c =
@@ -90,4 +90,4 @@ returns c =
     let f = n.normal-first.ensures in
     let g = again.normal-second.ensures in
     let s = start_of n in
-    other-bytes s.args.a.now s.args.b.now _ _ s.args.two.now (length s.args.one.now) f.answer f.form g.answer g.buffer g.form (bytes_of n) (none again) (none_2 (goal.at.returns l).After-length_of-m) l.length_of-n.ensures l.length_of-m.ensures t.if-n-m.false (λ e. differ (sym c.if-equal.false ∙ c.equal.ensures.1 e))
+    other_bytes s.args.a.now s.args.b.now _ _ s.args.two.now (length s.args.one.now) f.answer f.form g.answer g.buffer g.form (bytes_of n) (none again) (none_2 (goal.at.returns l).After-length_of-m) l.length_of-n.ensures l.length_of-m.ensures t.if-n-m.false (λ e. differ (sym c.if-equal.false ∙ c.equal.ensures.1 e))

@@ -2,7 +2,7 @@ use mathlib.Core.Path.{◌≡◌, sym, ◌∙◌}
 use native.Mathlib.Omega.{arith}
 use lib.ListN.{length, length-take}
 use Rattle.plan_put.specs.Told.{file_numbers}
-use Rattle.clients_normal.proofs.Forms.{fits, same_answer, same-marking}
+use Rattle.clients_normal.proofs.Forms.{fits, same_answer, same_marking}
 use Rattle.clients_normal.proofs.replay.Goals as goal
 use Rattle.clients_normal.proofs.replay.Goals.{After-length_of-end, After-normal-first, After-number-refusal}
 
@@ -34,4 +34,4 @@ returns c =
     let r = c.replay-2.ensures in
     let l = c in
     let n = (normal_of (judged (goal.at.returns l).After-length_of-end)).normal-first.ensures in
-    record { answer = r.answer ∙ same_answer _ _ _ n.answer n.form (none (goal.at.returns l).After-length_of-end) l.length_of-end.ensures _ _; marking = r.marking ∙ same-marking _ _ _ n.answer n.form (none (goal.at.returns l).After-length_of-end) l.length_of-end.ensures _ _ }
+    record { answer = r.answer ∙ same_answer _ _ _ n.answer n.form (none (goal.at.returns l).After-length_of-end) l.length_of-end.ensures _ _; marking = r.marking ∙ same_marking _ _ _ n.answer n.form (none (goal.at.returns l).After-length_of-end) l.length_of-end.ensures _ _ }

@@ -2,7 +2,7 @@ use mathlib.Core.Path.{◌≡◌, sym, ◌∙◌}
 use native.Mathlib.Omega.{arith}
 use lib.ListN.{length-take}
 use Rattle.plan_put.specs.Told.{file_numbers}
-use Rattle.clients_normal.proofs.Forms.{fits, again-none, again-long, again-bytes}
+use Rattle.clients_normal.proofs.Forms.{fits, again_none, again_long, again_bytes}
 use Rattle.clients_normal.proofs.stays.Goals as goal
 use Rattle.clients_normal.proofs.stays.Goals.{After-length_of-m, After-length_of-n, After-normal-first, After-normal-second, After-number-refusal, Start}
 
@@ -46,7 +46,7 @@ returns-then-m-n c =
     let n = first_of (judged l) in
     let f = n.normal-first.ensures in
     let s = again.normal-second.ensures in
-    absurd (c.if-m-n.true (c.length_of-m.ensures ∙ again-long _ _ _ f.answer f.form (none l) (start_of n).args.two.now l.length_of-n.ensures again.if-two-end.false s.answer))
+    absurd (c.if-m-n.true (c.length_of-m.ensures ∙ again_long _ _ _ f.answer f.form (none l) (start_of n).args.two.now l.length_of-n.ensures again.if-two-end.false s.answer))
 
 pub equal-requires : goal.equal-requires
 equal-requires c =
@@ -57,7 +57,7 @@ equal-requires c =
     let s = again.normal-second.ensures in
     let long = again.if-two-end.false in
     let two = (start_of n).args.two.now in
-    record { n_in_bounds = omega (arith, l.length_of-n.ensures, fits _ _ _ f.answer f.form (none l)); n_in_bounds_2 = omega (arith, again-long _ _ _ f.answer f.form (none l) two l.length_of-n.ensures long s.answer, fits _ _ _ s.answer s.form (again-none _ _ _ f.answer f.form (none l) two l.length_of-n.ensures long s.answer)) }
+    record { n_in_bounds = omega (arith, l.length_of-n.ensures, fits _ _ _ f.answer f.form (none l)); n_in_bounds_2 = omega (arith, again_long _ _ _ f.answer f.form (none l) two l.length_of-n.ensures long s.answer, fits _ _ _ s.answer s.form (again_none _ _ _ f.answer f.form (none l) two l.length_of-n.ensures long s.answer)) }
 
 pub returns : goal.returns
 returns c =
@@ -66,4 +66,4 @@ returns c =
     let n = first_of (judged l) in
     let f = n.normal-first.ensures in
     let s = again.normal-second.ensures in
-    c.equal.ensures.1 (again-bytes _ _ _ f.answer f.form (none l) (start_of n).args.two.now l.length_of-n.ensures again.if-two-end.false s.answer s.buffer)
+    c.equal.ensures.1 (again_bytes _ _ _ f.answer f.form (none l) (start_of n).args.two.now l.length_of-n.ensures again.if-two-end.false s.answer s.buffer)

@@ -11,7 +11,7 @@ pub close-requires : goal.close-requires
 close-requires c =
     let start = c in
     let first = c.keep_criterion-kept.ensures in
-    ((start.requires.0, start.requires.1), record { places-long = first.places-long; transitions-long = first.transitions-long }, λ k m. start.requires.2 k (subst T (first.places k) m))
+    ((start.requires.0, start.requires.1), record { places_long = first.places_long; transitions_long = first.transitions_long }, λ k m. start.requires.2 k (subst T (first.places k) m))
 
 pub returns : goal.returns
 returns c =

@@ -1,5 +1,5 @@
 use native.Mathlib.Omega.{arith}
-use Rattle.cut.proofs.Criterion.{number-below, starting_none, starting_more, starting_end}
+use Rattle.cut.proofs.Criterion.{number_below_lem, starting_none, starting_more, starting_end}
 use Rattle.cut.proofs.keep_criterion.Goals as goal
 
 pub loop-i-init : goal.loop-i-init
@@ -7,7 +7,7 @@ loop-i-init c = starting_none _
 
 pub with-kept-requires : goal.with-kept-requires
 with-kept-requires c =
-    let small = number-below _ _ c.requires c.loop-i.i c.wide.result c.loop-i-test.true c.wide.ensures.0 in
+    let small = number_below_lem _ _ c.requires c.loop-i.i c.wide.result c.loop-i-test.true c.wide.ensures.0 in
     omega (arith, small)
 
 pub loop-i-preserved : goal.loop-i-preserved

@@ -5,7 +5,7 @@ pub index-requires : goal.index-requires
 index-requires c =
     let start = c in
     let lent = start.requires.lent in
-    record { sound = start.requires.sound; places_in_bounds = (lent.head-long, lent.next-long); by_index = lent.none }
+    record { sound = start.requires.sound; places_in_bounds = (lent.head_long, lent.next_long); by_index = lent.none }
 
 pub grow-requires : goal.grow-requires
 grow-requires c =

@@ -10,6 +10,6 @@ returns c =
     record {
       places = λ k. c.with-more.ensures.members k ∙ or_comm (member start.args.kept.places k) (eqb k start.args.p);
       transitions = λ k. refl;
-      places-long = c.with-more.ensures.long;
-      transitions-long = start.well_formed.0.1.1.1.0.1.0.1;
+      places_long = c.with-more.ensures.long;
+      transitions_long = start.well_formed.0.1.1.1.0.1.0.1;
     }

@@ -46,10 +46,10 @@ loop-j-preserved c =
     (next_at (begun (goal.at.loop-j-preserved done).After-link-j)).more _ _ (search rules) (search rules) _ done.link-j.ensures
 
 pub shape_of-head : goal.shape_of-head
-shape_of-head c = c.loop-j.invariant.head-long
+shape_of-head c = c.loop-j.invariant.head_long
 
 pub shape_of-next : goal.shape_of-next
-shape_of-next c = c.loop-j.invariant.next-long
+shape_of-next c = c.loop-j.invariant.next_long
 
 pub returns : goal.returns
 returns c =

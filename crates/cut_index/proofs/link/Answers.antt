@@ -17,7 +17,7 @@ overflow_cast-own c = omega (arith, c.type_inv.head (2 * c.args.p + c.args.direc
 pub returns-then-least-own : goal.returns-then-least-own
 returns-then-least-own c =
     let start = c in
-    let e = is_own _ _ (start.requires.0.own-most _ start.requires.1) c.if-least-own.true in
+    let e = is_own _ _ (start.requires.0.own_most _ start.requires.1) c.if-least-own.true in
     record { again = λ q. (refl, refl, refl); back = λ n. absurd (n e); new = λ n. absurd (n e) }
 
 pub overflow_cast-begun : goal.overflow_cast-begun
@@ -27,7 +27,7 @@ pub link_back-requires : goal.link_back-requires
 link_back-requires c =
     let met = c in
     let room = met.requires.0 in
-    (room, room.some (is_own _ _ room.begun-most met.if-least-begun.true))
+    (room, room.some (is_own _ _ room.begun_most met.if-least-begun.true))
 
 pub returns-then-least-begun : goal.returns-then-least-begun
 returns-then-least-begun c =
@@ -37,7 +37,7 @@ returns-then-least-begun c =
     record {
       again = λ e. absurd (not_own _ _ other.if-least-own.false e);
       back = λ n e. c.link_back.ensures;
-      new = λ n m. absurd (m (is_own _ _ room.begun-most met.if-least-begun.true));
+      new = λ n m. absurd (m (is_own _ _ room.begun_most met.if-least-begun.true));
     }
 
 pub link_arc-requires : goal.link_arc-requires

@@ -97,7 +97,7 @@ link_arc-requires c =
     (omega (arith, x.stands.few, x.stands.some), search rules, search rules, search rules)
 
 pub shape_of-head : goal.shape_of-head
-shape_of-head c = ap length c.link_arc.ensures.head-is ∙ simp length-set
+shape_of-head c = ap length c.link_arc.ensures.head_is ∙ simp length-set
 
 pub returns : goal.returns
 returns c =

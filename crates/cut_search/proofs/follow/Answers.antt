@@ -1,7 +1,7 @@
 use borrow.Author.Rules.{rules}
 use Prim.Native.Nat.{◌-◌, ◌%◌}
 use native.Mathlib.Omega.{arith}
-use Rattle.cut_search.proofs.Turns.{Following, following_none, following_more, following_end, row_below, row-arc, row-begun, row_from, row-split, row-less}
+use Rattle.cut_search.proofs.Turns.{Following, following_none, following_more, following_end, row_below, row_arc, row_begun, row_from, row_split, row_less}
 use Rattle.cut_search.proofs.follow.Goals as goal
 use Rattle.cut_search.proofs.follow.Goals.{At-loop-e}
 
@@ -18,21 +18,21 @@ overflow_sub-e c =
     let start = c in
     let x = along (goal.at.overflow_sub-e c).At-loop-e in
     let n = c.loop-e-test.true in
-    let b = row-begun _ start.args.h start.requires.0 _ start.requires.1 _ _ _ _ _ _ _ _ _ x n in search rules
+    let b = row_begun _ start.args.h start.requires.0 _ start.requires.1 _ _ _ _ _ _ _ _ _ x n in search rules
 
 pub keep_transition-m-requires : goal.keep_transition-m-requires
 keep_transition-m-requires c =
     let start = c in
     let x = along (goal.at.keep_transition-m-requires c).At-loop-e in
     let n = c.loop-e-test.true in
-    record { sound = (start.requires.0, row_from _ start.args.h start.requires.0 _ start.requires.1 _ _ _ _ _ _ _ _ _ x n, row-split _ start.args.h start.requires.0 _ start.requires.1 _ _ _ _ _ _ _ _ _ x n); capped_value = (start.requires.3, x.grown.sets) }
+    record { sound = (start.requires.0, row_from _ start.args.h start.requires.0 _ start.requires.1 _ _ _ _ _ _ _ _ _ x n, row_split _ start.args.h start.requires.0 _ start.requires.1 _ _ _ _ _ _ _ _ _ x n); capped_value = (start.requires.3, x.grown.sets) }
 
 pub overflow_sub-e-in-loop-e : goal.overflow_sub-e-in-loop-e
 overflow_sub-e-in-loop-e c =
     let start = c in
     let x = along (goal.at.overflow_sub-e-in-loop-e c).At-loop-e in
     let n = c.loop-e-test.true in
-    let b = row-arc _ start.args.h start.requires.0 _ start.requires.1 _ _ _ _ _ _ _ _ _ x n in search rules
+    let b = row_arc _ start.args.h start.requires.0 _ start.requires.1 _ _ _ _ _ _ _ _ _ x n in search rules
 
 pub offset_bounds-next-e : goal.offset_bounds-next-e
 offset_bounds-next-e c =
@@ -56,7 +56,7 @@ loop-e-smaller c =
     let start = c in
     let x = along (goal.at.loop-e-smaller c).At-loop-e in
     let n = c.loop-e-test.true in
-    row-less _ start.args.h start.requires.0 _ start.requires.1 _ _ _ _ _ _ _ _ _ x n
+    row_less _ start.args.h start.requires.0 _ start.requires.1 _ _ _ _ _ _ _ _ _ x n
 
 pub loop-e-preserved : goal.loop-e-preserved
 loop-e-preserved c =

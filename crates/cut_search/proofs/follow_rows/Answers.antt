@@ -3,7 +3,7 @@ use mathlib.Core.Logic.{⊎_elim}
 use native.Mathlib.Omega.{arith}
 use Rattle.file.specs.Layout.{net_from}
 use Rattle.cut_search.specs.Search.{draws_both}
-use Rattle.cut_search.proofs.Turns.{Halfway, halfway_followed, halfway_none, turned, nexts-of, lowers, raises, row_at}
+use Rattle.cut_search.proofs.Turns.{Halfway, halfway_followed, halfway_none, turned, nexts_of, lowers, raises, row_at}
 use Rattle.cut_search.proofs.follow_rows.Goals as goal
 use Rattle.cut_search.proofs.follow_rows.Goals.{then-draws_both, else-draws_both, Joined-draws_both, Start}
 
@@ -13,7 +13,7 @@ call c = (goal.at.Joined-draws_both c).Start
 pub follow-m-requires : goal.follow-m-requires
 follow-m-requires c =
     let s = c in
-    (s.requires.0, nexts-of _ s.args.h _ _ s.requires.1, row_at _ s.args.h _ _ s.requires.1 _ (omega (arith, s.requires.2)), s.requires.3, s.requires.4)
+    (s.requires.0, nexts_of _ s.args.h _ _ s.requires.1, row_at _ s.args.h _ _ s.requires.1 _ (omega (arith, s.requires.2)), s.requires.3, s.requires.4)
 
 -- after the row that lowers p, or without it
 halfway : (c : Joined-draws_both) → let s = call c in
@@ -30,7 +30,7 @@ pub follow-requires : goal.follow-requires
 follow-requires c =
     let joined = c in
     let s = call (goal.at.follow-requires joined).Joined-draws_both in
-    (s.requires.0, nexts-of _ s.args.h _ _ s.requires.1, row_at _ s.args.h _ _ s.requires.1 _ (omega (arith, s.requires.2)), s.requires.3, (halfway (goal.at.follow-requires joined).Joined-draws_both).grown.sets)
+    (s.requires.0, nexts_of _ s.args.h _ _ s.requires.1, row_at _ s.args.h _ _ s.requires.1 _ (omega (arith, s.requires.2)), s.requires.3, (halfway (goal.at.follow-requires joined).Joined-draws_both).grown.sets)
 
 pub returns : goal.returns
 returns c =

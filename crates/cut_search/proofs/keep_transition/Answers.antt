@@ -9,12 +9,12 @@ use Rattle.net.specs.declared.Arc.{Arc}
 use Rattle.file.specs.Layout.{net_from}
 use Rattle.file.specs.Facts.{Sound}
 use Rattle.arcs_starts.specs.Table.{Split}
-use Rattle.file.proofs.Rows.{good-at}
+use Rattle.file.proofs.Rows.{good_at}
 use Rattle.sets_pending.specs.Growing.{PlacesKept}
 use Rattle.arcs_column.specs.Ways.{transition_at}
 use Rattle.cut_search.specs.Search.{needs_of, TransitionKept}
-use Rattle.cut_search.proofs.Steps.{transition-known, transition-new, places-as}
-use Rattle.cut_search.proofs.Needed.{needs-inputs}
+use Rattle.cut_search.proofs.Steps.{transition-known, transition-new, places_as}
+use Rattle.cut_search.proofs.Needed.{needs_inputs}
 use Rattle.cut_search.proofs.keep_transition.Goals as goal
 use Rattle.cut_search.proofs.keep_transition.Goals.{After-arc-a, After-contains, After-insert, Start}
 
@@ -34,7 +34,7 @@ same : (c : After-arc-a) → let s = call c in c.arc-a.result.transition ≡ tra
 same c = ap (λ (a : Arc). a.transition) c.arc-a.ensures.0
 
 inside : (c : After-arc-a) → c.arc-a.result.transition < (call c).args.h.transitions
-inside c = let s = call c in omega (arith, same c, (good-at s.args.file.now s.args.h s.requires.sound.0 s.args.from s.requires.sound.1).transition)
+inside c = let s = call c in omega (arith, same c, (good_at s.args.file.now s.args.h s.requires.sound.0 s.args.from s.requires.sound.1).transition)
 
 few : (c : After-arc-a) → c.arc-a.result.transition < 1024
 few c = omega (arith, inside c, (call c).requires.sound.0.placed.transitions)
@@ -51,7 +51,7 @@ returns-then-contains c =
 pub insert-requires : goal.insert-requires
 insert-requires c =
     let a = read (goal.at.insert-requires c).After-contains in
-    (omega (arith, few a), (call a).requires.capped_value.1.transitions-long)
+    (omega (arith, few a), (call a).requires.capped_value.1.transitions_long)
 
 -- what both ways of keeping places ask
 asks : (c : After-insert) → let s = call (read (asked c)) in let t = (read (asked c)).arc-a.result.transition in
@@ -62,7 +62,7 @@ asks c =
       s.requires.sound.0,
       inside a,
       subst (λ (t : ℕ). Split s.args.file.now s.args.h.arcstart s.args.h.arcs (2 * t) s.args.from) (sym (same a)) s.requires.sound.2,
-      s.requires.capped_value.1.places-long,
+      s.requires.capped_value.1.places_long,
     )
 
 -- the transition is new, and the places that it needs are kept
@@ -88,4 +88,4 @@ returns c =
     let put = c in
     let s = call (read (asked (goal.at.returns put).After-insert)) in
     let other : eqb s.args.h.edition 2 ≡ false = sym s.requires.capped_value.0 ∙ c.if-capped.false in
-    new (goal.at.returns put).After-insert _ _ (places-as _ _ _ _ _ _ c.keep_inputs.ensures (needs-inputs s.args.file.now s.args.h other _))
+    new (goal.at.returns put).After-insert _ _ (places_as _ _ _ _ _ _ c.keep_inputs.ensures (needs_inputs s.args.file.now s.args.h other _))

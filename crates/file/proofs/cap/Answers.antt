@@ -3,7 +3,7 @@ use Prim.Native.Nat.{◌*◌}
 use mathlib.Core.Path.{◌≡◌, sym, ◌∙◌}
 use borrow.Author.Tests.{eq-eqb, ne_eqb}
 use Rattle.file_header.specs.Layout.{places_length}
-use Rattle.file.proofs.Caps.{cap-at, no_cap-by}
+use Rattle.file.proofs.Caps.{cap_at_lem, no_cap_by}
 use Rattle.file.proofs.cap.Goals as goal
 
 pub get32-requires : goal.get32-requires
@@ -19,11 +19,11 @@ returns-then-h-eq-CAPS c =
     let call = two in
     let s = call.args.file.now in
     let h = call.args.h in
-    (c.get32.ensures.0 ∙ sym (cap-at s h (eq-eqb _ _ two.if-h-eq-CAPS.true) call.args.place call.requires.place_lt_places), c.get32.ensures.1)
+    (c.get32.ensures.0 ∙ sym (cap_at_lem s h (eq-eqb _ _ two.if-h-eq-CAPS.true) call.args.place call.requires.place_lt_places), c.get32.ensures.1)
 
 pub returns : goal.returns
 returns c =
     let call = c in
     let s = call.args.file.now in
     let h = call.args.h in
-    (sym (no_cap-by s h (ne_eqb _ _ c.if-h-eq-CAPS.false) call.args.place), omega arith)
+    (sym (no_cap_by s h (ne_eqb _ _ c.if-h-eq-CAPS.false) call.args.place), omega arith)

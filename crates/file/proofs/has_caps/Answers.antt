@@ -4,7 +4,7 @@ use borrow.Author.Tests.{ne_eqb}
 use Rattle.net.proofs.Numbers.{by_order}
 use Rattle.net.proofs.Uncapped.{has_cap, has_none}
 use Rattle.file.specs.Layout.{net_from}
-use Rattle.file.proofs.Caps.{no_cap-by}
+use Rattle.file.proofs.Caps.{no_cap_by}
 use Rattle.file.proofs.has_caps.Goals as goal
 
 -- no place before p has a cap
@@ -12,7 +12,7 @@ use Rattle.file.proofs.has_caps.Goals as goal
 pub returns-then-h-ne-CAPS : goal.returns-then-h-ne-CAPS
 returns-then-h-ne-CAPS c =
     let call = c in
-    sym (has_none _ (λ p l. no_cap-by call.args.file.now call.args.h (ne_eqb _ _ c.if-h-ne-CAPS.true) p))
+    sym (has_none _ (λ p l. no_cap_by call.args.file.now call.args.h (ne_eqb _ _ c.if-h-ne-CAPS.true) p))
 
 pub loop-p-init : goal.loop-p-init
 loop-p-init c = (omega arith, λ q l. absurd (omega arith))

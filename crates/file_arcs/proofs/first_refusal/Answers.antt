@@ -5,7 +5,7 @@ use Rattle.file_words.specs.Word.{byte_at}
 use Rattle.file_arcs.specs.Layout.{arc_at}
 use Rattle.file_arcs.specs.Refusal.{arc_wrong, key}
 use Rattle.file_arcs.proofs.Words.{unfit-wrong}
-use Rattle.file_arcs.proofs.Laws.{arcs-6, arcs-7, arcs-on, arcs-end}
+use Rattle.file_arcs.proofs.Laws.{arcs_6, arcs_7, arcs_on, arcs_end}
 use Rattle.file_arcs.proofs.first_refusal.Goals as goal
 use Rattle.file_arcs.proofs.first_refusal.Goals.{After-arc_of-a, After-order-key, After-unfit, At-loop-left, In-loop-left, Start}
 
@@ -40,19 +40,19 @@ loop-left-init c = (search rules, refl)
 pub returns-then-unfit : goal.returns-then-unfit
 returns-then-unfit c =
     let t = turn_of (goal.at.returns-then-unfit c).After-unfit in
-    sym (t.loop-left.invariant.1 ∙ arcs-6 _ _ _ _ _ _ t.loop-left-test.true (sym (wrong_is (goal.at.returns-then-unfit c).After-unfit) ∙ c.if-unfit.true))
+    sym (t.loop-left.invariant.1 ∙ arcs_6 _ _ _ _ _ _ t.loop-left-test.true (sym (wrong_is (goal.at.returns-then-unfit c).After-unfit) ∙ c.if-unfit.true))
 
 pub returns-then-key-least : goal.returns-then-key-least
 returns-then-key-least c =
     let fits = c in
     let t = turn_of (goal.at.returns-then-key-least fits).After-unfit in
-    sym (t.loop-left.invariant.1 ∙ arcs-7 _ _ _ _ _ _ t.loop-left-test.true (sym (wrong_is (goal.at.returns-then-key-least fits).After-unfit) ∙ fits.if-unfit.false) (rw (← key_is (goal.at.returns-then-key-least c).After-order-key) c.if-key-least.true))
+    sym (t.loop-left.invariant.1 ∙ arcs_7 _ _ _ _ _ _ t.loop-left-test.true (sym (wrong_is (goal.at.returns-then-key-least fits).After-unfit) ∙ fits.if-unfit.false) (rw (← key_is (goal.at.returns-then-key-least c).After-order-key) c.if-key-least.true))
 
 pub loop-left-preserved : goal.loop-left-preserved
 loop-left-preserved c =
     let fits = c in
     let t = turn_of (goal.at.loop-left-preserved fits).After-unfit in
-    (search rules, t.loop-left.invariant.1 ∙ arcs-on _ _ _ _ _ _ t.loop-left-test.true (sym (wrong_is (goal.at.loop-left-preserved fits).After-unfit) ∙ fits.if-unfit.false) (rw (← key_is (goal.at.loop-left-preserved c).After-order-key) c.if-key-least.false) ∙ rw (← key_is (goal.at.loop-left-preserved c).After-order-key))
+    (search rules, t.loop-left.invariant.1 ∙ arcs_on _ _ _ _ _ _ t.loop-left-test.true (sym (wrong_is (goal.at.loop-left-preserved fits).After-unfit) ∙ fits.if-unfit.false) (rw (← key_is (goal.at.loop-left-preserved c).After-order-key) c.if-key-least.false) ∙ rw (← key_is (goal.at.loop-left-preserved c).After-order-key))
 
 pub returns : goal.returns
-returns c = sym (c.loop-left.invariant.1 ∙ arcs-end _ _ _ _ _ _ c.loop-left-test.false)
+returns c = sym (c.loop-left.invariant.1 ∙ arcs_end _ _ _ _ _ _ c.loop-left-test.false)

@@ -3,7 +3,7 @@ use Prim.Native.Nat.{◌<◌}
 use mathlib.Core.Path.{◌≡◌, refl, ◌∙◌}
 use native.Mathlib.Omega.{arith}
 use lib.ListN.{length, length-set}
-use Rattle.inputs_criterion.proofs.Places.{words-none, words-set}
+use Rattle.inputs_criterion.proofs.Places.{words_none, words_set}
 use Rattle.inputs_criterion.proofs.decode.Goals as goal
 use Rattle.inputs_criterion.proofs.decode.Goals.{At-loop-i, In-loop-i}
 
@@ -18,7 +18,7 @@ inside c = omega (arith, reached (goal.at.In-loop-i c).At-loop-i, c.loop-i-test.
 -- ---- the needs
 
 pub returns-then-count-eq0 : goal.returns-then-count-eq0
-returns-then-count-eq0 c = rw c.if-count-eq0.true (words-none _ _)
+returns-then-count-eq0 c = rw c.if-count-eq0.true (words_none _ _)
 
 pub loop-i-init : goal.loop-i-init
 loop-i-init c =
@@ -26,7 +26,7 @@ loop-i-init c =
     let start = test in (
       omega (arith, test.if-count-eq0.false),
       refl,
-      words-set _ start.args.list.now 0 _ (omega (arith, test.if-count-eq0.false, start.requires)) (words-none _ _) c.get16.ensures.0,
+      words_set _ start.args.list.now 0 _ (omega (arith, test.if-count-eq0.false, start.requires)) (words_none _ _) c.get16.ensures.0,
     )
 
 pub bounds-list-i : goal.bounds-list-i
@@ -38,7 +38,7 @@ loop-i-preserved c =
     let at = turn.loop-i in (
       search rules,
       length-set at.list at.i c.get16-in-loop-i.result ∙ at.invariant.1,
-      words-set _ at.list at.i _ (inside (goal.at.loop-i-preserved turn).In-loop-i) at.invariant.2 c.get16-in-loop-i.ensures.0,
+      words_set _ at.list at.i _ (inside (goal.at.loop-i-preserved turn).In-loop-i) at.invariant.2 c.get16-in-loop-i.ensures.0,
     )
 
 pub shape_of-list : goal.shape_of-list

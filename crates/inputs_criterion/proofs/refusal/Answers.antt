@@ -2,7 +2,7 @@ use borrow.Author.Rules.{rules}
 use mathlib.Core.Path.{refl, sym, ◌∙◌}
 use native.Mathlib.Omega.{arith}
 use Rattle.file.specs.Criterion.{criterion_refusal}
-use Rattle.inputs_criterion.proofs.Places.{list-10, list_on, list-end}
+use Rattle.inputs_criterion.proofs.Places.{list_10, list_on, list_end}
 use Rattle.inputs_criterion.proofs.refusal.Goals as goal
 
 pub loop-i-init : goal.loop-i-init
@@ -13,7 +13,7 @@ unfolding criterion_refusal
 returns-then-misplaced c =
     sym
     (c.loop-i.invariant.2
-    ∙ list-10 _ _ _ _ c.loop-i-test.true _ c.wide-x.ensures.0 (sym c.misplaced.ensures ∙ c.if-misplaced.true))
+    ∙ list_10 _ _ _ _ c.loop-i-test.true _ c.wide-x.ensures.0 (sym c.misplaced.ensures ∙ c.if-misplaced.true))
 
 pub loop-i-preserved : goal.loop-i-preserved
 loop-i-preserved c = (
@@ -24,4 +24,4 @@ loop-i-preserved c = (
 
 pub returns : goal.returns
 unfolding criterion_refusal
-returns c = sym (c.loop-i.invariant.2 ∙ list-end _ _ _ _ c.loop-i-test.false)
+returns c = sym (c.loop-i.invariant.2 ∙ list_end _ _ _ _ c.loop-i-test.false)

@@ -7,7 +7,7 @@ use lib.Dec.{ltb}
 use Rattle.file.specs.Layout.{net_from}
 use Rattle.promise.specs.Together.{standing}
 use Rattle.promise.specs.Starts.{too_many}
-use Rattle.promise.proofs.Started.{over-some, over_none}
+use Rattle.promise.proofs.Started.{over_some, over_none}
 use Rattle.inputs_starts.proofs.overfull.Goals as goal
 use Rattle.inputs_starts.proofs.overfull.Goals.{After-limit-most, At-loop-p, In-loop-p, Start}
 
@@ -39,7 +39,7 @@ returns-then-most-marking c =
     let t = turn_of (goal.at.returns-then-most-marking limit).After-limit-most in
     let l = at_of t in
     let s = (call l).args in
-    sym (over-some (net_from s.file.now s.h) (standing s.marking.now) l.loop-p.p t.loop-p-test.true (sym (tested (goal.at.returns-then-most-marking limit).After-limit-most) ∙ lt-ltb _ _ c.if-most-marking.true))
+    sym (over_some (net_from s.file.now s.h) (standing s.marking.now) l.loop-p.p t.loop-p-test.true (sym (tested (goal.at.returns-then-most-marking limit).After-limit-most) ∙ lt-ltb _ _ c.if-most-marking.true))
 
 pub loop-p-preserved : goal.loop-p-preserved
 loop-p-preserved c =

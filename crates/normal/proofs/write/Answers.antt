@@ -1,4 +1,4 @@
-use Rattle.normal.proofs.Turns.{arcs-told, heavy-answers, light-answers}
+use Rattle.normal.proofs.Turns.{arcs_told, heavy_answers, light_answers}
 use Rattle.normal.proofs.write.Goals as goal
 use Rattle.normal.proofs.write.Goals.{After-count-left, In-Arcs, Start}
 
@@ -17,19 +17,19 @@ pub returns-in_default : goal.returns-in_default
 returns-in_default c =
     let counted = c in
     let s = counted in
-    let a = heavy-answers s.args.plan.now s.args.h s.args.buffer.now counted.count-left.ensures c.in_default.is in
+    let a = heavy_answers s.args.plan.now s.args.h s.args.buffer.now counted.count-left.ensures c.in_default.is in
     record { answer = a.answer; buffer = a.buffer }
 
 pub write_parts-requires : goal.write_parts-requires
 write_parts-requires c =
     let counted = counted_of (goal.at.write_parts-requires c).In-Arcs in
     let s = call counted in
-    record { sound = s.requires; arcs_value = (arcs-told s.args.plan.now s.args.h counted.count-left.ensures (left_of (goal.at.write_parts-requires c).In-Arcs).in-Arcs.is).1 }
+    record { sound = s.requires; arcs_value = (arcs_told s.args.plan.now s.args.h counted.count-left.ensures (left_of (goal.at.write_parts-requires c).In-Arcs).in-Arcs.is).1 }
 
 pub returns : goal.returns
 returns c =
     let written = c in
     let counted = counted_of (goal.at.returns written).In-Arcs in
     let s = call counted in
-    let a = light-answers s.args.plan.now s.args.h (arcs-told s.args.plan.now s.args.h counted.count-left.ensures (left_of (goal.at.returns written).In-Arcs).in-Arcs.is).0 written.write_parts.ensures in
+    let a = light_answers s.args.plan.now s.args.h (arcs_told s.args.plan.now s.args.h counted.count-left.ensures (left_of (goal.at.returns written).In-Arcs).in-Arcs.is).0 written.write_parts.ensures in
     record { answer = a.answer; buffer = a.buffer }

@@ -3,7 +3,7 @@ use mathlib.Core.Path.{◌≡◌, sym, ◌∙◌}
 use native.Mathlib.Omega.{arith}
 use lib.ListN.{length}
 use Rattle.plan_put.proofs.Laws.{no_room, room}
-use Rattle.normal.proofs.Turns.{few, file, file-long, arcs-long, file-stored}
+use Rattle.normal.proofs.Turns.{few, file, file_long, arcs_long, file_stored}
 use Rattle.normal.proofs.write_parts.Goals as goal
 use Rattle.normal.proofs.write_parts.Goals.{After-put_end-end, After-struct_known-1, After-write_arcs, After-write_places, Else-buffer-start, Start}
 
@@ -23,7 +23,7 @@ arcs_of c = (goal.at.After-put_end-end c).After-write_arcs
 
 -- how long the file is
 long : (c : Start) → length (file c.args.plan.now c.args.h) ≡ 8 * c.args.h.places + 8 * c.args.arcs + 16
-long c = omega (arith, file-long c.args.plan.now c.args.h, c.requires.arcs_value)
+long c = omega (arith, file_long c.args.plan.now c.args.h, c.requires.arcs_value)
 
 low : (c : Start) → c.args.arcs ≤ 4096
 low c = omega (arith, few c.args.plan.now c.args.h c.requires.sound, c.requires.arcs_value)
@@ -47,7 +47,7 @@ pub write_arcs-requires : goal.write_arcs-requires
 write_arcs-requires c =
     let roomy = room_of (goal.at.write_arcs-requires c).After-write_places in
     let s = call (goal.at.Else-buffer-start roomy).After-struct_known-1 in
-    record { sound = s.requires.sound; h_in_bounds = omega (arith, roomy.if-buffer-start.false, arcs-long s.args.plan.now s.args.h, s.requires.arcs_value) }
+    record { sound = s.requires.sound; h_in_bounds = omega (arith, roomy.if-buffer-start.false, arcs_long s.args.plan.now s.args.h, s.requires.arcs_value) }
 
 pub put_end-end-requires : goal.put_end-end-requires
 put_end-end-requires c =
@@ -69,5 +69,5 @@ returns c =
     let roomy = room_of places in
     let s = call (goal.at.Else-buffer-start roomy).After-struct_known-1 in
     room _ _ (omega (arith, long s, roomy.if-buffer-start.false))
-    (file-stored s.args.plan.now s.args.h _ s.requires.arcs_value places.write_places.ensures arcs.write_arcs.ensures put.put_end-end.ensures.s_after)
+    (file_stored s.args.plan.now s.args.h _ s.requires.arcs_value places.write_places.ensures arcs.write_arcs.ensures put.put_end-end.ensures.s_after)
     (put.put_end-end.ensures.value ∙ sym (long s))

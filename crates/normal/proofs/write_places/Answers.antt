@@ -6,7 +6,7 @@ use native.Mathlib.Omega.{arith}
 use lib.Seq.{sets}
 use Rattle.file_writing.specs.Writing.{place_bytes}
 use Rattle.tables.proofs.Storing.{storing_all, storing_as, storing_none}
-use Rattle.slice_put.proofs.Placing.{places-all, places-end, place-stored}
+use Rattle.slice_put.proofs.Placing.{places_all, places_end, place-stored}
 use Rattle.normal.proofs.write_places.Goals as goal
 use Rattle.normal.proofs.write_places.Goals.{After-marking-tokens, At-loop-p, In-loop-p, Start}
 
@@ -22,7 +22,7 @@ abbrev head_of : In-loop-p → At-loop-p
 head_of c = (goal.at.In-loop-p c).At-loop-p
 
 pub loop-p-init : goal.loop-p-init
-loop-p-init c = (search rules, storing_as (storing_all _ _ _) (places-all 2 _ _ _))
+loop-p-init c = (search rules, storing_as (storing_all _ _ _) (places_all 2 _ _ _))
 
 pub marking-tokens-requires : goal.marking-tokens-requires
 marking-tokens-requires c = record { placed = (call (head_of c)).requires.sound.placed; place_lt_places = c.loop-p-test.true }
@@ -52,4 +52,4 @@ shape_of-buffer c = c.loop-p.invariant.1.long
 pub returns : goal.returns
 returns c =
     let x = c in
-    storing_none (storing_as x.loop-p.invariant.1 (places-end 2 _ _ _ _ (omega (arith, c.loop-p-test.false))))
+    storing_none (storing_as x.loop-p.invariant.1 (places_end 2 _ _ _ _ (omega (arith, c.loop-p-test.false))))

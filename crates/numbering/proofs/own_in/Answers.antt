@@ -6,7 +6,7 @@ use native.Mathlib.Omega.{arith}
 use lib.Seq.{take_all}
 use Rattle.file.specs.Layout.{words_from}
 use Rattle.numbering.specs.Own.{Own}
-use Rattle.file.proofs.Rows.{length-words, words-at}
+use Rattle.file.proofs.Rows.{length-words, words_at}
 use Rattle.numbering.proofs.Entries.{own-none, own-next}
 use Rattle.numbering.proofs.own_in.Goals as goal
 use Rattle.numbering.proofs.own_in.Goals.{After-put, At-loop-i, In-loop-i, Start}
@@ -29,7 +29,7 @@ loop-i-preserved c =
     let at = t.loop-i in
     let s = call (goal.at.In-loop-i t).At-loop-i in
     let long = length-words s.args.file.now s.args.start s.args.count in
-    let origin = put.get16-origin.ensures.0 ∙ sym (words-at _ _ _ _ t.loop-i-test.true) in
+    let origin = put.get16-origin.ensures.0 ∙ sym (words_at _ _ _ _ t.loop-i-test.true) in
     (search rules, put.put.auto.table ∙ at.invariant.1, own-next _ s.requires.origins.rise at.i (omega (arith, long)) at.invariant.2 origin put.put.ensures)
 
 pub returns : goal.returns

@@ -9,6 +9,6 @@ pub returns : goal.returns
 returns c =
     let at-find2 = c in
     let at-find = at-find2 in
-    let at-arc = at-find in
-    let call = at-arc in
-    joining.join_is call.args.text.now call.requires.listing call.requires.indexed call.args.at at-arc.arc-ends.ensures at-find.find-i.ensures at-find2.find-j.ensures c.between.ensures
+    let at_arc = at-find in
+    let call = at_arc in
+    joining.join_is call.args.text.now call.requires.listing call.requires.indexed call.args.at at_arc.arc-ends.ensures at-find.find-i.ensures at-find2.find-j.ensures c.between.ensures

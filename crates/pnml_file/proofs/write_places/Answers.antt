@@ -5,13 +5,13 @@ use mathlib.Core.Bool.{false}
 use lib.Seq.{sets}
 use Rattle.file_writing.specs.Writing.{place_bytes}
 use Rattle.tables.proofs.Storing.{storing_all, storing_as, storing_none}
-use Rattle.slice_put.proofs.Placing.{places-all, places-end, place-stored}
+use Rattle.slice_put.proofs.Placing.{places_all, places_end, place-stored}
 use Rattle.pnml_file.proofs.Laws as laws
 use borrow.Author.Rules.{rules}
 use Rattle.pnml_file.proofs.write_places.Goals as goal
 
 pub loop-p-init : goal.loop-p-init
-loop-p-init c = (search rules, storing_as (storing_all _ _ _) (places-all 1 _ _ _))
+loop-p-init c = (search rules, storing_as (storing_all _ _ _) (places_all 1 _ _ _))
 
 pub put_place-requires : goal.put_place-requires
 put_place-requires c =
@@ -34,4 +34,4 @@ pub shape_of-buffer : goal.shape_of-buffer
 shape_of-buffer c = c.loop-p.invariant.1.long
 
 pub returns : goal.returns
-returns c = storing_none (storing_as c.loop-p.invariant.1 (places-end 1 _ _ _ _ (omega (arith, c.loop-p-test.false))))
+returns c = storing_none (storing_as c.loop-p.invariant.1 (places_end 1 _ _ _ _ (omega (arith, c.loop-p-test.false))))

@@ -6,7 +6,7 @@ use mathlib.Core.Path.{◌≡◌, sym, ◌∙◌}
 use lib.ListN.{length, length-replicate}
 use lib.Seq.{length-take-le}
 use Rattle.pnml_arcs.proofs.Joining.{listing_long}
-use Rattle.pnml_list.proofs.Lists.{few-arcs}
+use Rattle.pnml_list.proofs.Lists.{few_arcs}
 use Rattle.pnml_plan.proofs.Laws as laws
 use Rattle.pnml_plan.proofs.write_joined.Goals as goal
 
@@ -22,7 +22,7 @@ overflow_sub-count-3 c = omega (arith, listing_long c.requires.listing)
 pub pack-ends-requires : goal.pack-ends-requires
 pack-ends-requires c =
     let call = c in
-    record { listing = call.requires.listing; indexed = call.requires.indexed; names_len_bound = omega (arith, listing_long call.requires.listing, few-arcs call.args.text.now call.requires.text_len_bound, length-replicate {A = ℕ} 2048 0) }
+    record { listing = call.requires.listing; indexed = call.requires.indexed; names_len_bound = omega (arith, listing_long call.requires.listing, few_arcs call.args.text.now call.requires.text_len_bound, length-replicate {A = ℕ} 2048 0) }
 
 pub returns-then-ends : goal.returns-then-ends
 returns-then-ends c =
@@ -42,21 +42,21 @@ pub sort-requires : goal.sort-requires
 sort-requires c =
     let at-pack = c in
     let call = at-pack in
-    omega (arith, listing_long call.requires.listing, few-arcs call.args.text.now call.requires.text_len_bound, length-replicate {A = ℕ} 2048 0, at-pack.pack-ends.ensures.room)
+    omega (arith, listing_long call.requires.listing, few_arcs call.args.text.now call.requires.text_len_bound, length-replicate {A = ℕ} 2048 0, at-pack.pack-ends.ensures.room)
 
 pub slice_bounds-words-end : goal.slice_bounds-words-end
 slice_bounds-words-end c =
     let at-sort = c in
     let at-pack = at-sort in
     let call = at-pack in
-    omega (arith, listing_long call.requires.listing, few-arcs call.args.text.now call.requires.text_len_bound, length-replicate {A = ℕ} 2048 0, at-pack.pack-ends.ensures.room, at-sort.sort.ensures.room)
+    omega (arith, listing_long call.requires.listing, few_arcs call.args.text.now call.requires.text_len_bound, length-replicate {A = ℕ} 2048 0, at-pack.pack-ends.ensures.room, at-sort.sort.ensures.room)
 
 pub slice_bounds-write_listed-end : goal.slice_bounds-write_listed-end
 slice_bounds-write_listed-end c =
     let at-sort = c in
     let at-pack = at-sort in
     let call = at-pack in
-    sym (length-take-le (length call.args.names.now - 2 - call.args.places - call.args.transitions) _ (omega (arith, listing_long call.requires.listing, few-arcs call.args.text.now call.requires.text_len_bound, length-replicate {A = ℕ} 2048 0, at-pack.pack-ends.ensures.room, at-sort.sort.ensures.room)))
+    sym (length-take-le (length call.args.names.now - 2 - call.args.places - call.args.transitions) _ (omega (arith, listing_long call.requires.listing, few_arcs call.args.text.now call.requires.text_len_bound, length-replicate {A = ℕ} 2048 0, at-pack.pack-ends.ensures.room, at-sort.sort.ensures.room)))
 
 pub write_listed-requires : goal.write_listed-requires
 write_listed-requires c =

@@ -3,7 +3,7 @@ use Prim.Native.Nat.{◌+◌}
 use mathlib.Core.Path.{sym}
 use lib.Seq.{length-take-le}
 use Rattle.pnml_arcs.proofs.Joining.{listing_long}
-use Rattle.pnml_list.proofs.Lists.{few-ids}
+use Rattle.pnml_list.proofs.Lists.{few_ids}
 use Rattle.pnml_plan.proofs.Laws as laws
 use Rattle.pnml_plan.proofs.write_small.Goals as goal
 
@@ -17,4 +17,4 @@ write_named-requires c =
     let at-list = c in
     let call = at-list in
     let g = at-list.list-counts.ensures.table in
-    record { text_len_bound = omega (arith, call.requires.text_len_bound); listing = g; blanks = laws.blanks _ 66 (omega (arith, call.requires.text_len_bound, few-ids call.args.text.now, listing_long g, g.place-count, g.transition-count)) }
+    record { text_len_bound = omega (arith, call.requires.text_len_bound); listing = g; blanks = laws.blanks _ 66 (omega (arith, call.requires.text_len_bound, few_ids call.args.text.now, listing_long g, g.place_count, g.transition_count)) }

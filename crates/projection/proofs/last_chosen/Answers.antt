@@ -1,5 +1,5 @@
 use Rattle.std.proofs.Common.{◌-◌, arith}
-use Rattle.projection.proofs.Choices.{dropped_none, dropped_next, last-at, last_none}
+use Rattle.projection.proofs.Choices.{dropped_none, dropped_next, last_at, last_none}
 use Rattle.projection.proofs.last_chosen.Goals as goal
 
 pub loop-end-init : goal.loop-end-init
@@ -21,7 +21,7 @@ pub bounds-table-t : goal.bounds-table-t
 bounds-table-t c = c.loop-end.invariant.reached.known (c.loop-end.end - 1) (omega (arith, c.loop-end.invariant.within, c.loop-end-test.true))
 
 pub returns-then-table-t-ne0 : goal.returns-then-table-t-ne0
-returns-then-table-t-ne0 c = last-at c.loop-end.invariant c.if-table-t-ne0.true
+returns-then-table-t-ne0 c = last_at c.loop-end.invariant c.if-table-t-ne0.true
 
 pub loop-end-preserved : goal.loop-end-preserved
 loop-end-preserved c = dropped_next c.loop-end.invariant c.loop-end-test.true c.if-table-t-ne0.false

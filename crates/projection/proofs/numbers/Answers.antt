@@ -1,4 +1,4 @@
-use Rattle.projection.proofs.Tables.{origins-of, projects}
+use Rattle.projection.proofs.Tables.{origins_of, projects}
 use Rattle.projection.proofs.numbers.Goals as goal
 use Rattle.projection.proofs.numbers.Goals.{After-own_in-arg-1, Start}
 
@@ -6,7 +6,7 @@ abbrev call : After-own_in-arg-1 → Start
 call c = (goal.at.After-own_in-arg-1 c).Start
 
 pub own_in-requires : goal.own_in-requires
-own_in-requires c = record { origins = origins-of _ _ (call c).requires.sound.0 (call c).requires.sound.1; by_index = (call c).requires.by_index }
+own_in-requires c = record { origins = origins_of _ _ (call c).requires.sound.0 (call c).requires.sound.1; by_index = (call c).requires.by_index }
 
 pub returns : goal.returns
 returns c =

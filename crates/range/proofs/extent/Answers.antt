@@ -6,7 +6,7 @@ use Rattle.net.proofs.Markings.{length-tokens}
 use Rattle.file.specs.Layout.{net_from}
 use Rattle.inputs_lists.proofs.Passing.{kept-refused, written-whole}
 use Rattle.range.specs.Need.{Passed}
-use Rattle.range.proofs.Passing.{list-passes, as_many, room-enough, told-refused, told-whole}
+use Rattle.range.proofs.Passing.{list_passes, as_many, room_enough, told-refused, told-whole}
 use Rattle.range.proofs.extent.Goals as goal
 use Rattle.range.proofs.extent.Goals.{Else-refused-ne0, Start}
 
@@ -22,9 +22,9 @@ passed c =
     let none = c.if-refused-ne0.false in
     record {
       sound = (call c).requires;
-      listed = list-passes s.file.now s.h s.list.now s.upper.now (length s.need.now) back none;
+      listed = list_passes s.file.now s.h s.list.now s.upper.now (length s.need.now) back none;
       entries = as_many s.file.now s.h s.list.now s.upper.now (length s.need.now) back none;
-      room = length-take-le s.h.places s.need.now (room-enough s.file.now s.h s.list.now s.upper.now (length s.need.now) back none);
+      room = length-take-le s.h.places s.need.now (room_enough s.file.now s.h s.list.now s.upper.now (length s.need.now) back none);
     }
 
 pub returns-then-refused-ne0 : goal.returns-then-refused-ne0
@@ -33,7 +33,7 @@ returns-then-refused-ne0 c = record { answer = told-refused _ _ c.held_back-refu
 pub slice_bounds-extent_all-end : goal.slice_bounds-extent_all-end
 slice_bounds-extent_all-end c =
     let s = (call c).args in
-    room-enough s.file.now s.h s.list.now s.upper.now (length s.need.now) c.held_back-refused.ensures c.if-refused-ne0.false
+    room_enough s.file.now s.h s.list.now s.upper.now (length s.need.now) c.held_back-refused.ensures c.if-refused-ne0.false
 
 pub slice_bounds-extent_all-end-2 : goal.slice_bounds-extent_all-end-2
 slice_bounds-extent_all-end-2 c = sym (passed (goal.at.slice_bounds-extent_all-end-2 c).Else-refused-ne0).room

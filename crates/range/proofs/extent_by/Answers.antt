@@ -6,8 +6,8 @@ use Rattle.file.specs.Layout.{net_from}
 use Rattle.arcs_starts.proofs.Reached.{tabled}
 use Rattle.promise.specs.Together.{standing}
 use Rattle.promise.specs.Range.{range_told}
-use Rattle.range.proofs.Need.{is-extent, is-need}
-use Rattle.range.proofs.Passing.{known-list}
+use Rattle.range.proofs.Need.{is_extent, is_need}
+use Rattle.range.proofs.Passing.{known_list}
 use Rattle.range.proofs.extent_by.Goals as goal
 use Rattle.range.proofs.extent_by.Goals.{After-back, After-clear, After-starts, Start}
 
@@ -37,7 +37,7 @@ back-requires c =
     let bytes : Bytes s.args.file.now = λ i. omega (arith, known.type_inv.file i) in
     let table = starts.starts.ensures in
     let zeros = clear.clear.ensures in
-    record { ready = record { sound = s.requires.passed.sound; bytes = bytes; long = omega (arith, table.0, s.requires.transitions_in_bounds); starts = table.1; places = zeros.0 ∙ s.requires.passed.room }; known = known-list s.args.h s.args.list.now s.requires.passed.listed; by_index = zeros.1 }
+    record { ready = record { sound = s.requires.passed.sound; bytes = bytes; long = omega (arith, table.0, s.requires.transitions_in_bounds); starts = table.1; places = zeros.0 ∙ s.requires.passed.room }; known = known_list s.args.h s.args.list.now s.requires.passed.listed; by_index = zeros.1 }
 
 pub returns : goal.returns
 returns c =
@@ -46,4 +46,4 @@ returns c =
     let s = call (tabled_at clear) in
     let N = net_from s.args.file.now s.args.h in
     let needed = back.back.ensures in
-    record { result_value = c.judge.ensures ∙ ap range_told (is-extent N s.args.list.now needed (standing s.args.upper.now)); need_after = is-need N s.args.list.now needed (clear.clear.ensures.0 ∙ s.requires.passed.room) }
+    record { result_value = c.judge.ensures ∙ ap range_told (is_extent N s.args.list.now needed (standing s.args.upper.now)); need_after = is_need N s.args.list.now needed (clear.clear.ensures.0 ∙ s.requires.passed.room) }

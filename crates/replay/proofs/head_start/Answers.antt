@@ -1,4 +1,4 @@
-use Rattle.replay.proofs.Underway.{going_on, listed-still, underway_then}
+use Rattle.replay.proofs.Underway.{going_on, listed_still, underway_then}
 use Rattle.replay.proofs.head_start.Goals as goal
 
 -- no firing is done
@@ -6,7 +6,7 @@ pub ahead-requires : goal.ahead-requires
 ahead-requires c =
     let none = c in
     let s = none in
-    record { ready = s.requires.ready; listed = listed-still s.requires.going.is none.if-done-ne0.false }
+    record { ready = s.requires.ready; listed = listed_still s.requires.going.is none.if-done-ne0.false }
 
 pub returns : goal.returns
 returns c =

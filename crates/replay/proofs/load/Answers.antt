@@ -1,6 +1,6 @@
 use mathlib.Core.Path.{◌∙◌}
 use borrow.Author.Tests.{eq-eqb, ne_eqb}
-use Rattle.replay.proofs.Loading.{Stands, stands-capped, stands_plain, loaded_none, loaded_next, loaded_all}
+use Rattle.replay.proofs.Loading.{Stands, stands_capped, stands_plain, loaded_none, loaded_next, loaded_all}
 use Rattle.replay.proofs.load.Goals as goal
 use Rattle.replay.proofs.load.Goals.{In-loop-p, In-loop-p-2}
 
@@ -10,7 +10,7 @@ capped : (c : In-loop-p) → let l = c in let s = l in Stands s.args.file.now s.
 capped c =
     let l = c in
     let s = l in
-    stands-capped s.args.file.now s.args.h s.requires.sound.placed l.loop-p.p c.loop-p-test.true (eq-eqb _ _ l.if-h-eq-CAPS.true)
+    stands_capped s.args.file.now s.args.h s.requires.sound.placed l.loop-p.p c.loop-p-test.true (eq-eqb _ _ l.if-h-eq-CAPS.true)
 
 plain : (c : In-loop-p-2) → let l = c in let s = l in Stands s.args.file.now s.args.h 4 l.loop-p-2.p
 plain c =

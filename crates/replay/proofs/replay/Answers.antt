@@ -5,7 +5,7 @@ use Rattle.net.specs.Net.{replay}
 use Rattle.net.proofs.Markings.{length-tokens}
 use Rattle.file.specs.Layout.{net_from}
 use Rattle.inputs_lists.proofs.Passing.{kept-refused, written-whole}
-use Rattle.replay.proofs.Listing.{list-passes, room-enough, told-refused, told-whole}
+use Rattle.replay.proofs.Listing.{list_passes, room_enough, told-refused, told-whole}
 use Rattle.replay.proofs.replay.Goals as goal
 
 pub returns-then-refused-ne0 : goal.returns-then-refused-ne0
@@ -14,12 +14,12 @@ returns-then-refused-ne0 c = record { answer = told-refused _ _ c.held_back-refu
 pub slice_bounds-replay_all-end : goal.slice_bounds-replay_all-end
 slice_bounds-replay_all-end c =
     let s = c.args in
-    room-enough s.h s.list.now (length s.marking.now) c.held_back-refused.ensures c.if-refused-ne0.false
+    room_enough s.h s.list.now (length s.marking.now) c.held_back-refused.ensures c.if-refused-ne0.false
 
 pub slice_bounds-replay_all-end-2 : goal.slice_bounds-replay_all-end-2
 slice_bounds-replay_all-end-2 c =
     let s = c.args in
-    sym (length-take-le s.h.places s.marking.now (room-enough s.h s.list.now (length s.marking.now) c.held_back-refused.ensures c.if-refused-ne0.false))
+    sym (length-take-le s.h.places s.marking.now (room_enough s.h s.list.now (length s.marking.now) c.held_back-refused.ensures c.if-refused-ne0.false))
 
 pub replay_all-requires : goal.replay_all-requires
 replay_all-requires c =
@@ -29,8 +29,8 @@ replay_all-requires c =
     let none = c.if-refused-ne0.false in
     record {
       sound = start.requires;
-      list = list-passes s.h s.list.now (length s.marking.now) back none;
-      places = length-take-le s.h.places s.marking.now (room-enough s.h s.list.now (length s.marking.now) back none);
+      list = list_passes s.h s.list.now (length s.marking.now) back none;
+      places = length-take-le s.h.places s.marking.now (room_enough s.h s.list.now (length s.marking.now) back none);
     }
 
 pub returns : goal.returns

@@ -2,9 +2,9 @@ use Prim.Native.Nat.{◌*◌, ◌+◌}
 use native.Mathlib.Omega.{arith}
 use lib.ListN.{get_or}
 use Rattle.replay_steps.proofs.Underway.{Tabulated, tabulated, split_by}
-use Rattle.replay_firing.proofs.Firing.{arcs-fit}
+use Rattle.replay_firing.proofs.Firing.{arcs_fit_lem}
 use Rattle.replay_firing.proofs.Short.{Weighed, covered_none, weigh, known}
-use Rattle.replay.proofs.Underway.{going_on, ended-rest, ready_on, long-still, ended-fired, ended-short, firable, fired-plain}
+use Rattle.replay.proofs.Underway.{going_on, ended-rest, ready_on, long_still, ended-fired, ended-short, firable, fired_plain}
 use Rattle.replay.proofs.run.Goals as goal
 use Rattle.replay.proofs.run.Goals.{After-add_up-need, After-shared_slice_known-in-firings-1, At-firings, At-loop-j, Start}
 
@@ -80,12 +80,12 @@ overflow_mul-j c =
 pub overflow_add-h : goal.overflow_add-h
 overflow_add-h c =
     let x = c.loop-j.invariant in
-    omega (arith, known x c.loop-j-test.true, arcs-fit x.sound, x.sound.placed.short)
+    omega (arith, known x c.loop-j-test.true, arcs_fit_lem x.sound, x.sound.placed.short)
 
 pub arc-a-requires : goal.arc-a-requires
 arc-a-requires c =
     let x = c.loop-j.invariant in
-    omega (arith, known x c.loop-j-test.true, arcs-fit x.sound)
+    omega (arith, known x c.loop-j-test.true, arcs_fit_lem x.sound)
 
 pub add_up-need-requires : goal.add_up-need-requires
 add_up-need-requires c =
@@ -98,7 +98,7 @@ offset_bounds-marking-p c = omega (arith, c.arc-a.ensures.1.place)
 pub bounds-marking-p : goal.bounds-marking-p
 bounds-marking-p c =
     let f = firing (goal.at.bounds-marking-p c).At-loop-j in
-    omega (arith, (weighed (goal.at.bounds-marking-p c).After-add_up-need).place, long-still f.firings.invariant.was f.firings.invariant.is, (call f).requires.plain.ready.places)
+    omega (arith, (weighed (goal.at.bounds-marking-p c).After-add_up-need).place, long_still f.firings.invariant.was f.firings.invariant.is, (call f).requires.plain.ready.places)
 
 -- ---- a place that is short
 
@@ -150,12 +150,12 @@ pub firings-preserved : goal.firings-preserved
 firings-preserved c =
     let x = c in
     let f = firing (goal.at.firings-preserved x).At-loop-j in
-    going_on f.firings.invariant (fired-plain f.firings.invariant.is x.if-list-k.false x.loop-j.invariant c.loop-j-test.false (call f).requires.plain c.fire.ensures)
+    going_on f.firings.invariant (fired_plain f.firings.invariant.is x.if-list-k.false x.loop-j.invariant c.loop-j-test.false (call f).requires.plain c.fire.ensures)
 
 -- ---- the ends
 
 pub shape_of-marking-then-list-k : goal.shape_of-marking-then-list-k
-shape_of-marking-then-list-k c = let i = c.firings.invariant in long-still i.was i.is
+shape_of-marking-then-list-k c = let i = c.firings.invariant in long_still i.was i.is
 
 pub returns-then-list-k : goal.returns-then-list-k
 returns-then-list-k c = let i = c.firings.invariant in ended-rest i (ended-fired i.is c.if-list-k.true)
@@ -163,7 +163,7 @@ returns-then-list-k c = let i = c.firings.invariant in ended-rest i (ended-fired
 pub shape_of-marking-then-count-need : goal.shape_of-marking-then-count-need
 shape_of-marking-then-count-need c =
     let i = (firing (goal.at.shape_of-marking-then-count-need c).At-loop-j).firings.invariant in
-    long-still i.was i.is
+    long_still i.was i.is
 
 pub returns-then-count-need : goal.returns-then-count-need
 returns-then-count-need c =

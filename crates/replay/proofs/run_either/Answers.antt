@@ -1,5 +1,5 @@
 use mathlib.Core.Path.{sym, ◌∙◌}
-use Rattle.file.proofs.Caps.{none-capped}
+use Rattle.file.proofs.Caps.{none_capped}
 use Rattle.replay.proofs.Underway.{going_from, ended-on, ready_on}
 use Rattle.replay.proofs.run_either.Goals as goal
 use Rattle.replay.proofs.run_either.Goals.{After-has_caps, After-head_start-k, Start}
@@ -30,7 +30,7 @@ run-requires c =
     let known = c in
     let k = ahead (goal.at.run-requires known).After-has_caps in
     let s = call k in
-    let none = none-capped s.args.file.now s.args.h (sym known.has_caps.ensures ∙ c.if-has_caps.false) in
+    let none = none_capped s.args.file.now s.args.h (sym known.has_caps.ensures ∙ c.if-has_caps.false) in
     let g = k.head_start-k.ensures in
     record { plain = record { ready = ready_on g.was g.is s.requires.ready; uncapped = none }; going = going_from g.is }
 

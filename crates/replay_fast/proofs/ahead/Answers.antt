@@ -1,5 +1,5 @@
 use Rattle.std.proofs.Common.{◌≡◌, false, sym, ◌∙◌}
-use Rattle.file.proofs.Caps.{none-capped}
+use Rattle.file.proofs.Caps.{none_capped}
 use Rattle.replay_steps.specs.Steps.{Plain}
 use Rattle.replay_fast.proofs.ahead.Goals as goal
 use Rattle.replay_fast.proofs.ahead.Goals.{After-has_caps-capped, Start}
@@ -11,7 +11,7 @@ call c = (goal.at.After-has_caps-capped c).Start
 
 -- there are none
 plain : (c : After-has_caps-capped) → c.has_caps-capped.result ≡ false → let s = call c in Plain s.args.file.now s.args.h s.args.table.now s.args.marking.now
-plain c e = let s = call c in record { ready = s.requires.ready; uncapped = none-capped s.args.file.now s.args.h (sym c.has_caps-capped.ensures ∙ e) }
+plain c e = let s = call c in record { ready = s.requires.ready; uncapped = none_capped s.args.file.now s.args.h (sym c.has_caps-capped.ensures ∙ e) }
 
 pub march_either-requires : goal.march_either-requires
 march_either-requires c =

@@ -1,5 +1,5 @@
 use Rattle.std.proofs.Common.{◌<◌, length, ◌∙◌, arith}
-use Rattle.replay_fast.proofs.Moving.{change-is, place_inside, moving_none, moving_end, back_more}
+use Rattle.replay_fast.proofs.Moving.{change_is, place_inside, moving_none, moving_end, back_more}
 use Rattle.replay_fast.proofs.back.Goals as goal
 use Rattle.replay_fast.proofs.back.Goals.{After-entry-p, After-signed-c, After-wrapping_sub_u64, At-loop-j, Start}
 
@@ -64,7 +64,7 @@ loop-j-preserved c =
       omega (arith, l),
       λ h can mv.
           let in_table : j < h.arcs = omega (arith, l, can.within) in
-          back_more can j l (change-is mv in_table y) (at.invariant.1 h can mv) (placed.entry-p.ensures.0 ∙ mv.place j in_table) c.wrapping_sub_u64.result (omega arith) c.wrapping_sub_u64.ensures.value,
+          back_more can j l (change_is mv in_table y) (at.invariant.1 h can mv) (placed.entry-p.ensures.0 ∙ mv.place j in_table) c.wrapping_sub_u64.result (omega arith) c.wrapping_sub_u64.ensures.value,
     )
 
 pub shape_of-marking : goal.shape_of-marking

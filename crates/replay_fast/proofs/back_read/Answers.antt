@@ -1,6 +1,6 @@
 use Rattle.std.proofs.Common.{◌+◌, ◌*◌, ◌<◌, ◌≤◌, length, ap, arith}
 use Rattle.net.specs.declared.Arc.{Arc}
-use Rattle.replay_fast.proofs.Moving.{place_inside, arc-inside, read-weighs, read-change, moving_none, moving_end, back_more}
+use Rattle.replay_fast.proofs.Moving.{place_inside, arc-inside, read_weighs, read_change, moving_none, moving_end, back_more}
 use Rattle.replay_fast.proofs.back_read.Goals as goal
 use Rattle.replay_fast.proofs.back_read.Goals.{After-arc-a, After-wrapping_sub_u64-value, At-loop-j, In-loop-j, Start}
 
@@ -44,7 +44,7 @@ arc-a-requires c = (fit c).0
 pub added-c-requires : goal.added-c-requires
 added-c-requires c =
     let t = c in
-    read-weighs (call (goal.at.added-c-requires t).At-loop-j).requires t.loop-j.j t.loop-j-test.true c.arc-a.ensures.0
+    read_weighs (call (goal.at.added-c-requires t).At-loop-j).requires t.loop-j.j t.loop-j-test.true c.arc-a.ensures.0
 
 pub offset_bounds-marking-p : goal.offset_bounds-marking-p
 offset_bounds-marking-p c = omega (arith, (inside (goal.at.offset_bounds-marking-p c).After-arc-a).1)
@@ -66,7 +66,7 @@ loop-j-preserved c =
     let l = t.loop-j-test.true in
     let can = (call (goal.at.After-arc-a t).At-loop-j).requires in
     let arc = read.arc-a.ensures.0 in
-    let y = read-change can at.j l arc c.added-c.ensures in
+    let y = read_change can at.j l arc c.added-c.ensures in
     let place = ap (λ (a : Arc). a.place) arc in
     (omega (arith, l), back_more can at.j l y at.invariant.1 place c.wrapping_sub_u64-value.result (omega arith) c.wrapping_sub_u64-value.ensures.value)
 

@@ -1,5 +1,5 @@
 use Rattle.std.proofs.Common.{arith}
-use Rattle.net.proofs.Uncapped.{within-caps}
+use Rattle.net.proofs.Uncapped.{within_caps}
 use Rattle.replay_steps.proofs.Underway.{Tabulated, tabulated, underway_begin}
 use Rattle.replay_fast.proofs.Marching.{Step, step, by_slots}
 use Rattle.replay_fast.proofs.march.Goals as goal
@@ -98,7 +98,7 @@ loop-k-preserved c =
     let shift = c in
     let entry = shift in
     let plain = (call (goal.at.loop-k-preserved entry).At-loop-k).requires.plain.uncapped in
-    (step_at (goal.at.loop-k-preserved entry).After-entry-to).fired _ _ (shift.shift-r.ensures.whole c.if-r-to.false) (omega arith) (within-caps _ plain _)
+    (step_at (goal.at.loop-k-preserved entry).After-entry-to).fired _ _ (shift.shift-r.ensures.whole c.if-r-to.false) (omega arith) (within_caps _ plain _)
 
 pub shape_of-marking : goal.shape_of-marking
 shape_of-marking c = c.loop-k.invariant.long

@@ -1,5 +1,5 @@
 use Rattle.std.proofs.Common.{◌<◌, length, get_or, arith}
-use Rattle.net.proofs.Uncapped.{within-caps}
+use Rattle.net.proofs.Uncapped.{within_caps}
 use Rattle.replay_steps.proofs.Underway.{underway_begin}
 use Rattle.replay_fast.proofs.Marching.{Step, step, by_transitions}
 use Rattle.replay_fast.proofs.march_read.Goals as goal
@@ -77,7 +77,7 @@ loop-k-preserved c =
     let shift = c in
     let entry = shift in
     let plain = (call (goal.at.loop-k-preserved entry).At-loop-k).requires.indexed.uncapped in
-    (step_at (goal.at.loop-k-preserved entry).After-entry-to).fired _ _ shift.shift_read.ensures (omega (arith, c.if-shift_read-ge9223372036854775808.false)) (within-caps _ plain _)
+    (step_at (goal.at.loop-k-preserved entry).After-entry-to).fired _ _ shift.shift_read.ensures (omega (arith, c.if-shift_read-ge9223372036854775808.false)) (within_caps _ plain _)
 
 pub shape_of-marking : goal.shape_of-marking
 shape_of-marking c = c.loop-k.invariant.long

@@ -1,6 +1,6 @@
 use Rattle.std.proofs.Common.{◌+◌, ◌*◌, ◌<◌, ◌≤◌, length, ap, ◌∙◌, arith}
 use Rattle.net.specs.declared.Arc.{Arc}
-use Rattle.file.proofs.Rows.{good-at}
+use Rattle.file.proofs.Rows.{good_at}
 use Rattle.replay_fast.specs.Moves.{change_of}
 use Rattle.replay_fast.proofs.Filling.{filled_none, filled_next}
 use Rattle.replay_fast.proofs.moves_of.Goals as goal
@@ -54,7 +54,7 @@ pub change_of-requires : goal.change_of-requires
 change_of-requires c =
     let t = turn_of c in
     let s = call (goal.at.In-loop-j t).At-loop-j in
-    let good = good-at s.args.file.now s.args.h s.requires.sound t.loop-j.j t.loop-j-test.true in
+    let good = good_at s.args.file.now s.args.h s.requires.sound t.loop-j.j t.loop-j-test.true in
     record { some = omega (arith, ap (λ (a : Arc). a.weight) c.arc-a.ensures.0, good.weight); below = c.arc-a.ensures.1.weight }
 
 pub offset_bounds-changes-j : goal.offset_bounds-changes-j

@@ -2,7 +2,7 @@ use Rattle.std.proofs.Common.{◌+◌, ◌<◌, length, set, ◌∙◌, arith}
 use lib.Bits.{bit_or, or_add_and}
 use Rattle.file_header.specs.declared.Header.{Header}
 use Rattle.replay_fast.specs.Moves.{MovesOf, Movable}
-use Rattle.replay_fast.proofs.Moving.{change-is, place_inside, Shifting, shifting_none, shifting_more, shifting_clear, shifting_end}
+use Rattle.replay_fast.proofs.Moving.{change_is, place_inside, Shifting, shifting_none, shifting_more, shifting_clear, shifting_end}
 use Rattle.replay_fast.proofs.shift.Goals as goal
 use Rattle.replay_fast.proofs.shift.Goals.{After-entry-p, After-signed-c, After-wrapping_add_u64-value, At-loop-j, Start, Then-value-ge9223372036854775808}
 
@@ -72,7 +72,7 @@ moved_on c h can mv =
     let at = (turn c).loop-j in
     let l = placed.loop-j-test.true in
     let in_table : at.j < h.arcs = omega (arith, l, can.within) in
-    shifting_more can at.j l (at.invariant.1 h can mv) (change-is mv in_table (signed_of c).signed-c.ensures) (placed.entry-p.ensures.0 ∙ mv.place at.j in_table) c.wrapping_add_u64-value.result (omega arith) c.wrapping_add_u64-value.ensures.value
+    shifting_more can at.j l (at.invariant.1 h can mv) (change_is mv in_table (signed_of c).signed-c.ensures) (placed.entry-p.ensures.0 ∙ mv.place at.j in_table) c.wrapping_add_u64-value.result (omega arith) c.wrapping_add_u64-value.ensures.value
 
 -- ---- an arc that leaves a place short
 

@@ -2,8 +2,8 @@ use Rattle.std.proofs.Common.{◌≡◌, ◌<◌, length, ◌∙◌, arith}
 use lib.Bits.{bit_or}
 use Rattle.arcs_column.specs.Ways.{place_at}
 use Rattle.replay_fast.proofs.Signs.{all-was}
-use Rattle.replay_fast.proofs.Moving.{change-is, place_inside, shifting_none, shifting_more, shifting_end}
-use Rattle.replay_fast.proofs.Caps.{shifting_over, last-now, roomy_next}
+use Rattle.replay_fast.proofs.Moving.{change_is, place_inside, shifting_none, shifting_more, shifting_end}
+use Rattle.replay_fast.proofs.Caps.{shifting_over, last_now, roomy_next}
 use Rattle.replay_fast.proofs.shift_capped.Goals as goal
 use Rattle.replay_fast.proofs.shift_capped.Goals.{After-entry-p, After-signed-c, After-wrapping_add_u64-value, At-loop-j, Start}
 
@@ -95,14 +95,14 @@ loop-j-preserved c =
     let l = t.loop-j-test.true in
     let in_table : at.j < s.args.h.arcs = omega (arith, l, can.within) in
     let v = sum.wrapping_add_u64-value.result in
-    let shifted = shifting_more can at.j l at.invariant.1 (change-is s.requires.moves_of in_table (signed_of (goal.at.loop-j-preserved sum).After-wrapping_add_u64-value).signed-c.ensures) (is_place placed) v (omega arith) sum.wrapping_add_u64-value.ensures.value in (
+    let shifted = shifting_more can at.j l at.invariant.1 (change_is s.requires.moves_of in_table (signed_of (goal.at.loop-j-preserved sum).After-wrapping_add_u64-value).signed-c.ensures) (is_place placed) v (omega arith) sum.wrapping_add_u64-value.ensures.value in (
       omega (arith, l),
       shifting_over shifted c.excess-over.result,
       λ n.
           let low = all-was (bit_or at.all v) c.excess-over.result n in
           let cap = c.cap.ensures.0 in
-          let now = last-now at.all v low in
-          let over = last-now (bit_or at.all v) c.excess-over.result n in
+          let now = last_now at.all v low in
+          let over = last_now (bit_or at.all v) c.excess-over.result n in
           roomy_next (at.invariant.2 (all-was at.all v low)) (is_place placed) (inside placed).0 v (λ some. omega (arith, cap, c.excess-over.ensures over now (omega (arith, cap, some)))),
     )
 

@@ -1,7 +1,7 @@
 use Rattle.std.proofs.Common.{◌≡◌, ◌<◌, length, sym, refl, ◌∙◌, ⊎_elim, arith, length-set}
 use Rattle.file_header.specs.declared.Header.{Header}
 use Rattle.replay_fast.specs.Moves.{MovesOf, Movable}
-use Rattle.replay_fast.proofs.Moving.{change-is, place_inside, shifting_none, shifting_end, Holding, holding_none, holding_long, holding_still, holding_other, holding_more}
+use Rattle.replay_fast.proofs.Moving.{change_is, place_inside, shifting_none, shifting_end, Holding, holding_none, holding_long, holding_still, holding_other, holding_more}
 use Rattle.replay_fast.proofs.shift_joined.Goals as goal
 use Rattle.replay_fast.proofs.shift_joined.Goals.{then-q-p, else-q-p, After-entry-p, After-entry-q, After-wrapping_add_u64-value, At-loop-j, Else-to-from, Joined-q-p, Start}
 
@@ -124,7 +124,7 @@ loop-j-preserved c =
       omega (arith, l),
       λ h can mv.
           let in_table : j < h.arcs = omega (arith, l, can.within) in
-          holding_more can l (hand.1 h can mv) (change-is mv in_table c.signed-c.ensures) (hand.0 ∙ e.entry-q.ensures.0 ∙ mv.place j in_table) c.wrapping_add_u64-value.result (omega arith) c.wrapping_add_u64-value.ensures.value,
+          holding_more can l (hand.1 h can mv) (change_is mv in_table c.signed-c.ensures) (hand.0 ∙ e.entry-q.ensures.0 ∙ mv.place j in_table) c.wrapping_add_u64-value.result (omega arith) c.wrapping_add_u64-value.ensures.value,
     )
 
 -- ---- the last place

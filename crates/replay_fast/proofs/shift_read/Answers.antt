@@ -4,7 +4,7 @@ use Rattle.file_header.specs.declared.Header.{Header}
 use Rattle.arcs_column.specs.Ways.{direction_at}
 use Rattle.replay_fast.specs.Moves.{Movable}
 use Rattle.replay_fast.proofs.Moving.{place_inside, arc-inside, Shifting, shifting_none, shifting_end}
-use Rattle.replay_fast.proofs.Reading.{outputs-after, shifting_takes, shifting_gives_at}
+use Rattle.replay_fast.proofs.Reading.{outputs_after, shifting_takes, shifting_gives_at}
 use Rattle.replay_fast.proofs.shift_read.Goals as goal
 use Rattle.replay_fast.proofs.shift_read.Goals.{else-loop-j-test, then-loop-j-test+then-a-ne0, After-arc-a, After-arc-a-in-loop-j-2, At-loop-j, At-loop-j-2, Left-loop-j, Start}
 
@@ -31,7 +31,7 @@ outputs c k a b =
     let can = (call (goal.at.Left-loop-j c).At-loop-j).requires in
     elim c.loop-j-test.branch [
       | else-loop-j-test w ↦ absurd (omega (arith, w.loop-j-test.false, a, b))
-      | then-loop-j-test+then-a-ne0 w ↦ outputs-after can x.j x.invariant.1.moving.rising w.loop-j-test.true (λ z. w.if-a-ne0.true (ap (λ (d : Arc). d.direction) w.arc-a.ensures.0 ∙ z)) k a b
+      | then-loop-j-test+then-a-ne0 w ↦ outputs_after can x.j x.invariant.1.moving.rising w.loop-j-test.true (λ z. w.if-a-ne0.true (ap (λ (d : Arc). d.direction) w.arc-a.ensures.0 ∙ z)) k a b
     ]
 
 -- what is so at output j

@@ -1,6 +1,6 @@
 use Rattle.replay_steps.specs.Steps.{Ready}
 use Rattle.replay_firing.specs.Firing.{Left}
-use Rattle.replay_firing.proofs.Trying.{ready-after, left, filled_nowhere, filled_at}
+use Rattle.replay_firing.proofs.Trying.{ready_after, left, filled_nowhere, filled_at}
 use Rattle.replay_firing.proofs.fire_capped.Goals as goal
 use Rattle.replay_firing.proofs.fire_capped.Goals.{After-fire, Start}
 
@@ -15,7 +15,7 @@ fired : (c : After-fire) → let fire = c in let s = call fire in
 fired c =
     let fire = c in
     let s = call fire in
-    (ready-after s.requires.ready s.requires.firable fire.fire.ensures, left s.requires.ready s.requires.firable fire.fire.ensures)
+    (ready_after s.requires.ready s.requires.firable fire.fire.ensures, left s.requires.ready s.requires.firable fire.fire.ensures)
 
 pub lowest_full-r-requires : goal.lowest_full-r-requires
 lowest_full-r-requires c = let told = fired (goal.at.lowest_full-r-requires c).After-fire in record { ready = told.0; left = told.1 }

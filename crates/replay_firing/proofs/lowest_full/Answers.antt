@@ -1,5 +1,5 @@
 use native.Mathlib.Omega.{arith}
-use Rattle.replay_firing.proofs.Firing.{arcs-fit}
+use Rattle.replay_firing.proofs.Firing.{arcs_fit_lem}
 use Rattle.replay_firing.proofs.Caps.{Found, looked_none, known, arc-inside, look, fits_all}
 use Rattle.replay_firing.proofs.lowest_full.Goals as goal
 use Rattle.replay_firing.proofs.lowest_full.Goals.{After-above-excess, At-loop-j, Start}
@@ -38,12 +38,12 @@ overflow_mul-j c =
 pub overflow_add-h : goal.overflow_add-h
 overflow_add-h c =
     let x = c.loop-j.invariant in
-    omega (arith, known x c.loop-j-test.true, arcs-fit x.sound, x.sound.placed.short)
+    omega (arith, known x c.loop-j-test.true, arcs_fit_lem x.sound, x.sound.placed.short)
 
 pub arc-a-requires : goal.arc-a-requires
 arc-a-requires c =
     let x = c.loop-j.invariant in
-    omega (arith, known x c.loop-j-test.true, arcs-fit x.sound)
+    omega (arith, known x c.loop-j-test.true, arcs_fit_lem x.sound)
 
 pub cap-cap-requires : goal.cap-cap-requires
 cap-cap-requires c =

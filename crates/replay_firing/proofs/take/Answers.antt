@@ -4,7 +4,7 @@ use native.Mathlib.Omega.{arith}
 use lib.ListN.{length}
 use Rattle.net.specs.declared.Arc.{Arc}
 use Rattle.arcs_column.specs.Gain.{Takes}
-use Rattle.arcs_column.proofs.Sums.{enough, takes-more}
+use Rattle.arcs_column.proofs.Sums.{enough, takes_more}
 use borrow.Author.Rules.{rules}
 use Rattle.replay_firing.proofs.take.Goals as goal
 use Rattle.replay_firing.proofs.take.Goals.{After-arc-a}
@@ -28,7 +28,7 @@ pub bounds-marking-p-in-loop-j : goal.bounds-marking-p-in-loop-j
 bounds-marking-p-in-loop-j c = omega (arith, inside (goal.at.bounds-marking-p-in-loop-j c).After-arc-a, c.loop-j.invariant.2.long)
 
 pub loop-j-preserved : goal.loop-j-preserved
-loop-j-preserved c = (search rules, search rules, takes-more c.args.file.now _ _ _ _ _ _ c.arc-a.ensures.0 (inside (goal.at.loop-j-preserved c).After-arc-a) c.loop-j.invariant.2 (enough c.args.file.now _ _ _ _ _ _ c.arc-a.ensures.0 (inside (goal.at.loop-j-preserved c).After-arc-a) _ c.loop-j-test.true c.loop-j.invariant.2 c.requires.by_index))
+loop-j-preserved c = (search rules, search rules, takes_more c.args.file.now _ _ _ _ _ _ c.arc-a.ensures.0 (inside (goal.at.loop-j-preserved c).After-arc-a) c.loop-j.invariant.2 (enough c.args.file.now _ _ _ _ _ _ c.arc-a.ensures.0 (inside (goal.at.loop-j-preserved c).After-arc-a) _ c.loop-j-test.true c.loop-j.invariant.2 c.requires.by_index))
 
 pub returns : goal.returns
 returns c =

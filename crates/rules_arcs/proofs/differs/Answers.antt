@@ -1,6 +1,6 @@
 use Prim.Native.Nat.{◌≤◌}
 use native.Mathlib.Omega.{arith}
-use Rattle.rules_arcs.proofs.Differing.{Ready, ready, differs-not, own-low}
+use Rattle.rules_arcs.proofs.Differing.{Ready, ready, differs_not, own-low}
 use Rattle.rules_arcs.proofs.differs.Goals as goal
 use Rattle.rules_arcs.proofs.differs.Goals.{After-entry-own, After-entry-upto, Else-own-eq0, Start}
 
@@ -26,7 +26,7 @@ ready_at c =
     c.entry-from.ensures.0 c.entry-to.ensures.0 c.entry-first.ensures.0 c.entry-upto.ensures.0
 
 pub returns-then-own-eq0 : goal.returns-then-own-eq0
-returns-then-own-eq0 c = let s = call (goal.at.returns-then-own-eq0 c).After-entry-own in differs-not _ _ _ _ _ _ _ _ s.requires.cases s.requires.starts _ s.requires.t_lt_transitions _ c.entry-own.ensures.0 c.if-own-eq0.true
+returns-then-own-eq0 c = let s = call (goal.at.returns-then-own-eq0 c).After-entry-own in differs_not _ _ _ _ _ _ _ _ s.requires.cases s.requires.starts _ s.requires.t_lt_transitions _ c.entry-own.ensures.0 c.if-own-eq0.true
 
 pub entry-first-requires : goal.entry-first-requires
 entry-first-requires c =

@@ -1,5 +1,5 @@
 use Rattle.net.specs.Checker.{breaks, rule7}
-use Rattle.rules_arcs.proofs.Lacking.{lacks_not, inputs-run, lacks_input_lem}
+use Rattle.rules_arcs.proofs.Lacking.{lacks_not, inputs_run, lacks_input_lem}
 use Rattle.rules_arcs.proofs.lacks_input.Goals as goal
 use Rattle.rules_arcs.proofs.lacks_input.Goals.{After-entry, Start}
 
@@ -13,7 +13,7 @@ returns-then-entry-eq0 c = let s = call (goal.at.returns-then-entry-eq0 c).After
 pub unkept-requires : goal.unkept-requires
 unkept-requires c =
     let s = call (goal.at.unkept-requires c).After-entry in
-    inputs-run _ _ _ _ _ _ _ s.requires.cases _ s.requires.t_lt_transitions _ _ c.entry-from.ensures.0 c.entry-to.ensures.0
+    inputs_run _ _ _ _ _ _ _ s.requires.cases _ s.requires.t_lt_transitions _ _ c.entry-from.ensures.0 c.entry-to.ensures.0
 
 pub returns : goal.returns
 returns c =

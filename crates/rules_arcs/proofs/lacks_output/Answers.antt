@@ -1,5 +1,5 @@
 use Rattle.net.specs.Checker.{breaks, rule9}
-use Rattle.rules_arcs.proofs.Lacking.{lacks_not, outputs-run, lacks_output_lem}
+use Rattle.rules_arcs.proofs.Lacking.{lacks_not, outputs_run, lacks_output_lem}
 use Rattle.rules_arcs.proofs.lacks_output.Goals as goal
 use Rattle.rules_arcs.proofs.lacks_output.Goals.{After-entry, Start}
 
@@ -13,7 +13,7 @@ returns-then-entry-eq0 c = let s = call (goal.at.returns-then-entry-eq0 c).After
 pub capped_unkept-requires : goal.capped_unkept-requires
 capped_unkept-requires c =
     let pre = (call (goal.at.capped_unkept-requires c).After-entry).requires in
-    record { placed = pre.cases.planned.placed; run = outputs-run _ _ _ _ _ _ _ pre.cases _ pre.t_lt_transitions _ _ c.entry-from.ensures.0 c.entry-upto.ensures.0; places_in_bounds = pre.cases.places_reached }
+    record { placed = pre.cases.planned.placed; run = outputs_run _ _ _ _ _ _ _ pre.cases _ pre.t_lt_transitions _ _ c.entry-from.ensures.0 c.entry-upto.ensures.0; places_in_bounds = pre.cases.places_reached }
 
 pub returns : goal.returns
 returns c =

@@ -6,7 +6,7 @@ use Rattle.net.specs.Checker.{same_arc}
 use Rattle.net.specs.declared.Arc.{Arc}
 use Rattle.file_arcs.specs.Layout.{arc_at}
 use Rattle.rules_arcs.specs.Links.{numbered}
-use Rattle.rules_arcs.proofs.Walking.{one_word, step-out, step_end, step_same, step_other}
+use Rattle.rules_arcs.proofs.Walking.{one_word, step_out, step_end, step_same, step_other}
 use Rattle.rules_arcs.proofs.step.Goals as goal
 use Rattle.rules_arcs.proofs.step.Goals.{After-entry-place, After-same, After-word-w, Start}
 
@@ -41,7 +41,7 @@ pub returns-then-place-eq0 : goal.returns-then-place-eq0
 returns-then-place-eq0 c =
     let e = c in
     let s = start (goal.at.returns-then-place-eq0 e).After-word-w in
-    step-out _ _ _ _ _ _ _ _ s.requires.walk s.requires.against _ (place_of (goal.at.returns-then-place-eq0 e).After-entry-place) c.if-place-eq0.true
+    step_out _ _ _ _ _ _ _ _ s.requires.walk s.requires.against _ (place_of (goal.at.returns-then-place-eq0 e).After-entry-place) c.if-place-eq0.true
 
 pub returns-then-upto-k : goal.returns-then-upto-k
 returns-then-upto-k c =

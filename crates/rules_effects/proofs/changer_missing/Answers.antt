@@ -4,7 +4,7 @@ use native.Mathlib.Omega.{arith}
 use lib.ListN.{length}
 use Rattle.net.specs.Numbers.{among}
 use Rattle.rules_effects.specs.Movers.{limit_on}
-use Rattle.rules_effects.proofs.Limits.{criterion-fits, first-changer}
+use Rattle.rules_effects.proofs.Limits.{criterion_fits, first-changer}
 use Rattle.rules_effects.proofs.changer_missing.Goals as goal
 use Rattle.rules_effects.proofs.changer_missing.Goals.{After-limit_criterion, After-shared_slice_known-1, After-unlimited, Start}
 
@@ -23,7 +23,7 @@ pub limit_criterion-requires : goal.limit_criterion-requires
 limit_criterion-requires c =
     let clear = c in
     let s = call (goal.at.limit_criterion-requires clear).After-unlimited in
-    criterion-fits _ _ s.requires.criterion_value _ (omega (arith, s.requires.resting.reached, s.requires.limit_len, clear.unlimited.auto.limit))
+    criterion_fits _ _ s.requires.criterion_value _ (omega (arith, s.requires.resting.reached, s.requires.limit_len, clear.unlimited.auto.limit))
 
 pub first_mover-requires : goal.first_mover-requires
 first_mover-requires c =

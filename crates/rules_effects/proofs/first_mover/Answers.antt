@@ -1,5 +1,5 @@
 use mathlib.Core.Path.{refl, sym, ◌∙◌}
-use Rattle.rules_tables.proofs.Lowest.{none-start, none-next, lowest-found, lowest-none}
+use Rattle.rules_tables.proofs.Lowest.{none_start, none_next, lowest_found, lowest_none}
 use Rattle.rules_effects.proofs.first_mover.Goals as goal
 use Rattle.rules_effects.proofs.first_mover.Goals.{After-left_out_moves, At-loop-t, In-loop-t, Start}
 
@@ -18,7 +18,7 @@ abbrev turn_of : In-loop-t → At-loop-t
 turn_of c = (goal.at.In-loop-t c).At-loop-t
 
 pub loop-t-init : goal.loop-t-init
-loop-t-init c = (none-start _ _, c.requires.resting, refl)
+loop-t-init c = (none_start _ _, c.requires.resting, refl)
 
 pub left_out_moves-requires : goal.left_out_moves-requires
 left_out_moves-requires c =
@@ -35,14 +35,14 @@ pub returns-then-left_out_moves : goal.returns-then-left_out_moves
 returns-then-left_out_moves c =
     let tried = c in
     let moves = tried.left_out_moves.ensures in
-    record { value = lowest-found _ _ _ (turn_of (tested (goal.at.returns-then-left_out_moves tried).After-left_out_moves)).loop-t.invariant.0 (tested (goal.at.returns-then-left_out_moves tried).After-left_out_moves).loop-t-test.true (sym moves.value ∙ c.if-left_out_moves.true); resting_2 = moves.resting_2 }
+    record { value = lowest_found _ _ _ (turn_of (tested (goal.at.returns-then-left_out_moves tried).After-left_out_moves)).loop-t.invariant.0 (tested (goal.at.returns-then-left_out_moves tried).After-left_out_moves).loop-t-test.true (sym moves.value ∙ c.if-left_out_moves.true); resting_2 = moves.resting_2 }
 
 pub loop-t-preserved : goal.loop-t-preserved
 loop-t-preserved c =
     let tried = c in
     let moves = tried.left_out_moves.ensures in
     let inv = (turn_of (tested (goal.at.loop-t-preserved tried).After-left_out_moves)).loop-t.invariant in
-    (none-next _ _ _ inv.0 (tested (goal.at.loop-t-preserved tried).After-left_out_moves).loop-t-test.true (sym moves.value ∙ c.if-left_out_moves.false), moves.resting_2, tried.left_out_moves.auto.column ∙ inv.2)
+    (none_next _ _ _ inv.0 (tested (goal.at.loop-t-preserved tried).After-left_out_moves).loop-t-test.true (sym moves.value ∙ c.if-left_out_moves.false), moves.resting_2, tried.left_out_moves.auto.column ∙ inv.2)
 
 pub shape_of-column : goal.shape_of-column
 shape_of-column c = c.loop-t.invariant.2
@@ -50,4 +50,4 @@ shape_of-column c = c.loop-t.invariant.2
 pub returns : goal.returns
 returns c =
     let inv = c.loop-t.invariant in
-    record { value = lowest-none _ _ _ inv.0 c.loop-t-test.false; resting_2 = inv.1 }
+    record { value = lowest_none _ _ _ inv.0 c.loop-t-test.false; resting_2 = inv.1 }

@@ -5,8 +5,8 @@ use native.Mathlib.Omega.{arith}
 use lib.ListN.{length}
 use borrow.Author.Count.{below_more}
 use Rattle.file.proofs.Criterion.{passed}
-use Rattle.numbering.proofs.Lookup.{left_out, is-kept}
-use Rattle.rules_origins.proofs.Keeping.{missing-found, missing-none}
+use Rattle.numbering.proofs.Lookup.{left_out, is_kept}
+use Rattle.rules_origins.proofs.Keeping.{missing_found, missing_none}
 use Rattle.rules_origins.proofs.criterion_missing.Goals as goal
 use Rattle.rules_origins.proofs.criterion_missing.Goals.{After-wide-q, At-loop-k, In-loop-k, Start}
 
@@ -42,8 +42,8 @@ returns-then-ownp-q-eq0 c = λ N S e o.
     let pre = (call (goal.at.In-loop-k t).At-loop-k).requires in
     let w = passed _ _ pre.criterion_value in
     place.wide-q.ensures.0
-    ∙ missing-found N S _ w.rise (λ k l. omega (arith, w.known_at k l)) at.k t.loop-k-test.true
-    (λ k l. is-kept _ _ o _ (omega (arith, pre.places_in_bounds, w.known_at k (omega (arith, t.loop-k-test.true)))) (at.invariant.1 k l))
+    ∙ missing_found N S _ w.rise (λ k l. omega (arith, w.known_at k l)) at.k t.loop-k-test.true
+    (λ k l. is_kept _ _ o _ (omega (arith, pre.places_in_bounds, w.known_at k (omega (arith, t.loop-k-test.true)))) (at.invariant.1 k l))
     (left_out _ _ o _ (omega (arith, pre.places_in_bounds, w.known_at at.k t.loop-k-test.true)) (rw (← place.wide-q.ensures.0) c.if-ownp-q-eq0.true))
 
 pub loop-k-preserved : goal.loop-k-preserved
@@ -56,5 +56,5 @@ returns c = λ N S e o.
     let pre = (call (goal.at.returns c).At-loop-k).requires in
     let w = passed _ _ pre.criterion_value in
     sym e
-    ∙ missing-none N S _ w.rise (λ k l. omega (arith, w.known_at k l))
-    (λ k l. is-kept _ _ o _ (omega (arith, pre.places_in_bounds, w.known_at k l)) (c.loop-k.invariant.1 k (omega (arith, c.loop-k-test.false))))
+    ∙ missing_none N S _ w.rise (λ k l. omega (arith, w.known_at k l))
+    (λ k l. is_kept _ _ o _ (omega (arith, pre.places_in_bounds, w.known_at k l)) (c.loop-k.invariant.1 k (omega (arith, c.loop-k-test.false))))

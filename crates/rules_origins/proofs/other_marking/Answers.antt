@@ -5,13 +5,13 @@ use borrow.Author.Tests.{ne_eqb}
 use Rattle.net.specs.Net.{Uncapped}
 use Rattle.file.specs.Layout.{net_from}
 use Rattle.file_header.specs.declared.Header.{Header}
-use Rattle.file.proofs.Caps.{no_cap-by}
+use Rattle.file.proofs.Caps.{no_cap_by}
 use Rattle.rules_origins.proofs.other_marking.Goals as goal
 
 -- a file of another edition than that of the caps has none
 uncapped_by : (s : List ℕ) (h : Header) → (h.edition ≡ 2 → ⊥) → Uncapped (net_from s h)
 unfolding Uncapped
-uncapped_by s h other = no_cap-by s h (ne_eqb _ _ other)
+uncapped_by s h other = no_cap_by s h (ne_eqb _ _ other)
 
 pub other_tokens-requires : goal.other_tokens-requires
 other_tokens-requires c =

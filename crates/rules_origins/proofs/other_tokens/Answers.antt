@@ -5,9 +5,9 @@ use borrow.Author.Tests.{eq-eqb, ne_eqb}
 use lib.ListN.{length, get_or}
 use borrow.Author.Count.{below_more}
 use Rattle.file.specs.Layout.{net_from, slice_from}
-use Rattle.file.proofs.Rows.{length-words, words-at}
+use Rattle.file.proofs.Rows.{length-words, words_at}
 use Rattle.rules_origins.proofs.Reached.{place-origins}
-use Rattle.rules_origins.proofs.Keeping.{tokens-decide, other-found, other_none}
+use Rattle.rules_origins.proofs.Keeping.{tokens-decide, other_found, other_none}
 use Rattle.rules_origins.proofs.other_tokens.Goals as goal
 use Rattle.rules_origins.proofs.other_tokens.Goals.{After-get16-p, After-marking, At-loop-i, In-loop-i, Start}
 
@@ -30,7 +30,7 @@ origin_is : (c : After-get16-p) → let t = (turn_of c) in let a = (call (goal.a
 origin_is c =
     let t = turn_of c in
     let a = (call (goal.at.In-loop-i t).At-loop-i).args in
-    c.get16-p.ensures.0 ∙ sym (words-at a.slice.now a.hs.originstart a.hs.places t.loop-i.i t.loop-i-test.true)
+    c.get16-p.ensures.0 ∙ sym (words_at a.slice.now a.hs.originstart a.hs.places t.loop-i.i t.loop-i-test.true)
 
 inside : (c : In-loop-i) → let a = (call (goal.at.In-loop-i c).At-loop-i).args in c.loop-i.i < length (slice_from a.slice.now a.hs).place_origins
 inside c = let a = (call (goal.at.In-loop-i c).At-loop-i).args in omega (arith, length-words a.slice.now a.hs.originstart a.hs.places, c.loop-i-test.true)
@@ -67,7 +67,7 @@ returns-then-marking-tokens c =
     let t = turn_of (origin_of (goal.at.returns-then-marking-tokens read).After-marking) in
     let pre = (call (goal.at.In-loop-i t).At-loop-i).requires in
     origin_is (origin_of (goal.at.returns-then-marking-tokens read).After-marking)
-    ∙ other-found _ _ (pre.sound_2.place_origins pre.kind_value) pre.known t.loop-i.i (inside t) t.loop-i.invariant.1
+    ∙ other_found _ _ (pre.sound_2.place_origins pre.kind_value) pre.known t.loop-i.i (inside t) t.loop-i.invariant.1
     (tokens-decide _ _ pre.uncapped pre.uncapped_2 _ _ ∙ ne_eqb _ _ (λ e. c.if-marking-tokens.true (read.marking.ensures.0 ∙ e ∙ sym (tokens_are (goal.at.returns-then-marking-tokens read).After-marking))))
 
 pub loop-i-preserved : goal.loop-i-preserved

@@ -2,8 +2,8 @@ use borrow.Author.Rules.{rules}
 use mathlib.Core.Path.{◌≡◌, ◌∙◌}
 use native.Mathlib.Omega.{arith}
 use borrow.Author.Count.{below_more}
-use Rattle.file.proofs.Rows.{words-at}
-use Rattle.rules_origins.proofs.Firsts.{unknown-at, unknown-none}
+use Rattle.file.proofs.Rows.{words_at}
+use Rattle.rules_origins.proofs.Firsts.{unknown_at, unknown_none}
 use Rattle.rules_origins.proofs.scan.Goals as goal
 
 pub loop-j-init : goal.loop-j-init
@@ -12,8 +12,8 @@ loop-j-init c = (omega arith, λ k l. absurd (omega arith))
 pub returns-then-limit-get16 : goal.returns-then-limit-get16
 returns-then-limit-get16 c =
     let a = c.args in
-    unknown-at _ _ _ c.loop-j.j c.loop-j-test.true
-    (omega (arith, c.if-limit-get16.true, c.get16.ensures.0, words-at a.slice.now a.start a.count c.loop-j.j c.loop-j-test.true))
+    unknown_at _ _ _ c.loop-j.j c.loop-j-test.true
+    (omega (arith, c.if-limit-get16.true, c.get16.ensures.0, words_at a.slice.now a.start a.count c.loop-j.j c.loop-j-test.true))
     c.loop-j.invariant.1
 
 pub loop-j-preserved : goal.loop-j-preserved
@@ -21,10 +21,10 @@ loop-j-preserved c =
     let a = c.args in (
       search rules,
       below_more _ _ c.loop-j.invariant.1
-          (omega (arith, c.if-limit-get16.false, c.get16.ensures.0, words-at a.slice.now a.start a.count c.loop-j.j c.loop-j-test.true)),
+          (omega (arith, c.if-limit-get16.false, c.get16.ensures.0, words_at a.slice.now a.start a.count c.loop-j.j c.loop-j-test.true)),
     )
 
 pub returns : goal.returns
 returns c =
     let all : c.loop-j.j ≡ c.args.count = omega (arith, c.loop-j-test.false) in
-    all ∙ unknown-none _ _ _ (λ k l. c.loop-j.invariant.1 k (omega arith))
+    all ∙ unknown_none _ _ _ (λ k l. c.loop-j.invariant.1 k (omega arith))

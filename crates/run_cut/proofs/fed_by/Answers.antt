@@ -1,4 +1,4 @@
-use Rattle.run_cut.proofs.Tracing.{criterion-known, starts, traced}
+use Rattle.run_cut.proofs.Tracing.{criterion_known, starts, traced}
 use Rattle.run_cut.proofs.fed_by.Goals as goal
 use Rattle.run_cut.proofs.fed_by.Goals.{After-back, After-enter_criterion, After-index, After-slice_known-4-1, After-slice_known-6-1, After-slice_known-7-1, Start}
 
@@ -26,7 +26,7 @@ pub index-requires : goal.index-requires
 index-requires c =
     let s = call (goal.at.index-requires c).After-slice_known-4-1 in
     let lent = s.requires.lent.0 in
-    record { sound = s.requires.given.sound; places_in_bounds = (lent.head-long, lent.next-long); by_index = lent.no_row }
+    record { sound = s.requires.given.sound; places_in_bounds = (lent.head_long, lent.next_long); by_index = lent.no_row }
 
 pub enter_criterion-requires : goal.enter_criterion-requires
 enter_criterion-requires c =
@@ -34,7 +34,7 @@ enter_criterion-requires c =
     let s = start_of indexed in
     let tables = s.requires.lent in
     let places = s.requires.empty.0 in
-    record { sound = (s.requires.given.sound, indexed.index.ensures, places.long, tables.1.long, tables.0.first-long); known = criterion-known _ s.args.h _ _ s.requires.given }
+    record { sound = (s.requires.given.sound, indexed.index.ensures, places.long, tables.1.long, tables.0.first_long); known = criterion_known _ s.args.h _ _ s.requires.given }
 
 pub back-requires : goal.back-requires
 back-requires c =
@@ -44,7 +44,7 @@ back-requires c =
     let g = s.requires.given in
     let tables = s.requires.lent in
     let sets = s.requires.empty in
-    record { sound = (g.sound, indexed.index.ensures, criterion-known _ s.args.h _ _ g); list_len_bound = (g.short, g.known); back = starts _ s.args.h _ _ g _ _ _ _ _ _ _ _ tables.0 tables.1 sets.0.none sets.1.none sets.1.long entered.enter_criterion.ensures }
+    record { sound = (g.sound, indexed.index.ensures, criterion_known _ s.args.h _ _ g); list_len_bound = (g.short, g.known); back = starts _ s.args.h _ _ g _ _ _ _ _ _ _ _ tables.0 tables.1 sets.0.none sets.1.none sets.1.long entered.enter_criterion.ensures }
 
 pub returns : goal.returns
 returns c =

@@ -4,7 +4,7 @@ use Rattle.file.specs.Layout.{net_from}
 use Rattle.promise.specs.Firing.{list_refusal, replay_or}
 use Rattle.replay.specs.Told.{outcome_numbers}
 use Rattle.replay.specs.declared.Outcome.TheVariants.{Fired}
-use Rattle.run_cut.proofs.Outcomes.{refused-list, short-list, full-list, given, fired-list}
+use Rattle.run_cut.proofs.Outcomes.{refused_list, short_list, full_list, given, fired_list}
 use Rattle.run_cut.proofs.run.Goals as goal
 use Rattle.run_cut.proofs.run.Goals.{After-fares-outcome, In-Fired, Start}
 
@@ -30,23 +30,23 @@ pub returns-in-Refused : goal.returns-in-Refused
 returns-in-Refused c =
     let fared = c in
     let s = call (goal.at.returns-in-Refused fared).After-fares-outcome in
-    refused-list _ s.args.h _ _ _ _ _ (sym (ap outcome_numbers c.in-Refused.is) ∙ fared.fares-outcome.ensures)
+    refused_list _ s.args.h _ _ _ _ _ (sym (ap outcome_numbers c.in-Refused.is) ∙ fared.fares-outcome.ensures)
 
 pub returns-in-Short : goal.returns-in-Short
 returns-in-Short c =
     let fared = c in
     let s = call (goal.at.returns-in-Short fared).After-fares-outcome in
-    short-list _ s.args.h _ _ _ _ _ _ _ (sym (ap outcome_numbers c.in-Short.is) ∙ fared.fares-outcome.ensures)
+    short_list _ s.args.h _ _ _ _ _ _ _ (sym (ap outcome_numbers c.in-Short.is) ∙ fared.fares-outcome.ensures)
 
 pub returns-in-Full : goal.returns-in-Full
 returns-in-Full c =
     let fared = c in
     let s = call (goal.at.returns-in-Full fared).After-fares-outcome in
-    full-list _ s.args.h _ _ _ _ _ _ _ (sym (ap outcome_numbers c.in-Full.is) ∙ fared.fares-outcome.ensures)
+    full_list _ s.args.h _ _ _ _ _ _ _ (sym (ap outcome_numbers c.in-Full.is) ∙ fared.fares-outcome.ensures)
 
 pub returns-in-Fired : goal.returns-in-Fired
 returns-in-Fired c =
     let done = c in
     let told = done in
     let s = call (fared_of (goal.at.returns-in-Fired told).In-Fired) in
-    fired-list _ s.args.h _ _ _ _ (all_fired (goal.at.returns-in-Fired told).In-Fired) _ _ _ done.write_fed.ensures
+    fired_list _ s.args.h _ _ _ _ (all_fired (goal.at.returns-in-Fired told).In-Fired) _ _ _ done.write_fed.ensures

@@ -6,7 +6,7 @@ use borrow.Author.Tests.{ltb-true, ltb-false}
 use Rattle.sets.specs.declared.KeptSets.{KeptSets}
 use Rattle.slice.specs.Kept.{cut_numbers, kept_pair}
 use Rattle.run_cut.specs.Parts.{chosen_by}
-use Rattle.run_cut.proofs.Outcomes.{count-few, no_entries, no_room, whole}
+use Rattle.run_cut.proofs.Outcomes.{count_few, no_entries, no_room, whole}
 use Rattle.run_cut.proofs.write.Goals as goal
 use Rattle.run_cut.proofs.write.Goals.{After-lacks, After-write-slice, In-Written, Start}
 
@@ -57,7 +57,7 @@ pub overflow_cast-chosen : goal.overflow_cast-chosen
 overflow_cast-chosen c =
     let put = c in
     let s = call (asked_of (written_of (goal.at.overflow_cast-chosen put).In-Written)) in
-    omega (arith, put.write_positions-count.ensures.0, count-few _ s.args.h _ _ _ (kept_of s) _ s.requires.given s.requires.fed_by s.args.buffer.now s.args.positions.now)
+    omega (arith, put.write_positions-count.ensures.0, count_few _ s.args.h _ _ _ (kept_of s) _ s.requires.given s.requires.fed_by s.args.buffer.now s.args.positions.now)
 
 pub returns : goal.returns
 returns c =

@@ -6,10 +6,10 @@ use native.Mathlib.Omega.{arith}
 use lib.Dec.{eqb}
 use lib.ListN.{length, get_or, set}
 use Rattle.net.specs.declared.Arc.{Arc}
-use Rattle.file.proofs.Rows.{good-at}
+use Rattle.file.proofs.Rows.{good_at}
 use Rattle.arcs_starts.specs.Table.{choose}
 use Rattle.arcs_column.specs.Ways.{transition_at}
-use Rattle.run_feed.proofs.Raising.{due_of, Along, along_none, row-arc, row_below, row_first, row-less, along_more, along_end}
+use Rattle.run_feed.proofs.Raising.{due_of, Along, along_none, row_arc, row_below, row_first, row_less, along_more, along_end}
 use Rattle.run_feed.proofs.add_raisers.Goals as goal
 use Rattle.run_feed.proofs.add_raisers.Goals.{After-arc-a, After-due-from, At-loop-e, In-loop-e, Start}
 
@@ -46,7 +46,7 @@ below c = let s = call (goal.at.In-loop-e c).At-loop-e in row_below _ s.args.h _
 has_entry : (c : Read) → c.arc-a.result.transition < length (in_of c).loop-e.first
 has_entry c =
     let s = call (goal.at.In-loop-e (in_of c)).At-loop-e in
-    omega (arith, transition_is c, (good-at s.args.file.now s.args.h s.requires.0 ((in_of c).loop-e.e % 65536 - 1) (below (in_of c))).transition, s.requires.4, (in_of c).loop-e.invariant.long)
+    omega (arith, transition_is c, (good_at s.args.file.now s.args.h s.requires.0 ((in_of c).loop-e.e % 65536 - 1) (below (in_of c))).transition, s.requires.4, (in_of c).loop-e.invariant.long)
 
 -- what is due is the entry, or 0
 due_is : (c : Due) → let i = (in_of (read_of c)) in c.due-from.result ≡ due_of (call (goal.at.In-loop-e i).At-loop-e).args.last.now (read_of c).arc-a.result.transition (i.loop-e.e / 65536)
@@ -65,7 +65,7 @@ pub loop-e-init : goal.loop-e-init
 loop-e-init c = let start = c in along_none _ start.args.h _ _ _ _ (start.requires.1.heads 1 start.args.p (omega arith) start.requires.2)
 
 pub overflow_sub-j : goal.overflow_sub-j
-overflow_sub-j c = let s = call (goal.at.overflow_sub-j c).At-loop-e in let b = row-arc _ s.args.h _ _ s.requires.1 _ _ _ _ _ c.loop-e.invariant c.loop-e-test.true in search rules
+overflow_sub-j c = let s = call (goal.at.overflow_sub-j c).At-loop-e in let b = row_arc _ s.args.h _ _ s.requires.1 _ _ _ _ _ c.loop-e.invariant c.loop-e-test.true in search rules
 
 pub overflow_mul-j : goal.overflow_mul-j
 overflow_mul-j c = let b = below c in search rules
@@ -79,7 +79,7 @@ arc-a-requires c = let b = below (goal.at.arc-a-requires c).In-loop-e in search 
 pub entry-requires : goal.entry-requires
 entry-requires c =
     let s = call (goal.at.In-loop-e (in_of c)).At-loop-e in
-    omega (arith, transition_is c, (good-at s.args.file.now s.args.h s.requires.0 ((in_of c).loop-e.e % 65536 - 1) (below (in_of c))).transition, s.requires.3)
+    omega (arith, transition_is c, (good_at s.args.file.now s.args.h s.requires.0 ((in_of c).loop-e.e % 65536 - 1) (below (in_of c))).transition, s.requires.3)
 
 pub overflow_cast-first : goal.overflow_cast-first
 overflow_cast-first c =
@@ -98,7 +98,7 @@ pub offset_bounds-next-j : goal.offset_bounds-next-j
 offset_bounds-next-j c = let i = in_of (read_of c) in let b = below i in let few = (call (goal.at.In-loop-e i).At-loop-e).requires.0.placed.arcs in search rules
 
 pub bounds-next-j : goal.bounds-next-j
-bounds-next-j c = let i = in_of (read_of (goal.at.bounds-next-j c).After-due-from) in let b = below i in let long = (call (goal.at.In-loop-e i).At-loop-e).requires.1.next-long in search rules
+bounds-next-j c = let i = in_of (read_of (goal.at.bounds-next-j c).After-due-from) in let b = below i in let long = (call (goal.at.In-loop-e i).At-loop-e).requires.1.next_long in search rules
 
 pub overflow_cast-e-in-loop-e : goal.overflow_cast-e-in-loop-e
 overflow_cast-e-in-loop-e c = omega (arith, c.type_inv.next ((in_of (read_of (goal.at.overflow_cast-e-in-loop-e c).After-due-from)).loop-e.e % 65536 - 1))
@@ -107,7 +107,7 @@ pub loop-e-smaller : goal.loop-e-smaller
 loop-e-smaller c =
     let i = in_of (read_of (goal.at.loop-e-smaller c).After-due-from) in
     let s = call (goal.at.In-loop-e i).At-loop-e in
-    row-less _ s.args.h _ _ s.requires.1 _ _ _ _ _ i.loop-e.invariant i.loop-e-test.true
+    row_less _ s.args.h _ _ s.requires.1 _ _ _ _ _ i.loop-e.invariant i.loop-e-test.true
 
 pub loop-e-preserved : goal.loop-e-preserved
 loop-e-preserved c =

@@ -36,7 +36,7 @@ taken_of c = (goal.at.After-first-1 (first_of c)).After-take_up-end
 
 -- each firing has an entry
 has_entries : (s : Start) (i : ℕ) → i < length s.args.list.now → get_or s.args.list.now i 0 < length s.args.first.now
-has_entries s i l = omega (arith, s.requires.list_len_bound.1 i l, s.requires.back.first-long)
+has_entries s i l = omega (arith, s.requires.list_len_bound.1 i l, s.requires.back.first_long)
 
 pub met-k-requires : goal.met-k-requires
 met-k-requires c = let s = start_of c in (omega arith, has_entries s)
@@ -63,7 +63,7 @@ met-k-requires-in-loop-k c =
     let taken = taken_of (goal.at.met-k-requires-in-loop-k c).After-last-1 in
     let t = turn_of taken in
     let s = call (goal.at.At-loop-k t).After-met-k in
-    (omega (arith, t.loop-k.invariant.0.within), λ i l. omega (arith, s.requires.list_len_bound.1 i l, taken.take_up-end.ensures.first-long))
+    (omega (arith, t.loop-k.invariant.0.within), λ i l. omega (arith, s.requires.list_len_bound.1 i l, taken.take_up-end.ensures.first_long))
 
 pub loop-k-smaller : goal.loop-k-smaller
 loop-k-smaller c =

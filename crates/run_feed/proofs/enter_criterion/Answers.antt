@@ -1,7 +1,7 @@
 use native.Mathlib.Omega.{arith}
 use lib.ListN.{get_or}
 use Rattle.net.proofs.Numbers.{among-at}
-use Rattle.run_feed.proofs.Raising.{criterion-none, criterion-more, criterion-end}
+use Rattle.run_feed.proofs.Raising.{criterion_none, criterion_more, criterion_end}
 use Rattle.run_feed.proofs.enter_criterion.Goals as goal
 use Rattle.run_feed.proofs.enter_criterion.Goals.{After-wide, At-loop-i, Start}
 
@@ -20,7 +20,7 @@ abbrev turn_of : Read → Turn
 turn_of c = (goal.at.After-wide c).At-loop-i
 
 pub loop-i-init : goal.loop-i-init
-loop-i-init c = let start = c in criterion-none _ start.args.h _ start.args.criterion.now _ _ start.requires.sound.2
+loop-i-init c = let start = c in criterion_none _ start.args.h _ start.args.criterion.now _ _ start.requires.sound.2
 
 pub enter-requires : goal.enter-requires
 enter-requires c =
@@ -31,9 +31,9 @@ enter-requires c =
       s.requires.sound.0,
       s.requires.sound.1,
       omega (arith, read.wide.ensures.0, s.requires.known (get_or Q t.loop-i.i 0) (among-at Q t.loop-i.i read.loop-i-test.true)),
-      t.loop-i.invariant.places-long,
+      t.loop-i.invariant.places_long,
       s.requires.sound.3,
-      omega (arith, s.requires.sound.4, t.loop-i.invariant.first-long),
+      omega (arith, s.requires.sound.4, t.loop-i.invariant.first_long),
     )
 
 pub loop-i-preserved : goal.loop-i-preserved
@@ -42,10 +42,10 @@ loop-i-preserved c =
     let read = entered in
     let t = turn_of (goal.at.loop-i-preserved read).After-wide in
     let s = call t in
-    criterion-more _ s.args.h _ _ _ _ _ _ _ t.loop-i.invariant _ _ _ read.loop-i-test.true read.wide.ensures.0 entered.enter.ensures
+    criterion_more _ s.args.h _ _ _ _ _ _ _ t.loop-i.invariant _ _ _ read.loop-i-test.true read.wide.ensures.0 entered.enter.ensures
 
 pub shape_of-first : goal.shape_of-first
-shape_of-first c = c.loop-i.invariant.first-long
+shape_of-first c = c.loop-i.invariant.first_long
 
 pub returns : goal.returns
-returns c = let s = call (goal.at.returns c).At-loop-i in criterion-end _ s.args.h _ _ _ _ _ _ _ c.loop-i.invariant c.loop-i-test.false
+returns c = let s = call (goal.at.returns c).At-loop-i in criterion_end _ s.args.h _ _ _ _ _ _ _ c.loop-i.invariant c.loop-i-test.false

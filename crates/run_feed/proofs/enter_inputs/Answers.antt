@@ -2,9 +2,9 @@ use Prim.Native.Nat.{◌+◌, ◌*◌, ◌<◌}
 use mathlib.Core.Path.{◌≡◌, sym, ap, ◌∙◌}
 use native.Mathlib.Omega.{arith}
 use Rattle.net.specs.declared.Arc.{Arc}
-use Rattle.file.proofs.Rows.{good-at}
+use Rattle.file.proofs.Rows.{good_at}
 use Rattle.arcs_column.specs.Ways.{transition_at, direction_at}
-use Rattle.run_feed.proofs.Raising.{inputs-none, inputs-more, inputs-stop, inputs-all}
+use Rattle.run_feed.proofs.Raising.{inputs_none, inputs_more, inputs_stop, inputs_all}
 use Rattle.run_feed.proofs.enter_inputs.Goals as goal
 use Rattle.run_feed.proofs.enter_inputs.Goals.{After-arc-a, At-loop-j, Else-a-t, Start}
 
@@ -37,30 +37,30 @@ below c = let t = turn_of c in omega (arith, c.loop-j-test.true, (call t).requir
 pub loop-j-init : goal.loop-j-init
 loop-j-init c =
     let start = c in
-    inputs-none _ start.args.h _ start.requires.sound.0 _ _ start.requires.t_lt_transitions.0 start.requires.t_lt_transitions.1 _ _ start.requires.sound.2
+    inputs_none _ start.args.h _ start.requires.sound.0 _ _ start.requires.t_lt_transitions.0 start.requires.t_lt_transitions.1 _ _ start.requires.sound.2
 
 pub shape_of-first-then-a-t : goal.shape_of-first-then-a-t
-shape_of-first-then-a-t c = (turn_of (goal.at.shape_of-first-then-a-t c).After-arc-a).loop-j.invariant.entered.first-long
+shape_of-first-then-a-t c = (turn_of (goal.at.shape_of-first-then-a-t c).After-arc-a).loop-j.invariant.entered.first_long
 
 pub returns-then-a-t : goal.returns-then-a-t
 returns-then-a-t c =
     let read = c in
     let t = turn_of (goal.at.returns-then-a-t read).After-arc-a in
     let s = call t in
-    inputs-stop _ s.args.h _ s.requires.sound.0 _ _ s.requires.t_lt_transitions.0 s.requires.t_lt_transitions.1 _ _ _ _ _ t.loop-j.invariant (below (goal.at.returns-then-a-t read).After-arc-a) (λ e. c.if-a-t.true (sum (goal.at.returns-then-a-t read).After-arc-a ∙ e))
+    inputs_stop _ s.args.h _ s.requires.sound.0 _ _ s.requires.t_lt_transitions.0 s.requires.t_lt_transitions.1 _ _ _ _ _ t.loop-j.invariant (below (goal.at.returns-then-a-t read).After-arc-a) (λ e. c.if-a-t.true (sum (goal.at.returns-then-a-t read).After-arc-a ∙ e))
 
 pub enter-requires : goal.enter-requires
 enter-requires c =
     let read = read_of (goal.at.enter-requires c).Else-a-t in
     let t = turn_of read in
     let s = call t in
-    let good = good-at s.args.file.now s.args.h s.requires.sound.0 t.loop-j.j (below read) in (
+    let good = good_at s.args.file.now s.args.h s.requires.sound.0 t.loop-j.j (below read) in (
       s.requires.sound.0,
       s.requires.sound.1,
       omega (arith, ap (λ (a : Arc). a.place) read.arc-a.ensures.0, good.place),
-      t.loop-j.invariant.entered.places-long,
+      t.loop-j.invariant.entered.places_long,
       s.requires.sound.3,
-      omega (arith, s.requires.sound.4, t.loop-j.invariant.entered.first-long),
+      omega (arith, s.requires.sound.4, t.loop-j.invariant.entered.first_long),
     )
 
 pub overflow_add-j : goal.overflow_add-j
@@ -76,13 +76,13 @@ loop-j-preserved c =
     let read = read_of (goal.at.loop-j-preserved else).Else-a-t in
     let t = turn_of read in
     let s = call t in
-    inputs-more _ s.args.h _ s.requires.sound.0 _ _ s.requires.t_lt_transitions.0 s.requires.t_lt_transitions.1 _ _ _ _ _ t.loop-j.invariant (below read)
+    inputs_more _ s.args.h _ s.requires.sound.0 _ _ s.requires.t_lt_transitions.0 s.requires.t_lt_transitions.1 _ _ _ _ _ t.loop-j.invariant (below read)
     (sym (sum read) ∙ else.if-a-t.false) _ _ _ (ap (λ (a : Arc). a.place) read.arc-a.ensures.0) entered.enter.ensures
 
 pub shape_of-first : goal.shape_of-first
-shape_of-first c = c.loop-j.invariant.entered.first-long
+shape_of-first c = c.loop-j.invariant.entered.first_long
 
 pub returns : goal.returns
 returns c =
     let s = call (goal.at.returns c).At-loop-j in
-    inputs-all _ s.args.h _ s.requires.sound.0 _ _ s.requires.t_lt_transitions.0 s.requires.t_lt_transitions.1 _ _ _ _ _ c.loop-j.invariant (omega (arith, c.loop-j-test.false))
+    inputs_all _ s.args.h _ s.requires.sound.0 _ _ s.requires.t_lt_transitions.0 s.requires.t_lt_transitions.1 _ _ _ _ _ c.loop-j.invariant (omega (arith, c.loop-j-test.false))

@@ -1,6 +1,6 @@
 use borrow.Author.Tests.{eqb-true}
 use native.Mathlib.Omega.{arith}
-use Rattle.run_feed.proofs.Passing.{passed-four}
+use Rattle.run_feed.proofs.Passing.{passed_four}
 use Rattle.run_feed.proofs.four_pass.Goals as goal
 use Rattle.run_feed.proofs.four_pass.Goals.{After-waiting-a, Start}
 
@@ -25,4 +25,4 @@ returns c =
     let second = third in
     let first = second in
     let s = call (goal.at.returns first).After-waiting-a in
-    passed-four s.args.list.now s.args.first.now first.waiting-a.ensures.0 second.waiting-b.ensures.0 third.waiting-c.ensures.0 c.waiting-d.ensures.0 (eqb-true _ _ e)
+    passed_four s.args.list.now s.args.first.now first.waiting-a.ensures.0 second.waiting-b.ensures.0 third.waiting-c.ensures.0 c.waiting-d.ensures.0 (eqb-true _ _ e)

@@ -2,7 +2,7 @@ use Prim.Native.Nat.{◌≤◌}
 use mathlib.Core.Path.{sym, ◌∙◌}
 use native.Mathlib.Omega.{arith}
 use Rattle.run_feed.specs.Back.{PassedBy}
-use Rattle.run_feed.proofs.Passing.{passed-more, passed-one}
+use Rattle.run_feed.proofs.Passing.{passed_more, passed_one}
 use Rattle.run_feed.proofs.met.Goals as goal
 use Rattle.run_feed.proofs.met.Goals.{After-waiting, At-loop-i, Start}
 
@@ -44,7 +44,7 @@ loop-i-preserved c =
     let s = call t in
     let list = s.args.list.now in
     let first = s.args.first.now in
-    (omega (arith, x.0), passed-more list first (passed-one list first read.loop-i-test.true (sym read.waiting.ensures.0 ∙ c.if-waiting-ne0.false)) x.1)
+    (omega (arith, x.0), passed_more list first (passed_one list first read.loop-i-test.true (sym read.waiting.ensures.0 ∙ c.if-waiting-ne0.false)) x.1)
 
 pub returns : goal.returns
 returns c =

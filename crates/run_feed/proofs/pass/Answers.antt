@@ -1,6 +1,6 @@
 use borrow.Author.Tests.{not-false}
 use native.Mathlib.Omega.{arith}
-use Rattle.run_feed.proofs.Passing.{passed-more}
+use Rattle.run_feed.proofs.Passing.{passed_more}
 use Rattle.run_feed.proofs.pass.Goals as goal
 use Rattle.run_feed.proofs.pass.Goals.{At-loop-i, Start}
 
@@ -22,7 +22,7 @@ loop-i-preserved c =
     let t = tried in
     let s = call (goal.at.loop-i-preserved t).At-loop-i in
     let four = tried.four_pass.ensures (not-false _ c.if-not-four_pass.false-raw) in
-    (omega (arith, t.loop-i.invariant.0), passed-more s.args.list.now s.args.first.now (λ j a b. four j a (omega (arith, b, tried.loop-i-test.true))) t.loop-i.invariant.1)
+    (omega (arith, t.loop-i.invariant.0), passed_more s.args.list.now s.args.first.now (λ j a b. four j a (omega (arith, b, tried.loop-i-test.true))) t.loop-i.invariant.1)
 
 pub returns : goal.returns
 returns c = c.loop-i.invariant

@@ -3,7 +3,7 @@ use mathlib.Core.Path.{◌≡◌, sym, ◌∙◌, subst}
 use native.Mathlib.Omega.{arith}
 use lib.ListN.{get_or, length-set}
 use Rattle.arcs_starts.specs.Table.{Split}
-use Rattle.run_feed.proofs.Stepping.{taken_start, taken-up}
+use Rattle.run_feed.proofs.Stepping.{taken_start, taken_up}
 use Rattle.run_feed.proofs.take_up.Goals as goal
 use Rattle.run_feed.proofs.take_up.Goals.{After-enter_inputs, After-entry-from, After-insert, After-slice_known-1, After-wide-t, Start}
 
@@ -47,13 +47,13 @@ enter_inputs-requires c =
     let s = start_of read in
     let x = s.requires.back in
     let start = taken_start _ s.args.h s.requires.sound.0 _ s.requires.sound.2 _ _ _ _ _ _ _ s.requires.k_nonzero.0 x _ (t_is read) (waiting read) (below read) in
-    record { sound = (s.requires.sound.0, s.requires.sound.1, x.places-long, omega (arith, x.last-long, length-set s.args.last.now read.wide-t.result s.args.k), omega (arith, x.first-long, length-set s.args.first.now read.wide-t.result 0)); t_lt_transitions = (below read, subst (λ (n : ℕ). Split s.args.file.now s.args.h.arcstart s.args.h.arcs (2 * read.wide-t.result) (n - 1)) (sym e.entry-from.ensures.0) start) }
+    record { sound = (s.requires.sound.0, s.requires.sound.1, x.places_long, omega (arith, x.last_long, length-set s.args.last.now read.wide-t.result s.args.k), omega (arith, x.first_long, length-set s.args.first.now read.wide-t.result 0)); t_lt_transitions = (below read, subst (λ (n : ℕ). Split s.args.file.now s.args.h.arcstart s.args.h.arcs (2 * read.wide-t.result) (n - 1)) (sym e.entry-from.ensures.0) start) }
 
 pub shape_of-first : goal.shape_of-first
 shape_of-first c =
     let entered = c in
     let read = read_of (entry_of (inserted_of (goal.at.shape_of-first entered).After-enter_inputs)) in
-    entered.enter_inputs.ensures.first-long ∙ length-set (start_of read).args.first.now read.wide-t.result 0
+    entered.enter_inputs.ensures.first_long ∙ length-set (start_of read).args.first.now read.wide-t.result 0
 
 pub returns : goal.returns
 returns c =
@@ -61,5 +61,5 @@ returns c =
     let inserted = inserted_of (goal.at.returns entered).After-enter_inputs in
     let read = read_of (entry_of inserted) in
     let s = start_of read in
-    taken-up _ s.args.h s.requires.sound.0 _ s.requires.sound.2 _ _ _ _ _ _ _ s.requires.k_nonzero.0 s.requires.back _ (t_is read) (waiting read) (below read)
+    taken_up _ s.args.h s.requires.sound.0 _ s.requires.sound.2 _ _ _ _ _ _ _ s.requires.k_nonzero.0 s.requires.back _ (t_is read) (waiting read) (below read)
     _ c.once.ensures _ _ _ inserted.insert.ensures entered.enter_inputs.ensures

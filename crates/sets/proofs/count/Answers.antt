@@ -4,7 +4,7 @@ use native.Mathlib.Omega.{arith}
 use lib.ListN.{get_or}
 use Rattle.sets.specs.Member.{bit, member, count_below}
 use Rattle.sets.proofs.Members.{count_word}
-use Rattle.sets.proofs.Bits.{count-le}
+use Rattle.sets.proofs.Bits.{count_le}
 use Rattle.sets.proofs.count.Goals as goal
 
 pub loop-i-init : goal.loop-i-init
@@ -25,8 +25,8 @@ overflow_add-total c =
     omega (
       arith,
       c.count_bits-total.ensures,
-      count-le (bit (get_or c.args.words.now c.loop-i.i 0)) 64,
-      count-le (member c.args.words.now) (c.loop-i.i * 64),
+      count_le (bit (get_or c.args.words.now c.loop-i.i 0)) 64,
+      count_le (member c.args.words.now) (c.loop-i.i * 64),
     )
 
 pub overflow_add-i : goal.overflow_add-i

@@ -8,7 +8,7 @@ use Rattle.sets.specs.Member.{bit}
 use Rattle.sets.specs.Lowest.{IsLowest}
 use Rattle.sets.specs.declared.Found.{Found}
 use Rattle.sets.specs.declared.Found.TheVariants.{At, Nothing}
-use Rattle.sets_pending.proofs.Laws.{lowest-none, first_word, lowest-at, marks_less, marks_fewer}
+use Rattle.sets_pending.proofs.Laws.{lowest_none, first_word, lowest_at, marks_less, marks_fewer}
 use Rattle.sets_pending.proofs.lowest.Goals as goal
 use Rattle.sets_pending.proofs.lowest.Goals.{At-loop-i, In-At, In-At-here, In_default-here, Start}
 
@@ -56,7 +56,7 @@ loop-i-init c = c.requires.1
 pub returns-in_default : goal.returns-in_default
 returns-in_default c =
     let t = c in
-    lowest-none _ _ (call (goal.at.returns-in_default t).At-loop-i).requires.0 _ t.loop-i.invariant (subst (IsLowest 64 (bit t.loop-i.marks)) c.in_default.is c.lowest_bit-first.ensures)
+    lowest_none _ _ (call (goal.at.returns-in_default t).At-loop-i).requires.0 _ t.loop-i.invariant (subst (IsLowest 64 (bit t.loop-i.marks)) c.in_default.is c.lowest_bit-first.ensures)
 
 pub offset_bounds-places-i : goal.offset_bounds-places-i
 offset_bounds-places-i c = let l = word c in search rules
@@ -80,7 +80,7 @@ pub returns-in-At-here : goal.returns-in-At-here
 returns-in-At-here c =
     let w = word_of c in
     let t = turn_of w in
-    lowest-at _ _ (call t).requires.0 _ t.loop-i.invariant _ (first w) _ (here c)
+    lowest_at _ _ (call t).requires.0 _ t.loop-i.invariant _ (first w) _ (here c)
 
 pub without-requires : goal.without-requires
 without-requires c = let l = word (passed_word (goal.at.without-requires c).In_default-here) in omega arith

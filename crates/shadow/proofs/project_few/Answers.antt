@@ -1,4 +1,4 @@
-use Rattle.tables.proofs.Zeros.{zeros-at}
+use Rattle.tables.proofs.Zeros.{zeros_at}
 use Rattle.shadow.proofs.Casting.{fireable, cast_by_lem}
 use Rattle.shadow.proofs.project_few.Goals as goal
 use Rattle.shadow.proofs.project_few.Goals.{After-numbers, Start}
@@ -11,7 +11,7 @@ call c = (goal.at.After-numbers c).Start
 pub numbers-requires : goal.numbers-requires
 numbers-requires c =
     let s = c in
-    record { sound = (s.requires.sound, s.requires.kind); by_index = zeros-at 64 }
+    record { sound = (s.requires.sound, s.requires.kind); by_index = zeros_at 64 }
 
 pub write_fired-requires : goal.write_fired-requires
 write_fired-requires c =

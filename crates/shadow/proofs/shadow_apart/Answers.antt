@@ -1,5 +1,5 @@
 use native.Mathlib.Omega.{arith}
-use Rattle.shadow.proofs.Runs.{given_by, due_few, apart-long, at-due, follows_apart}
+use Rattle.shadow.proofs.Runs.{given_by, due_few, apart_long, at_due, follows_apart}
 use Rattle.shadow.proofs.shadow_apart.Goals as goal
 use Rattle.shadow.proofs.shadow_apart.Goals.{After-project_fired-r, After-replay-o, Start}
 
@@ -24,8 +24,8 @@ copy-requires c =
     let done = replayed (goal.at.copy-requires cast).After-project_fired-r in
     let s = call done in
     let few = due_few cast.project_fired-r.result s.args.p.places in
-    let long = apart-long s.args.plan.now s.args.p s.args.list.now s.args.apart.now s.requires.roomy.apart-long done.replay-o.ensures.marking in
-    (omega (arith, due.due-n.ensures, few, s.requires.roomy.apart-long, long), omega (arith, due.due-n.ensures, few, s.requires.roomy.marking-long))
+    let long = apart_long s.args.plan.now s.args.p s.args.list.now s.args.apart.now s.requires.roomy.apart_long done.replay-o.ensures.marking in
+    (omega (arith, due.due-n.ensures, few, s.requires.roomy.apart_long, long), omega (arith, due.due-n.ensures, few, s.requires.roomy.marking_long))
 
 pub returns : goal.returns
 returns c =
@@ -34,5 +34,5 @@ returns c =
     let cast = due in
     let done = replayed (goal.at.returns cast).After-project_fired-r in
     let s = call done in
-    follows_apart s.args.plan.now s.args.p _ s.args.list.now _ _ s.requires.roomy.apart-long s.requires.roomy.marking-long done.replay-o.ensures.answer done.replay-o.ensures.marking cast.project_fired-r.ensures
-    (at-due _ _ due.due-n.ensures copied.copy.ensures)
+    follows_apart s.args.plan.now s.args.p _ s.args.list.now _ _ s.requires.roomy.apart_long s.requires.roomy.marking_long done.replay-o.ensures.answer done.replay-o.ensures.marking cast.project_fired-r.ensures
+    (at_due _ _ due.due-n.ensures copied.copy.ensures)

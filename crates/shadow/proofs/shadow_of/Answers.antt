@@ -2,7 +2,7 @@ use mathlib.Core.Bool.{true, ◌||◌}
 use mathlib.Core.Path.{◌≡◌, sym, ◌∙◌}
 use lib.ListN.{length}
 use lib.Dec.{ltb, leb}
-use Rattle.shadow.proofs.Runs.{given_by, marking-long, follows_straight}
+use Rattle.shadow.proofs.Runs.{given_by, marking_long, follows_straight}
 use Rattle.shadow.proofs.shadow_of.Goals as goal
 use Rattle.shadow.proofs.shadow_of.Goals.{After-certain, Start, Then-certain}
 
@@ -34,4 +34,4 @@ shadow_sized-requires c =
     let unsure = c in
     let s = call (goal.at.shadow_sized-requires unsure).After-certain in
     let a = s.args in
-    record { sound = (s.requires.sound, marking-long a.p.places a.list.now a.out.now a.marking.now unsure.certain.ensures unsure.if-certain.false); sound_2 = s.requires.sound_2 }
+    record { sound = (s.requires.sound, marking_long a.p.places a.list.now a.out.now a.marking.now unsure.certain.ensures unsure.if-certain.false); sound_2 = s.requires.sound_2 }

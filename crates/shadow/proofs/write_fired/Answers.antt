@@ -1,5 +1,5 @@
 use native.Mathlib.Omega.{arith}
-use Rattle.shadow.proofs.Casting.{part-long, part-reached, few-chosen, cast_none, space_enough, cast_all}
+use Rattle.shadow.proofs.Casting.{part-long, part-reached, few_chosen, cast_none, space_enough, cast_all}
 use Rattle.shadow.proofs.write_fired.Goals as goal
 use Rattle.shadow.proofs.write_fired.Goals.{After-fired-end, After-lacks-lacking, Start}
 
@@ -32,7 +32,7 @@ pub overflow_cast-count : goal.overflow_cast-count
 overflow_cast-count c =
     let written = c in
     let end = ended (goal.at.overflow_cast-count written).After-lacks-lacking in
-    omega (arith, written.write-n.ensures.count, few-chosen (call end).requires end.fired-end.ensures)
+    omega (arith, written.write-n.ensures.count, few_chosen (call end).requires end.fired-end.ensures)
 
 pub returns : goal.returns
 returns c =

@@ -5,7 +5,7 @@ use lib.ListN.{length}
 use Rattle.net.specs.Slice.{restrict, keeping}
 use Rattle.file.specs.Layout.{net_from}
 use Rattle.file_writing.specs.Writing.{slice_bytes}
-use Rattle.slice.proofs.Laws.{arcs-known, arcs-are, few-arcs, file-length, no_room}
+use Rattle.slice.proofs.Laws.{arcs_known, arcs_are, few_arcs, file_length, no_room}
 use Rattle.slice.proofs.write_if_room.Goals as goal
 use Rattle.slice.proofs.write_if_room.Goals.{After-count_arcs-arcs, After-places_length, Start}
 
@@ -27,14 +27,14 @@ whole : (c : After-places_length) → let s = call c in
     ≡ c.places_length.result + 2 * length s.args.ps.now + 8 * arcs s + 2 * length s.args.ts.now + 16
 whole c =
     let s = call c in
-    omega (arith, file-length s.args.h.edition (net_from s.args.plan.now s.args.h) s.args.ps.now s.args.ts.now, c.places_length.ensures.0)
+    omega (arith, file_length s.args.h.edition (net_from s.args.plan.now s.args.h) s.args.ps.now s.args.ts.now, c.places_length.ensures.0)
 
 -- the arcs of the slice, which are no more than the plan's
 counted : (c : After-count_arcs-arcs) → c.count_arcs-arcs.result ≡ arcs (call (long_of c))
-counted c = let s = call (long_of c) in c.count_arcs-arcs.ensures ∙ ap length (arcs-are _ _ s.requires.sound _ _ _ _ s.requires.tables)
+counted c = let s = call (long_of c) in c.count_arcs-arcs.ensures ∙ ap length (arcs_are _ _ s.requires.sound _ _ _ _ s.requires.tables)
 
 fewer : (c : Start) → arcs c ≤ c.args.h.arcs
-fewer c = few-arcs c.args.plan.now c.args.h c.args.ps.now c.args.ts.now
+fewer c = few_arcs c.args.plan.now c.args.h c.args.ps.now c.args.ts.now
 
 few : (c : After-count_arcs-arcs) → c.count_arcs-arcs.result ≤ 4096
 few c = let s = call (long_of c) in omega (arith, counted c, fewer s, s.requires.sound.placed.arcs)
@@ -50,7 +50,7 @@ write_parts-requires c =
 -- ---- room for those that are kept, or none
 
 pub count_arcs-arcs-requires : goal.count_arcs-arcs-requires
-count_arcs-arcs-requires c = let s = call (goal.at.count_arcs-arcs-requires c).After-places_length in arcs-known _ _ s.requires.sound _ _ _ _ s.requires.tables
+count_arcs-arcs-requires c = let s = call (goal.at.count_arcs-arcs-requires c).After-places_length in arcs_known _ _ s.requires.sound _ _ _ _ s.requires.tables
 
 pub overflow_mul-arcs : goal.overflow_mul-arcs
 overflow_mul-arcs c = omega (arith, few c)
@@ -58,7 +58,7 @@ overflow_mul-arcs c = omega (arith, few c)
 pub overflow_add-rest-5 : goal.overflow_add-rest-5
 overflow_add-rest-5 c =
     let s = call (long_of c) in
-    omega (arith, few c, (long_of c).places_length.ensures.1, s.requires.lists.few-places, s.requires.lists.few-transitions)
+    omega (arith, few c, (long_of c).places_length.ensures.1, s.requires.lists.few_places, s.requires.lists.few_transitions)
 
 pub returns-then-buffer-rest : goal.returns-then-buffer-rest
 returns-then-buffer-rest c =

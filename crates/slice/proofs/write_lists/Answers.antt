@@ -16,9 +16,9 @@ positions-requires c =
     let lists = s.requires.lists in
     let places = s.requires.cleared.0 in
     record {
-      short = lists.few-places;
-      rises = lists.places-rise;
-      within = λ i l. omega (arith, lists.places-known i l, places.reach);
+      short = lists.few_places;
+      rises = lists.places_rise;
+      within = λ i l. omega (arith, lists.places_known i l, places.reach);
       clear = places.clear;
     }
 
@@ -28,9 +28,9 @@ positions-requires-2 c =
     let lists = s.requires.lists in
     let transitions = s.requires.cleared.1 in
     record {
-      short = lists.few-transitions;
-      rises = lists.transitions-rise;
-      within = λ i l. omega (arith, lists.transitions-known i l, transitions.reach);
+      short = lists.few_transitions;
+      rises = lists.transitions_rise;
+      within = λ i l. omega (arith, lists.transitions_known i l, transitions.reach);
       clear = transitions.clear;
     }
 
@@ -44,9 +44,9 @@ write_if_room-requires c =
       sound = s.requires.sound;
       lists = s.requires.lists;
       tables = record {
-        places-reach = omega (arith, places.0, s.requires.cleared.0.reach);
-        transitions-reach = omega (arith, transitions.0, s.requires.cleared.1.reach);
-        places-own = places.1;
-        transitions-own = transitions.1;
+        places_reach = omega (arith, places.0, s.requires.cleared.0.reach);
+        transitions_reach = omega (arith, transitions.0, s.requires.cleared.1.reach);
+        places_own = places.1;
+        transitions_own = transitions.1;
       };
     }

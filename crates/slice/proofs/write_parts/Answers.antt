@@ -9,7 +9,7 @@ use Rattle.file.specs.Layout.{net_from}
 use Rattle.file_writing.specs.Writing.{arcs_bytes}
 use Rattle.file_writing.proofs.Bytes.{length-arcs}
 use Rattle.slice_arcs.specs.Between.{kept_arcs}
-use Rattle.slice.proofs.Laws.{arcs-known, arcs-are, few-arcs, file-length, parts-stored, room, kept-places, kept-transitions}
+use Rattle.slice.proofs.Laws.{arcs_known, arcs_are, few_arcs, file_length, parts_stored, room, kept-places, kept-transitions}
 use Rattle.slice.proofs.write_parts.Goals as goal
 use Rattle.slice.proofs.write_parts.Goals.{After-places_length-start, After-put_trailer, After-slice_known-6-1, After-write_arcs-middle, After-write_origins, After-write_origins-2, After-write_places, Start}
 
@@ -50,14 +50,14 @@ from c = places_length c.args.h.edition (length c.args.ps.now)
 
 -- there is room for the parts
 size : (c : Start) → from c + 2 * length c.args.ps.now + 8 * arcs c + 2 * length c.args.ts.now + 16 ≤ length c.args.buffer.now
-size c = omega (arith, file-length c.args.h.edition (net_from c.args.plan.now c.args.h) c.args.ps.now c.args.ts.now, c.requires.ts_in_bounds)
+size c = omega (arith, file_length c.args.h.edition (net_from c.args.plan.now c.args.h) c.args.ps.now c.args.ts.now, c.requires.ts_in_bounds)
 
 few : (c : Start) → arcs c ≤ 4096
-few c = omega (arith, few-arcs c.args.plan.now c.args.h c.args.ps.now c.args.ts.now, c.requires.sound.placed.arcs)
+few c = omega (arith, few_arcs c.args.plan.now c.args.h c.args.ps.now c.args.ts.now, c.requires.sound.placed.arcs)
 
 -- the arcs found by the tables
 found : (c : Start) → kept_arcs c.args.places.now c.args.transitions.now (arcs_from c.args.plan.now c.args.h.arcstart c.args.h.arcs) ≡ restrict c.args.ps.now c.args.ts.now (net_from c.args.plan.now c.args.h).arcs
-found c = arcs-are _ _ c.requires.sound _ _ _ _ c.requires.tables
+found c = arcs_are _ _ c.requires.sound _ _ _ _ c.requires.tables
 
 found_length : (c : Start) → length (arcs_bytes (kept_arcs c.args.places.now c.args.transitions.now (arcs_from c.args.plan.now c.args.h.arcstart c.args.h.arcs))) ≡ 8 * arcs c
 found_length c = omega (arith, length-arcs (kept_arcs c.args.places.now c.args.transitions.now (arcs_from c.args.plan.now c.args.h.arcstart c.args.h.arcs)), ap length (found c))
@@ -76,13 +76,13 @@ low c = omega (arith, middle_is c, few (call c), (length_of (marks_of c)).places
 pub write_places-requires : goal.write_places-requires
 write_places-requires c =
     let start = start_of (goal.at.write_places-requires c).After-places_length-start in
-    record { placed = start.requires.sound.placed; by_index = start.requires.lists.places-known; ps_in_bounds = omega (arith, size start) }
+    record { placed = start.requires.sound.placed; by_index = start.requires.lists.places_known; ps_in_bounds = omega (arith, size start) }
 
 pub write_arcs-middle-requires : goal.write_arcs-middle-requires
 write_arcs-middle-requires c =
     let long = length_of (goal.at.write_arcs-middle-requires c).After-write_places in
     let start = start_of long in
-    record { arcs = arcs-known _ _ start.requires.sound _ _ _ _ start.requires.tables; count_in_bounds = omega (arith, size start, found_length start, long.places_length-start.ensures.0) }
+    record { arcs = arcs_known _ _ start.requires.sound _ _ _ _ start.requires.tables; count_in_bounds = omega (arith, size start, found_length start, long.places_length-start.ensures.0) }
 
 pub overflow_add-end : goal.overflow_add-end
 overflow_add-end c = omega (arith, ends (goal.at.overflow_add-end c).After-write_arcs-middle)
@@ -105,18 +105,18 @@ put_trailer-requires c =
 pub overflow_add-bytes : goal.overflow_add-bytes
 overflow_add-bytes c =
     let start = call (arcs_at c) in
-    omega (arith, low (arcs_at c), start.requires.lists.few-places, start.requires.lists.few-transitions)
+    omega (arith, low (arcs_at c), start.requires.lists.few_places, start.requires.lists.few_transitions)
 
 pub overflow_cast-bytes : goal.overflow_cast-bytes
 overflow_cast-bytes c =
     let start = call (arcs_at c) in
-    omega (arith, low (arcs_at c), start.requires.lists.few-places, start.requires.lists.few-transitions)
+    omega (arith, low (arcs_at c), start.requires.lists.few_places, start.requires.lists.few_transitions)
 
 pub overflow_cast-kept_places : goal.overflow_cast-kept_places
-overflow_cast-kept_places c = omega (arith, (call (arcs_at c)).requires.lists.few-places)
+overflow_cast-kept_places c = omega (arith, (call (arcs_at c)).requires.lists.few_places)
 
 pub overflow_cast-kept_transitions : goal.overflow_cast-kept_transitions
-overflow_cast-kept_transitions c = omega (arith, (call (arcs_at c)).requires.lists.few-transitions)
+overflow_cast-kept_transitions c = omega (arith, (call (arcs_at c)).requires.lists.few_transitions)
 
 pub returns : goal.returns
 returns c =
@@ -132,6 +132,6 @@ returns c =
     let ps = start.args.ps.now in
     let ts = start.args.ts.now in
     room e (keeping N ps ts) start.args.buffer.now _ _ _ _ start.requires.ts_in_bounds
-    (parts-stored e N ps ts _ long.places_length-start.result middle.write_arcs-middle.result start.args.buffer.now _ _ _ _ _ (found start) long.places_length-start.ensures.0
+    (parts_stored e N ps ts _ long.places_length-start.result middle.write_arcs-middle.result start.args.buffer.now _ _ _ _ _ (found start) long.places_length-start.ensures.0
     marks.write_places.ensures middle.write_arcs-middle.ensures places.write_origins.ensures transitions.write_origins-2.ensures trailer.put_trailer.ensures)
-    (omega (arith, middle_is middle, file-length e N ps ts)) (kept-places e N ps ts) (kept-transitions e N ps ts)
+    (omega (arith, middle_is middle, file_length e N ps ts)) (kept-places e N ps ts) (kept-transitions e N ps ts)

@@ -1,7 +1,7 @@
 use Prim.Native.Nat.{ℕ}
 use native.Mathlib.Omega.{arith}
 use lib.ListN.{length-replicate}
-use Rattle.tables.proofs.Zeros.{zeros-at}
+use Rattle.tables.proofs.Zeros.{zeros_at}
 use Rattle.slice.proofs.write_small.Goals as goal
 
 pub write_sets-requires : goal.write_sets-requires
@@ -12,7 +12,7 @@ write_sets-requires c =
       within = start.requires.within;
       places_in_bounds = (omega (arith, start.requires.places_bound.0, length-replicate {A = ℕ} 16 0), omega (arith, start.requires.places_bound.1, length-replicate {A = ℕ} 16 0));
       cleared = (
-        record { reach = omega (arith, start.requires.places_bound.0, length-replicate {A = ℕ} 16 0); clear = zeros-at 16 },
-        record { reach = omega (arith, start.requires.places_bound.1, length-replicate {A = ℕ} 16 0); clear = zeros-at 16 },
+        record { reach = omega (arith, start.requires.places_bound.0, length-replicate {A = ℕ} 16 0); clear = zeros_at 16 },
+        record { reach = omega (arith, start.requires.places_bound.1, length-replicate {A = ℕ} 16 0); clear = zeros_at 16 },
       );
     }

@@ -5,7 +5,7 @@ use native.Mathlib.Omega.{arith}
 use lib.ListN.{length}
 use Rattle.net.specs.declared.Arc.{Arc}
 use Rattle.slice_arcs.specs.Between.{kept_arcs}
-use Rattle.slice_arcs.proofs.Steps.{arcs-all, next-count, none_left}
+use Rattle.slice_arcs.proofs.Steps.{arcs_all, next-count, none_left}
 use Rattle.slice_arcs.proofs.count_arcs.Goals as goal
 use Rattle.slice_arcs.proofs.count_arcs.Goals.{After-arc-a, At-loop-j, Start}
 
@@ -22,15 +22,15 @@ turn_of c = (goal.at.After-arc-a c).At-loop-j
 
 -- the arc's transition and its place have entries
 transition_known : (c : Read) → c.arc-a.result.transition < length (call (turn_of c)).args.transitions.now
-transition_known c = omega (arith, ap (λ (a : Arc). a.transition) c.arc-a.ensures.0, (call (turn_of c)).requires.transitions-known (turn_of c).loop-j.j c.loop-j-test.true)
+transition_known c = omega (arith, ap (λ (a : Arc). a.transition) c.arc-a.ensures.0, (call (turn_of c)).requires.transitions_known (turn_of c).loop-j.j c.loop-j-test.true)
 
 place_known : (c : Read) → c.arc-a.result.place < length (call (turn_of c)).args.places.now
-place_known c = omega (arith, ap (λ (a : Arc). a.place) c.arc-a.ensures.0, (call (turn_of c)).requires.places-known (turn_of c).loop-j.j c.loop-j-test.true)
+place_known c = omega (arith, ap (λ (a : Arc). a.place) c.arc-a.ensures.0, (call (turn_of c)).requires.places_known (turn_of c).loop-j.j c.loop-j-test.true)
 
 pub loop-j-init : goal.loop-j-init
 loop-j-init c =
     let args = c.args in
-    let all = arcs-all args.plan.now args.start args.count in
+    let all = arcs_all args.plan.now args.start args.count in
     (omega arith, omega arith, omega (arith, ap (λ (l : List Arc). length (kept_arcs args.places.now args.transitions.now l)) all))
 
 pub offset_bounds-transitions-t : goal.offset_bounds-transitions-t

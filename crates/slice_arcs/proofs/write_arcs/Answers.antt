@@ -7,7 +7,7 @@ use lib.ListN.{length, get_or}
 use Rattle.net.specs.declared.Arc.{Arc}
 use Rattle.file_writing.specs.Writing.{arcs_bytes}
 use Rattle.slice_arcs.specs.Between.{kept_arcs}
-use Rattle.slice_arcs.proofs.Steps.{arcs-all, next-bytes, none_left, no_bytes}
+use Rattle.slice_arcs.proofs.Steps.{arcs_all, next-bytes, none_left, no_bytes}
 use Rattle.slice_arcs.proofs.Writing.{writing_all, writing_as, writing_arc, written}
 use Rattle.slice_arcs.proofs.write_arcs.Goals as goal
 use Rattle.slice_arcs.proofs.write_arcs.Goals.{After-arc-a, After-write_arc-arg-1, At-loop-j, Start}
@@ -28,15 +28,15 @@ read c = (goal.at.After-write_arc-arg-1 c).After-arc-a
 
 -- the arc's transition and its place have entries
 transition_known : (c : Read) → c.arc-a.result.transition < length (call (turn_of c)).args.transitions.now
-transition_known c = omega (arith, ap (λ (a : Arc). a.transition) c.arc-a.ensures.0, (call (turn_of c)).requires.arcs.transitions-known (turn_of c).loop-j.j c.loop-j-test.true)
+transition_known c = omega (arith, ap (λ (a : Arc). a.transition) c.arc-a.ensures.0, (call (turn_of c)).requires.arcs.transitions_known (turn_of c).loop-j.j c.loop-j-test.true)
 
 place_known : (c : Read) → c.arc-a.result.place < length (call (turn_of c)).args.places.now
-place_known c = omega (arith, ap (λ (a : Arc). a.place) c.arc-a.ensures.0, (call (turn_of c)).requires.arcs.places-known (turn_of c).loop-j.j c.loop-j-test.true)
+place_known c = omega (arith, ap (λ (a : Arc). a.place) c.arc-a.ensures.0, (call (turn_of c)).requires.arcs.places_known (turn_of c).loop-j.j c.loop-j-test.true)
 
 pub loop-j-init : goal.loop-j-init
 loop-j-init c =
     let args = c.args in
-    (search rules, writing_as (writing_all _ _ _) (ap (λ (l : List Arc). arcs_bytes (kept_arcs args.places.now args.transitions.now l)) (arcs-all args.plan.now args.start args.count)))
+    (search rules, writing_as (writing_all _ _ _) (ap (λ (l : List Arc). arcs_bytes (kept_arcs args.places.now args.transitions.now l)) (arcs_all args.plan.now args.start args.count)))
 
 pub offset_bounds-transitions-t : goal.offset_bounds-transitions-t
 offset_bounds-transitions-t c = omega (arith, transition_known c)

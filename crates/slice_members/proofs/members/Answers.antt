@@ -6,7 +6,7 @@ use Rattle.net.specs.Numbers.{selected}
 use Rattle.sets.specs.Member.{member}
 use Rattle.tables.proofs.Storing.{storing_all, storing_as, storing_part, storing_none}
 use Rattle.slice_members.specs.List.{bits_from}
-use Rattle.slice_members.proofs.Selected.{members-next, members-count, selected-end}
+use Rattle.slice_members.proofs.Selected.{members_next, members_count, selected-end}
 use Rattle.slice_members.proofs.members.Goals as goal
 
 pub loop-i-init : goal.loop-i-init
@@ -20,7 +20,7 @@ pub word_members-n-requires : goal.word_members-n-requires
 word_members-n-requires c =
     let at = c.loop-i in
     let start = c in
-    record { base_bound = omega (arith, at.invariant.0, start.requires.count_bound); word_in_bounds = omega (arith, members-count start.args.words.now at.i start.args.count c.loop-i-test.true, at.invariant.1.long, at.invariant.1.count, start.requires.count_in_bounds) }
+    record { base_bound = omega (arith, at.invariant.0, start.requires.count_bound); word_in_bounds = omega (arith, members_count start.args.words.now at.i start.args.count c.loop-i-test.true, at.invariant.1.long, at.invariant.1.count, start.requires.count_in_bounds) }
 
 pub loop-i-preserved : goal.loop-i-preserved
 loop-i-preserved c =
@@ -28,7 +28,7 @@ loop-i-preserved c =
     let words = c.args.words.now in
     let call = c.word_members-n in (
       omega arith,
-      storing_part (bits_from (at.i * 64) (get_or words at.i 0)) _ _ _ (storing_as at.invariant.1 (members-next words at.i c.args.count c.loop-i-test.true)) call.ensures.1 call.ensures.0,
+      storing_part (bits_from (at.i * 64) (get_or words at.i 0)) _ _ _ (storing_as at.invariant.1 (members_next words at.i c.args.count c.loop-i-test.true)) call.ensures.1 call.ensures.0,
     )
 
 pub shape_of-list : goal.shape_of-list

@@ -6,7 +6,7 @@ use lib.ListN.{get_or}
 use Rattle.file_words.specs.Word.{bytes16}
 use Rattle.file_words.proofs.Bytes.{length-16}
 use Rattle.tables.proofs.Storing.{storing_all, storing_as, storing_from, storing_part, storing_none}
-use Rattle.slice_parts.proofs.Steps.{origins-next, origins-end}
+use Rattle.slice_parts.proofs.Steps.{origins_next, origins_end}
 use Rattle.slice_parts.proofs.write_origins.Goals as goal
 use Rattle.slice_parts.proofs.write_origins.Goals.{After-put16, At-loop-i, In-loop-i, Start}
 
@@ -36,7 +36,7 @@ loop-i-preserved c =
     let at = t.loop-i in
     let list = (call (goal.at.In-loop-i t).At-loop-i).args.list.now in
     let o = get_or list at.i 0 in
-    let next = origins-next list at.i t.loop-i-test.true in
+    let next = origins_next list at.i t.loop-i-test.true in
     (omega arith, storing_part (bytes16 o) _ _ _ (storing_as at.invariant.1 next) put.put16.ensures (omega (arith, length-16 o)))
 
 pub shape_of-buffer : goal.shape_of-buffer
@@ -46,4 +46,4 @@ pub returns : goal.returns
 returns c =
     let list = (call (goal.at.returns c).At-loop-i).args.list.now in
     let at = c.loop-i in
-    storing_none (storing_as at.invariant.1 (origins-end list at.i (omega (arith, at.invariant.0, c.loop-i-test.false))))
+    storing_none (storing_as at.invariant.1 (origins_end list at.i (omega (arith, at.invariant.0, c.loop-i-test.false))))

@@ -8,7 +8,7 @@ use lib.Seq.{sets}
 use Rattle.file_header.specs.Layout.{places_length}
 use Rattle.file_writing.specs.Writing.{place_bytes}
 use Rattle.tables.proofs.Storing.{storing_all, storing_as, storing_from, storing_none}
-use Rattle.slice_put.proofs.Placing.{places-all, places-end, place-stored, places-within, places-none}
+use Rattle.slice_put.proofs.Placing.{places_all, places_end, place-stored, places_within, places_none}
 use Rattle.slice_parts.proofs.write_places.Goals as goal
 use Rattle.slice_parts.proofs.write_places.Goals.{After-marking-tokens, At-loop-i, In-loop-i, Start}
 
@@ -28,12 +28,12 @@ known c = (call (goal.at.In-loop-i c).At-loop-i).requires.by_index c.loop-i.i c.
 room : (c : In-loop-i) → places_length (call (goal.at.In-loop-i c).At-loop-i).args.h.edition (c.loop-i.i + 1) ≤ length c.loop-i.buffer
 room c =
     let s = call (goal.at.In-loop-i c).At-loop-i in
-    omega (arith, s.requires.ps_in_bounds, c.loop-i.invariant.1.long, places-within s.args.h.edition c.loop-i.i (length s.args.ps.now) c.loop-i-test.true)
+    omega (arith, s.requires.ps_in_bounds, c.loop-i.invariant.1.long, places_within s.args.h.edition c.loop-i.i (length s.args.ps.now) c.loop-i-test.true)
 
 pub loop-i-init : goal.loop-i-init
 loop-i-init c =
     let args = c.args in
-    (search rules, storing_from (places-none args.h.edition) (storing_as (storing_all _ _ _) (places-all args.h.edition _ _ _)))
+    (search rules, storing_from (places_none args.h.edition) (storing_as (storing_all _ _ _) (places_all args.h.edition _ _ _)))
 
 pub overflow_cast-p : goal.overflow_cast-p
 overflow_cast-p c = omega (arith, c.type_inv.ps c.loop-i.i)
@@ -65,4 +65,4 @@ pub returns : goal.returns
 returns c =
     let s = call (goal.at.returns c).At-loop-i in
     let at = c.loop-i in
-    storing_none (storing_as at.invariant.1 (places-end s.args.h.edition _ _ (length s.args.ps.now) at.i c.loop-i-test.false))
+    storing_none (storing_as at.invariant.1 (places_end s.args.h.edition _ _ (length s.args.ps.now) at.i c.loop-i-test.false))

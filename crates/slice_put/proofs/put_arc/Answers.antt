@@ -5,7 +5,7 @@ use mathlib.Core.List.{List, [], ◌∷◌, ◌++◌}
 use lib.Seq.{sets}
 use Rattle.file_words.specs.Word.{bytes16}
 use Rattle.file_writing.specs.Writing.{arc_bytes}
-use Rattle.tables.proofs.Sets.{sets-after}
+use Rattle.tables.proofs.Sets.{sets_after}
 use Rattle.slice_put.proofs.put_arc.Goals as goal
 
 pub returns : goal.returns
@@ -26,6 +26,6 @@ returns c =
     let T = bytes16 a.transition in
     let D : List ℕ = a.direction ∷ 0 ∷ [] in
     let P = bytes16 a.place in
-    sets-after (T ++ D ++ P) (bytes16 a.weight) s at (at + 6)
-    (sets-after (T ++ D) P s at (at + 4) (sets-after T D s at (at + 2) transition.put16.ensures second (omega arith)) place.put16-3.ensures (omega arith))
+    sets_after (T ++ D ++ P) (bytes16 a.weight) s at (at + 6)
+    (sets_after (T ++ D) P s at (at + 4) (sets_after T D s at (at + 2) transition.put16.ensures second (omega arith)) place.put16-3.ensures (omega arith))
     weight.put16-4.ensures (omega arith)

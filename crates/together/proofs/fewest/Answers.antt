@@ -1,5 +1,5 @@
 use native.Mathlib.Omega.{arith}
-use Rattle.together.proofs.Weighing.{stands, weighed-none, inside, has_weight, shared, weigh, weighed-all}
+use Rattle.together.proofs.Weighing.{stands, weighed_none, inside, has_weight, shared, weigh, weighed_all}
 use Rattle.together.proofs.fewest.Goals as goal
 use Rattle.together.proofs.fewest.Goals.{At-loop-j, Start}
 
@@ -14,7 +14,7 @@ abbrev call : Head → Start
 call c = (goal.at.At-loop-j c).Start
 
 pub loop-j-init : goal.loop-j-init
-loop-j-init c = weighed-none c.requires.one_way (λ p. omega (arith, c.type_inv.marking p))
+loop-j-init c = weighed_none c.requires.one_way (λ p. omega (arith, c.type_inv.marking p))
 
 pub overflow_mul-j : goal.overflow_mul-j
 overflow_mul-j c = omega (arith, c.loop-j-test.true, (call (goal.at.overflow_mul-j c).At-loop-j).requires.one_way.few)
@@ -59,4 +59,4 @@ pub returns : goal.returns
 returns c =
     let x = c in
     let s = call (goal.at.returns x).At-loop-j in
-    weighed-all s.requires.one_way x.loop-j.invariant s.requires.from_lt_to (omega (arith, c.loop-j-test.false))
+    weighed_all s.requires.one_way x.loop-j.invariant s.requires.from_lt_to (omega (arith, c.loop-j-test.false))

@@ -5,7 +5,7 @@ use native.Mathlib.Omega.{arith}
 use lib.ListN.{length, get_or}
 use Rattle.arcs_starts.proofs.Reached.{ordered}
 use Rattle.arcs_starts.proofs.Splits.{past_by}
-use Rattle.together.proofs.Inputs.{takes-from}
+use Rattle.together.proofs.Inputs.{takes_from_lem}
 use Rattle.together.proofs.Ends.{Found, one_way, no_inputs, most}
 use Rattle.together.proofs.largest.Goals as goal
 use Rattle.together.proofs.largest.Goals.{After-next_from-to, After-slice_known-2-1, Else-to-from, Start}
@@ -70,5 +70,5 @@ returns c =
     let f = t in
     let k = f in
     let a = arcs (goal.at.returns k).After-slice_known-2-1 in
-    let told = most (found a) _ (call a).requires.entries f.fewest-k.ensures (takes-from (copied (goal.at.returns k).After-slice_known-2-1) t.take.ensures) in
+    let told = most (found a) _ (call a).requires.entries f.fewest-k.ensures (takes_from_lem (copied (goal.at.returns k).After-slice_known-2-1) t.take.ensures) in
     record { result_value = told.0; rest_after = told.1 }

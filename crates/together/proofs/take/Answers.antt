@@ -3,7 +3,7 @@ use mathlib.Core.Path.{sym, subst}
 use native.Mathlib.Omega.{arith}
 use lib.ListN.{length, get_or}
 use Rattle.net.specs.declared.Arc.{Arc}
-use Rattle.together.proofs.Inputs.{takes_none, enough, takes-more, takes_all}
+use Rattle.together.proofs.Inputs.{takes_none, enough, takes_more, takes_all}
 use Rattle.together.proofs.take.Goals as goal
 use Rattle.together.proofs.take.Goals.{After-arc-a, At-loop-j, Start}
 
@@ -69,7 +69,7 @@ pub loop-j-preserved : goal.loop-j-preserved
 loop-j-preserved c =
     let a = c in
     let inv = (head (goal.at.loop-j-preserved a).After-arc-a).loop-j.invariant in
-    (omega (arith, inv.0), omega (arith, a.loop-j-test.true), takes-more inv.2 inv.0 _ a.arc-a.ensures.0 (inside (goal.at.loop-j-preserved a).After-arc-a) (wanted (goal.at.loop-j-preserved a).After-arc-a))
+    (omega (arith, inv.0), omega (arith, a.loop-j-test.true), takes_more inv.2 inv.0 _ a.arc-a.ensures.0 (inside (goal.at.loop-j-preserved a).After-arc-a) (wanted (goal.at.loop-j-preserved a).After-arc-a))
 
 pub shape_of-marking : goal.shape_of-marking
 shape_of-marking c = c.loop-j.invariant.2.long

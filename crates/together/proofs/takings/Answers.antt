@@ -7,7 +7,7 @@ use Rattle.file.specs.Layout.{net_from}
 use Rattle.promise.specs.Together.{standing}
 use Rattle.inputs_lists.proofs.Passing.{kept-refused, written-whole}
 use Rattle.together.specs.Inputs.{Passed}
-use Rattle.together.proofs.Passing.{known, as_many, room-enough, told-refused, told-whole}
+use Rattle.together.proofs.Passing.{known, as_many, room_enough, told-refused, told-whole}
 use Rattle.together.proofs.takings.Goals as goal
 use Rattle.together.proofs.takings.Goals.{Else-refused-ne0, Start}
 
@@ -25,7 +25,7 @@ passed c =
       sound = (call c).requires;
       known = known s.h s.transition (length s.marking.now) (length s.rest.now) back none;
       entries = as_many s.h s.transition (length s.marking.now) (length s.rest.now) back none;
-      room = length-take-le s.h.places s.rest.now (room-enough s.h s.transition (length s.marking.now) (length s.rest.now) back none);
+      room = length-take-le s.h.places s.rest.now (room_enough s.h s.transition (length s.marking.now) (length s.rest.now) back none);
     }
 
 pub returns-then-refused-ne0 : goal.returns-then-refused-ne0
@@ -34,7 +34,7 @@ returns-then-refused-ne0 c = record { answer = told-refused _ _ c.held_back-refu
 pub slice_bounds-largest-end : goal.slice_bounds-largest-end
 slice_bounds-largest-end c =
     let s = (call c).args in
-    room-enough s.h s.transition (length s.marking.now) (length s.rest.now) c.held_back-refused.ensures c.if-refused-ne0.false
+    room_enough s.h s.transition (length s.marking.now) (length s.rest.now) c.held_back-refused.ensures c.if-refused-ne0.false
 
 pub slice_bounds-largest-end-2 : goal.slice_bounds-largest-end-2
 slice_bounds-largest-end-2 c = sym (passed (goal.at.slice_bounds-largest-end-2 c).Else-refused-ne0).room

@@ -6,9 +6,9 @@ use Rattle.file_header.specs.declared.Due.TheVariants as due
 use Rattle.file.proofs.Opening.{opened, turned_back_lem}
 use Rattle.promise.specs.Starts.{start_refusal, started_from}
 use Rattle.inputs_starts.specs.Startable.{Startable}
-use Rattle.inputs_starts.proofs.Calls.{opened-from}
-use Rattle.call_check.proofs.Checks.{criterion-turned, judged}
-use Rattle.call_check.proofs.Starting.{plan_stops, slice-stops, start-stops, goes_on_lem, with-guarantee}
+use Rattle.inputs_starts.proofs.Calls.{opened_from}
+use Rattle.call_check.proofs.Checks.{criterion_turned, judged}
+use Rattle.call_check.proofs.Starting.{plan_stops, slice_stops, start_stops, goes_on_lem, with-guarantee}
 use Rattle.call_check.proofs.starts.check_from.Goals as goal
 use Rattle.call_check.proofs.starts.check_from.Goals.{After-refusal-broken, After-shared_slice_known-1, Else-broken-ne0, In-Whole, In-Whole-second, Start}
 
@@ -53,7 +53,7 @@ returns-in_default-second c =
     let first = c in
     let a = (call (goal.at.returns-in_default-second first).In-Whole).args in
     let told = with-guarantee a.plan.now a.slice.now a.start.now a.criterion.now (λ i. omega (arith, (known (goal.at.returns-in_default-second first).In-Whole).type_inv.plan i))
-    (slice-stops _ _ _ _ _ (plan_at (goal.at.returns-in_default-second first).In-Whole) _ (turned_back_lem due.Slice _ c.read-second.ensures c.in_default-second.is c.number-in_default-second.ensures)) in
+    (slice_stops _ _ _ _ _ (plan_at (goal.at.returns-in_default-second first).In-Whole) _ (turned_back_lem due.Slice _ c.read-second.ensures c.in_default-second.is c.number-in_default-second.ensures)) in
     record { answer = told.0; guarantee = told.1 }
 
 pub refusal-broken-requires : goal.refusal-broken-requires
@@ -65,12 +65,12 @@ returns-then-broken-ne0 c =
     let first = plan_of second in
     let a = (call first).args in
     let told = with-guarantee a.plan.now a.slice.now a.start.now a.criterion.now (λ i. omega (arith, (known first).type_inv.plan i))
-    (start-stops _ _ _ _ _ (plan_at first) _ (slice_at second) c.refusal-broken.ensures c.if-broken-ne0.true) in
+    (start_stops _ _ _ _ _ (plan_at first) _ (slice_at second) c.refusal-broken.ensures c.if-broken-ne0.true) in
     record { answer = told.0; guarantee = told.1 }
 
 -- the plan with the start in it
 started_at : (c : Else-broken-ne0) → let f = plan_of (slice_of (goal.at.Else-broken-ne0 c).After-refusal-broken) in Opened due.Plan (started_from (call f).args.plan.now f.in-Whole.p (call f).args.start.now) f.in-Whole.p
-started_at c = opened-from (ready c) (λ i. omega (arith, (known (plan_of (slice_of (goal.at.Else-broken-ne0 c).After-refusal-broken))).type_inv.plan i))
+started_at c = opened_from (ready c) (λ i. omega (arith, (known (plan_of (slice_of (goal.at.Else-broken-ne0 c).After-refusal-broken))).type_inv.plan i))
 
 pub returns-then-misplaced-ne0 : goal.returns-then-misplaced-ne0
 returns-then-misplaced-ne0 c =
@@ -80,7 +80,7 @@ returns-then-misplaced-ne0 c =
     let a = (call first).args in
     let told = with-guarantee a.plan.now a.slice.now a.start.now a.criterion.now (λ i. omega (arith, (known first).type_inv.plan i))
     (goes_on_lem _ _ _ _ _ (plan_at first) _ (slice_at second) (passes (goal.at.returns-then-misplaced-ne0 on).Else-broken-ne0)
-    (criterion-turned _ a.slice.now a.criterion.now _ (started_at (goal.at.returns-then-misplaced-ne0 on).Else-broken-ne0) _ (slice_at second) _ c.refusal-misplaced.ensures c.if-misplaced-ne0.true)) in
+    (criterion_turned _ a.slice.now a.criterion.now _ (started_at (goal.at.returns-then-misplaced-ne0 on).Else-broken-ne0) _ (slice_at second) _ c.refusal-misplaced.ensures c.if-misplaced-ne0.true)) in
     record { answer = told.0; guarantee = told.1 }
 
 pub judge-requires : goal.judge-requires

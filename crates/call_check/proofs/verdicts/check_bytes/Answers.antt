@@ -4,7 +4,7 @@ use Rattle.file.specs.Facts.{Opened}
 use Rattle.file_header.specs.declared.Due.TheVariants as due
 use Rattle.file.proofs.Opening.{opened, turned_back_lem}
 use Rattle.promise.proofs.Demands.{when_0}
-use Rattle.call_check.proofs.Checks.{plan_turned_bytes, slice-turned_bytes, criterion-turned_bytes, slice-kind, judged_bytes}
+use Rattle.call_check.proofs.Checks.{plan_turned_bytes, slice_turned_bytes, criterion_turned_bytes, slice_kind, judged_bytes}
 use Rattle.call_check.proofs.verdicts.check_bytes.Goals as goal
 use Rattle.call_check.proofs.verdicts.check_bytes.Goals.{In-Whole, In-Whole-second, Start}
 
@@ -30,13 +30,13 @@ returns-in_default c =
 
 pub returns-in_default-second : goal.returns-in_default-second
 returns-in_default-second c =
-    let e = slice-turned_bytes _ _ _ _ (plan_at (goal.at.returns-in_default-second c).In-Whole) _ (turned_back_lem due.Slice _ c.read-second.ensures c.in_default-second.is c.number-in_default-second.ensures) in
+    let e = slice_turned_bytes _ _ _ _ (plan_at (goal.at.returns-in_default-second c).In-Whole) _ (turned_back_lem due.Slice _ c.read-second.ensures c.in_default-second.is c.number-in_default-second.ensures) in
     record { answer = e; guarantee = when_0 _ _ _ e }
 
 pub returns-then-broken-ne0 : goal.returns-then-broken-ne0
 returns-then-broken-ne0 c =
     let second = c in
-    let e = criterion-turned_bytes _ _ _ _ (plan_at (plan_of (goal.at.returns-then-broken-ne0 second).In-Whole-second)) _ (slice_at (goal.at.returns-then-broken-ne0 second).In-Whole-second) _ c.bytes_refusal-broken.ensures c.if-broken-ne0.true in
+    let e = criterion_turned_bytes _ _ _ _ (plan_at (plan_of (goal.at.returns-then-broken-ne0 second).In-Whole-second)) _ (slice_at (goal.at.returns-then-broken-ne0 second).In-Whole-second) _ c.bytes_refusal-broken.ensures c.if-broken-ne0.true in
     record { answer = e; guarantee = when_0 _ _ _ e }
 
 pub judge_bytes-requires : goal.judge_bytes-requires
@@ -44,7 +44,7 @@ judge_bytes-requires c =
     let second = c in
     let p = plan_at (plan_of (goal.at.judge_bytes-requires second).In-Whole-second) in
     let s = slice_at (goal.at.judge_bytes-requires second).In-Whole-second in
-    record { sound = p.good; sound_2 = s.good; kind_value = slice-kind _ _ [] _ p _ s; q_value = sym c.bytes_refusal-broken.ensures ∙ c.if-broken-ne0.false }
+    record { sound = p.good; sound_2 = s.good; kind_value = slice_kind _ _ [] _ p _ s; q_value = sym c.bytes_refusal-broken.ensures ∙ c.if-broken-ne0.false }
 
 pub returns : goal.returns
 returns c =

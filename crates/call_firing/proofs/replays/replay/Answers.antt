@@ -1,7 +1,7 @@
 use Rattle.file.specs.Facts.{Opened}
 use Rattle.file_header.specs.declared.Due.TheVariants.{Either}
 use Rattle.file.proofs.Opening.{opened, turned_back_lem}
-use Rattle.call_firing.proofs.Replayed.{file-answer, file-marking, read_answer, read-marking}
+use Rattle.call_firing.proofs.Replayed.{file_answer_lem, file_marking, read_answer, read_marking}
 use Rattle.call_firing.proofs.replays.replay.Goals as goal
 use Rattle.call_firing.proofs.replays.replay.Goals.{In-Whole}
 
@@ -12,7 +12,7 @@ open_at c = opened Either _ c.read-whole.ensures c.in-Whole.is
 pub returns-in_default : goal.returns-in_default
 returns-in_default c =
     let a = turned_back_lem Either _ c.read-whole.ensures c.in_default.is c.number.ensures in
-    record { answer = file-answer _ _ _ a _; marking = file-marking _ _ _ a _ }
+    record { answer = file_answer_lem _ _ _ a _; marking = file_marking _ _ _ a _ }
 
 pub replay-requires : goal.replay-requires
 replay-requires c = (open_at (goal.at.replay-requires c).In-Whole).good
@@ -20,4 +20,4 @@ replay-requires c = (open_at (goal.at.replay-requires c).In-Whole).good
 pub returns : goal.returns
 returns c =
     let o = open_at (goal.at.returns c).In-Whole in
-    record { answer = read_answer _ _ o _ _ _ c.replay.ensures.answer; marking = read-marking _ _ o _ _ _ c.replay.ensures.marking }
+    record { answer = read_answer _ _ o _ _ _ c.replay.ensures.answer; marking = read_marking _ _ o _ _ _ c.replay.ensures.marking }

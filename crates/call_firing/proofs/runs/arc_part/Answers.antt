@@ -3,7 +3,7 @@ use lib.ListN.{length}
 use Rattle.file.specs.Facts.{Opened}
 use Rattle.file_header.specs.declared.Due.TheVariants as due
 use Rattle.file.proofs.Opening.{opened}
-use Rattle.call_firing.proofs.ArcRuns.{not-read, plan_refused, slice-refused, no_start, of_slice, of_plan, start-of_slice, start-of_plan}
+use Rattle.call_firing.proofs.ArcRuns.{not-read, plan_refused, slice_refused, no_start, of_slice, of_plan, start_of_slice, start_of_plan}
 use Rattle.call_firing.proofs.runs.arc_part.Goals as goal
 use Rattle.call_firing.proofs.runs.arc_part.Goals.{In-Whole, In-Whole-second, Start}
 
@@ -29,7 +29,7 @@ returns-in_default c =
 
 pub returns-in_default-second : goal.returns-in_default-second
 returns-in_default-second c =
-    let e = slice-refused _ _ _ _ (plan_at (goal.at.returns-in_default-second c).In-Whole).read (not-read due.Slice _ c.read-second.ensures c.in_default-second.is) in
+    let e = slice_refused _ _ _ _ (plan_at (goal.at.returns-in_default-second c).In-Whole).read (not-read due.Slice _ c.read-second.ensures c.in_default-second.is) in
     record { start = sym (no_start _ _ _ _ e); length = sym (ap length e) }
 
 pub run_part-r-requires : goal.run_part-r-requires
@@ -41,7 +41,7 @@ returns-then-inslice c =
     let p = plan_at (plan_of (goal.at.returns-then-inslice second).In-Whole-second) in
     let q = slice_at (goal.at.returns-then-inslice second).In-Whole-second in
     let r = c.run_part-r.ensures in
-    let told = rw c.if-inslice.true (r.start ∙ sym (start-of_slice _ _ _ _ p q _), r.long ∙ sym (ap length (of_slice _ _ _ _ p q _))) in
+    let told = rw c.if-inslice.true (r.start ∙ sym (start_of_slice _ _ _ _ p q _), r.long ∙ sym (ap length (of_slice _ _ _ _ p q _))) in
     record { start = told.0; length = told.1 }
 
 pub run_part-r-requires-2 : goal.run_part-r-requires-2
@@ -53,5 +53,5 @@ returns c =
     let p = plan_at (plan_of (goal.at.returns second).In-Whole-second) in
     let q = slice_at (goal.at.returns second).In-Whole-second in
     let r = c.run_part-r-2.ensures in
-    let told = rw c.if-inslice.false (r.start ∙ sym (start-of_plan _ _ _ _ p q _), r.long ∙ sym (ap length (of_plan _ _ _ _ p q _))) in
+    let told = rw c.if-inslice.false (r.start ∙ sym (start_of_plan _ _ _ _ p q _), r.long ∙ sym (ap length (of_plan _ _ _ _ p q _))) in
     record { start = told.0; length = told.1 }

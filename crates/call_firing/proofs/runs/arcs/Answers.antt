@@ -2,7 +2,7 @@ use mathlib.Core.Path.{sym, ◌∙◌}
 use Rattle.file.specs.Facts.{Opened}
 use Rattle.file_header.specs.declared.Due.TheVariants as due
 use Rattle.file.proofs.Opening.{opened}
-use Rattle.call_firing.proofs.ArcRuns.{not-read, plan_refused, slice-refused, of_slice, of_plan}
+use Rattle.call_firing.proofs.ArcRuns.{not-read, plan_refused, slice_refused, of_slice, of_plan}
 use Rattle.call_firing.proofs.runs.arcs.Goals as goal
 use Rattle.call_firing.proofs.runs.arcs.Goals.{In-Whole, In-Whole-second, Start}
 
@@ -25,7 +25,7 @@ pub returns-in_default : goal.returns-in_default
 returns-in_default c = c.no_run.ensures ∙ sym (plan_refused _ _ _ _ (not-read due.Plan _ c.read-first.ensures c.in_default.is))
 
 pub returns-in_default-second : goal.returns-in_default-second
-returns-in_default-second c = c.no_run-in_default-second.ensures ∙ sym (slice-refused _ _ _ _ (plan_at (goal.at.returns-in_default-second c).In-Whole).read (not-read due.Slice _ c.read-second.ensures c.in_default-second.is))
+returns-in_default-second c = c.no_run-in_default-second.ensures ∙ sym (slice_refused _ _ _ _ (plan_at (goal.at.returns-in_default-second c).In-Whole).read (not-read due.Slice _ c.read-second.ensures c.in_default-second.is))
 
 pub run-requires : goal.run-requires
 run-requires c = (slice_at (goal.at.run-requires c).In-Whole-second).good

@@ -3,7 +3,7 @@ use Rattle.file_words.specs.Word.{Bytes}
 use Rattle.file.specs.Facts.{Opened}
 use Rattle.file_header.specs.declared.Due.TheVariants as due
 use Rattle.file.proofs.Opening.{opened, turned_back_lem}
-use Rattle.call_firing.proofs.Followed.{slice-kind, by_plan, by_slice, both_read, ensured}
+use Rattle.call_firing.proofs.Followed.{slice_kind, by_plan, by_slice, both_read, ensured}
 use Rattle.call_firing.proofs.shadows.shadow.Goals as goal
 use Rattle.call_firing.proofs.shadows.shadow.Goals.{After-read-first, After-shared_slice_known-1, In-Whole, In-Whole-second, Start}
 
@@ -53,7 +53,7 @@ pub shadow_of-requires : goal.shadow_of-requires
 shadow_of-requires c =
     let second = c in
     let s = slice_at (goal.at.shadow_of-requires second).In-Whole-second in
-    record { sound = (plan_at (plan_of (goal.at.shadow_of-requires second).In-Whole-second)).good; sound_2 = (s.good, slice-kind s) }
+    record { sound = (plan_at (plan_of (goal.at.shadow_of-requires second).In-Whole-second)).good; sound_2 = (s.good, slice_kind s) }
 
 pub returns : goal.returns
 returns c =

@@ -4,9 +4,9 @@ use Rattle.file.specs.Facts.{Opened}
 use Rattle.file_header.specs.declared.Due.TheVariants.{Either}
 use Rattle.file.proofs.Opening.{opened, turned_back_lem}
 use Rattle.inputs_starts.specs.Startable.{Startable}
-use Rattle.inputs_starts.proofs.Calls.{opened-from, by_file, by_start}
-use Rattle.call_firing.proofs.Replayed.{read_answer, read-marking}
-use Rattle.call_firing.proofs.Begun.{from-answer, from-marking, on_answer, on_marking}
+use Rattle.inputs_starts.proofs.Calls.{opened_from, by_file, by_start}
+use Rattle.call_firing.proofs.Replayed.{read_answer, read_marking}
+use Rattle.call_firing.proofs.Begun.{from_answer, from_marking, on_answer, on_marking}
 use Rattle.call_firing.proofs.starts.replay_from.Goals as goal
 use Rattle.call_firing.proofs.starts.replay_from.Goals.{After-refusal-broken, Else-broken-ne0, In-Whole, Start}
 
@@ -30,7 +30,7 @@ returns-in_default c =
     let read = c in
     let t = turned_back_lem Either _ read.read-whole.ensures c.in_default.is c.number.ensures in
     let e = by_file Either _ read.args.start.now t.0 t.1 in
-    record { answer = from-answer _ _ _ e t.1 _; marking = from-marking _ _ _ e t.1 _ }
+    record { answer = from_answer _ _ _ e t.1 _; marking = from_marking _ _ _ e t.1 _ }
 
 pub refusal-broken-requires : goal.refusal-broken-requires
 refusal-broken-requires c = (open_at c).good.placed
@@ -38,7 +38,7 @@ refusal-broken-requires c = (open_at c).good.placed
 pub returns-then-broken-ne0 : goal.returns-then-broken-ne0
 returns-then-broken-ne0 c =
     let e = by_start Either _ _ _ (open_at (whole_of (goal.at.returns-then-broken-ne0 c).After-refusal-broken)) c.refusal-broken.ensures in
-    record { answer = from-answer _ _ _ e c.if-broken-ne0.true _; marking = from-marking _ _ _ e c.if-broken-ne0.true _ }
+    record { answer = from_answer _ _ _ e c.if-broken-ne0.true _; marking = from_marking _ _ _ e c.if-broken-ne0.true _ }
 
 pub replay-requires : goal.replay-requires
 replay-requires c = ready (goal.at.replay-requires c).Else-broken-ne0
@@ -47,6 +47,6 @@ pub returns : goal.returns
 returns c =
     let on = c in
     let r = ready (goal.at.returns on).Else-broken-ne0 in
-    let o = opened-from r (λ i. omega (arith, (whole_of (goal.at.returns on).After-refusal-broken).type_inv.file i)) in
+    let o = opened_from r (λ i. omega (arith, (whole_of (goal.at.returns on).After-refusal-broken).type_inv.file i)) in
     let x = c.replay.ensures in
-    record { answer = on_answer _ _ _ _ r _ (read_answer _ _ o _ _ _ x.answer); marking = on_marking _ _ _ _ r _ (read-marking _ _ o _ _ _ x.marking) }
+    record { answer = on_answer _ _ _ _ r _ (read_answer _ _ o _ _ _ x.answer); marking = on_marking _ _ _ _ r _ (read_marking _ _ o _ _ _ x.marking) }

@@ -1,7 +1,7 @@
 use Rattle.file.specs.Facts.{Opened}
 use Rattle.file_header.specs.declared.Due.TheVariants.{Plan}
 use Rattle.file.proofs.Opening.{opened, turned_back_lem}
-use Rattle.call_firing.proofs.Taken.{file-refused, answered}
+use Rattle.call_firing.proofs.Taken.{file_refused, answered}
 use Rattle.call_firing.proofs.takings.together.Goals as goal
 use Rattle.call_firing.proofs.takings.together.Goals.{In-Whole, Start}
 
@@ -16,7 +16,7 @@ pub returns-in_default : goal.returns-in_default
 returns-in_default c =
     let read = c in
     let s = read.args in
-    let told = file-refused s.plan.now s.transition s.marking.now s.rest.now _ (turned_back_lem Plan _ read.read-whole.ensures c.in_default.is c.number.ensures) in
+    let told = file_refused s.plan.now s.transition s.marking.now s.rest.now _ (turned_back_lem Plan _ read.read-whole.ensures c.in_default.is c.number.ensures) in
     record { answer = told.0; rest = told.1.0; largest = told.1.1 }
 
 pub takings-requires : goal.takings-requires

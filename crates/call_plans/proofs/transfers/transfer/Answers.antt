@@ -1,7 +1,7 @@
 use Rattle.file.specs.Facts.{Opened}
 use Rattle.file_header.specs.declared.Due.TheVariants.{Plan}
 use Rattle.file.proofs.Opening.{opened, turned_back_lem}
-use Rattle.call_plans.proofs.Carrying.{old_turned, new-turned, both_read}
+use Rattle.call_plans.proofs.Carrying.{old_turned, new_turned, both_read}
 use Rattle.call_plans.proofs.transfers.transfer.Goals as goal
 use Rattle.call_plans.proofs.transfers.transfer.Goals.{In-Whole, In-Whole-second, Start}
 
@@ -32,7 +32,7 @@ pub returns-in_default-second : goal.returns-in_default-second
 returns-in_default-second c =
     let first = c in
     let a = (call (goal.at.returns-in_default-second first).In-Whole).args in
-    let told = new-turned a.old.now a.new.now a.running.now a.table.now a.marking.now _ (old_at (goal.at.returns-in_default-second first).In-Whole)
+    let told = new_turned a.old.now a.new.now a.running.now a.table.now a.marking.now _ (old_at (goal.at.returns-in_default-second first).In-Whole)
     (turned_back_lem Plan _ c.read-second.ensures c.in_default-second.is c.number-in_default-second.ensures) in
     record { answer = told.0; marking = told.1.0; carried = told.1.1 }
 

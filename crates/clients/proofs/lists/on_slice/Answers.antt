@@ -1,5 +1,5 @@
 use borrow.Author.Tests.{not-true}
-use Rattle.clients.proofs.Listed.{not-accepted, not-fired, on_slice}
+use Rattle.clients.proofs.Listed.{not_accepted, not-fired, on_slice}
 use Rattle.clients.proofs.lists.on_slice.Goals as goal
 use Rattle.clients.proofs.lists.on_slice.Goals.{After-all_fired, After-code-code, After-replay-o}
 
@@ -12,7 +12,7 @@ abbrev coded : After-replay-o → After-code-code
 coded c = (goal.at.After-replay-o c).After-code-code
 
 pub returns-then-code-ne0 : goal.returns-then-code-ne0
-returns-then-code-ne0 c = λ a t p h. not-accepted _ _ _ c.check-v.ensures.answer c.code-code.ensures c.if-code-ne0.true a
+returns-then-code-ne0 c = λ a t p h. not_accepted _ _ _ c.check-v.ensures.answer c.code-code.ensures c.if-code-ne0.true a
 
 pub returns-then-not-all_fired : goal.returns-then-not-all_fired
 returns-then-not-all_fired c = λ a t p h. not-fired _ _ _ (replayed (goal.at.returns-then-not-all_fired c).After-all_fired).replay-o.ensures.answer c.all_fired.ensures (not-true _ c.if-not-all_fired.true-raw) t

@@ -3,8 +3,8 @@ use mathlib.Core.Path.{ap}
 use native.Mathlib.Omega.{arith}
 use lib.ListN.{length, length-take}
 use Rattle.promise.specs.Shadow.{ShadowAnswer}
-use Rattle.promise.proofs.Rooms.{shadow-fits}
-use Rattle.clients.proofs.Listed.{shadow-ended}
+use Rattle.promise.proofs.Rooms.{shadow_fits}
+use Rattle.clients.proofs.Listed.{shadow_ended}
 use Rattle.clients.proofs.shadows.shadow_on_slice.Goals as goal
 use Rattle.clients.proofs.shadows.shadow_on_slice.Goals.{After-count_of-end, After-shadow-s, Start}
 
@@ -20,7 +20,7 @@ call c = let known = c in known
 fits : (c : After-count_of-end) → c.count_of-end.result ≤ length (call (shadowed c)).args.out.now
 fits c =
     let a = (call (shadowed c)).args in
-    omega (arith, c.count_of-end.ensures, ap (λ (s : ShadowAnswer). s.count) (shadowed c).shadow-s.ensures.answer, shadow-fits a.plan.now a.slice.now a.list.now (length a.marking.now) (length a.out.now))
+    omega (arith, c.count_of-end.ensures, ap (λ (s : ShadowAnswer). s.count) (shadowed c).shadow-s.ensures.answer, shadow_fits a.plan.now a.slice.now a.list.now (length a.marking.now) (length a.out.now))
 
 pub slice_bounds-replay-end : goal.slice_bounds-replay-end
 slice_bounds-replay-end c = omega (arith, fits c)
@@ -33,4 +33,4 @@ returns c =
     let again = c in
     let counted = again in
     let s = (shadowed (goal.at.returns counted).After-count_of-end).shadow-s.ensures in
-    λ Q a z h. shadow-ended _ _ _ _ _ _ _ _ _ Q s.answer s.followed counted.count_of-end.ensures a z h again.replay.ensures.answer again.replay.ensures.marking
+    λ Q a z h. shadow_ended _ _ _ _ _ _ _ _ _ Q s.answer s.followed counted.count_of-end.ensures a z h again.replay.ensures.answer again.replay.ensures.marking

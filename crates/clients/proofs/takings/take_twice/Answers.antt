@@ -2,7 +2,7 @@ use native.Mathlib.Omega.{arith}
 use Prim.Native.Nat.{◌≤◌}
 use lib.ListN.{length, length-take}
 use borrow.Author.Tests.{not-true, not-false}
-use Rattle.clients.proofs.Taken.{emptied, not-limited, limited_fits, again-0}
+use Rattle.clients.proofs.Taken.{emptied, not-limited, limited_fits, again_0}
 use Rattle.clients.proofs.takings.take_twice.Goals as goal
 use Rattle.clients.proofs.takings.take_twice.Goals.{After-is_limited, After-together-first, Else-not-is_limited, Start}
 
@@ -36,4 +36,4 @@ returns c =
     let second = c in
     let passed = second in
     let s = (first_of (goal.at.returns passed).After-is_limited).together-first.ensures in
-    record { left = emptied _ _ _ _ _ s.answer s.largest; none = again-0 _ _ _ _ _ s.answer s.largest _ _ (omega (arith, fits (goal.at.returns passed).Else-not-is_limited)) second.together.ensures.answer second.together.ensures.largest }
+    record { left = emptied _ _ _ _ _ s.answer s.largest; none = again_0 _ _ _ _ _ s.answer s.largest _ _ (omega (arith, fits (goal.at.returns passed).Else-not-is_limited)) second.together.ensures.answer second.together.ensures.largest }

@@ -2,7 +2,7 @@ use Prim.Native.Nat.{◌≤◌}
 use mathlib.Core.Path.{sym}
 use lib.ListN.{length}
 use lib.Seq.{length-take-le}
-use Rattle.clients_starts.proofs.Accepting.{branching-refused, branching-room, branching-accepted}
+use Rattle.clients_starts.proofs.Accepting.{branching-refused, branching_room, branching-accepted}
 use Rattle.clients_starts.proofs.cuts.branching.Goals as goal
 use Rattle.clients_starts.proofs.cuts.branching.Goals.{After-branching_from-done, After-slice_known-2-1, In-Written, Start}
 
@@ -25,7 +25,7 @@ room : (c : In-Written) → c.in-Written.n ≤ length (cut_of (goal.at.In-Writte
 room c =
     let done = cut_at c in
     let s = (call done).args in
-    branching-room s.plan.now s.start.now s.criterion.now s.buffer.now done.branching_from-done.ensures.answer done.branching_from-done.ensures.buffer c.in-Written.is
+    branching_room s.plan.now s.start.now s.criterion.now s.buffer.now done.branching_from-done.ensures.answer done.branching_from-done.ensures.buffer c.in-Written.is
 
 pub returns-in_default : goal.returns-in_default
 returns-in_default c =

@@ -2,7 +2,7 @@ use Rattle.std.proofs.Common.{◌≡◌, ℕ, ◌+◌, ◌-◌, ◌<◌, ◌≤�
 use borrow.Author.Tests.{not-false}
 use Rattle.file_arcs.specs.Sweep.{both_fit, FitIn}
 use Rattle.file_words.proofs.Laws.{or-false}
-use Rattle.file_arcs.proofs.Marks.{both_fit_lem, narrow, at-start, one_on, two_on, all_done}
+use Rattle.file_arcs.proofs.Marks.{both_fit_lem, narrow, at_start, one_on, two_on, all_done}
 use Rattle.file_arcs.proofs.sweep.all_good.Goals as goal
 use Rattle.file_arcs.proofs.sweep.all_good.Goals.{At-loop-at, Else-count-eq0, Else-not-fit, Else-not-fit-2, In-loop-at, Start}
 
@@ -54,7 +54,7 @@ last_inside c =
     (omega (arith, inv.1, inv.2, c.loop-at-test.false, c.if-count-eq0.false), omega (arith, inv.1, inv.2, c.loop-at-test.false, c.if-count-eq0.false, (call (goal.at.Else-count-eq0 t).At-loop-at).requires.count_in_bounds))
 
 pub loop-at-init : goal.loop-at-init
-loop-at-init c = (c.args.count, refl, refl, at-start _ _ _ _ _)
+loop-at-init c = (c.args.count, refl, refl, at_start _ _ _ _ _)
 
 pub word-w-requires : goal.word-w-requires
 word-w-requires c = omega (arith, (pair_inside c).1)

@@ -6,7 +6,7 @@ use lib.Dec.{eqb}
 use lib.ListN.{length}
 use Rattle.file_words.specs.Word.{le32}
 use Rattle.file_words.specs.Refusal.{caps_refusal, over_cap}
-use Rattle.file_words.proofs.Laws.{caps-step, caps-end}
+use Rattle.file_words.proofs.Laws.{caps_step, caps_end}
 use Rattle.file_words.proofs.Through.{passed, one_more, and-true}
 use Rattle.file_words.proofs.capacity.bounded.Goals as goal
 use Rattle.file_words.proofs.capacity.bounded.Goals.{At-loop-at, In-loop-at, Start}
@@ -46,11 +46,11 @@ loop-at-preserved c =
       left - 1,
       omega (arith, loop.invariant.1, some),
       one_more loop.above c.over-above.result (eqb rest 0) _
-          (loop.invariant.2 ∙ ap (λ (x : Bool). not loop.above && x) (ap (λ (n : ℕ). eqb n 0) (caps-step file loop.at left some) ∙ passed (over_cap (le32 file loop.at) (le32 file (loop.at + 4))) 15 rest ∙ ap (λ (b : Bool). not b && eqb rest 0) over)),
+          (loop.invariant.2 ∙ ap (λ (x : Bool). not loop.above && x) (ap (λ (n : ℕ). eqb n 0) (caps_step file loop.at left some) ∙ passed (over_cap (le32 file loop.at) (le32 file (loop.at + 4))) 15 rest ∙ ap (λ (b : Bool). not b && eqb rest 0) over)),
     )
 
 pub returns : goal.returns
 returns c =
     let loop = c.loop-at in
     let none : loop.invariant.0 ≤ 0 = omega (arith, loop.invariant.1, c.loop-at-test.false) in
-    sym (loop.invariant.2 ∙ rw (caps-end (call (goal.at.returns c).At-loop-at).args.file.now loop.at loop.invariant.0 none) (and-true loop.above))
+    sym (loop.invariant.2 ∙ rw (caps_end (call (goal.at.returns c).At-loop-at).args.file.now loop.at loop.invariant.0 none) (and-true loop.above))

@@ -1,6 +1,6 @@
 use mathlib.Core.Path.{◌∙◌, ap}
 use Rattle.promise.specs.Normal.{FileAnswer}
-use Rattle.nesfoal.proofs.AsRead.{normal-for_c}
+use Rattle.nesfoal.proofs.AsRead.{normal_for_c}
 use Rattle.nesfoal.proofs.plans.nesfoal_normal.Goals as goal
 
 pub returns : goal.returns
@@ -9,4 +9,4 @@ returns c =
     let e = s.answer in
     let r = c.refusal.ensures ∙ ap (λ (a : FileAnswer). a.refusal) e in
     let n = c.length_of.ensures ∙ ap (λ (a : FileAnswer). a.length) e in
-    record { answer = r; buffer = s.buffer; long = n; form = normal-for_c _ _ e s.form r n }
+    record { answer = r; buffer = s.buffer; long = n; form = normal_for_c _ _ e s.form r n }

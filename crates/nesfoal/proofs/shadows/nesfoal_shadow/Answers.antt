@@ -3,7 +3,7 @@ use native.Mathlib.Omega.{arith}
 use lib.ListN.{length}
 use Rattle.promise.specs.Shadow.{ShadowAnswer}
 use Rattle.nesfoal.specs.Replays.{replay_code}
-use Rattle.nesfoal.proofs.AsFollowed.{followed-fired, followed-stuck}
+use Rattle.nesfoal.proofs.AsFollowed.{followed_fired, followed_stuck}
 use Rattle.nesfoal.proofs.shadows.nesfoal_shadow.Goals as goal
 use Rattle.nesfoal.proofs.shadows.nesfoal_shadow.Goals.{After-code, After-index_of, After-shadow-s, Start}
 
@@ -29,6 +29,6 @@ returns c =
     let place = c.place_of.ensures ∙ ap (λ (x : ShadowAnswer). x.run.place) e.answer in
     let amount = c.amount_of.ensures ∙ ap (λ (x : ShadowAnswer). x.run.amount) e.answer in
     let count = c.count_of.ensures ∙ ap (λ (x : ShadowAnswer). x.count) e.answer in
-    let fired = followed-fired a.plan.now a.slice.now a.list.now (length a.marking.now) (length a.out.now) out e.answer e.followed code count in
-    let stuck = followed-stuck a.plan.now a.slice.now a.list.now (length a.marking.now) (length a.out.now) out e.answer e.followed code count in
+    let fired = followed_fired a.plan.now a.slice.now a.list.now (length a.marking.now) (length a.out.now) out e.answer e.followed code count in
+    let stuck = followed_stuck a.plan.now a.slice.now a.list.now (length a.marking.now) (length a.out.now) out e.answer e.followed code count in
     record { answer = code; marking = e.marking; output = e.output; index = index; place = place; amount = amount; count = count; fired = fired; short = stuck 100 (omega arith); full = stuck 101 (omega arith) }

@@ -2,9 +2,9 @@ use Prim.Native.Nat.{◌*◌, ◌+◌, ◌<◌}
 use native.Mathlib.Omega.{arith}
 use lib.ListN.{length, get_or}
 use Rattle.replay_steps.proofs.Underway.{Tabulated, tabulated, split_by}
-use Rattle.replay_firing.proofs.Firing.{arcs-fit}
+use Rattle.replay_firing.proofs.Firing.{arcs_fit_lem}
 use Rattle.replay_firing.proofs.Short.{Weighed, covered_none, weigh, known}
-use Rattle.replay.proofs.Underway.{going_on, ended-rest, ready_on, long-still, ended-fired, ended-short, ended-full, firable, fired-capped}
+use Rattle.replay.proofs.Underway.{going_on, ended-rest, ready_on, long_still, ended-fired, ended-short, ended-full, firable, fired_capped}
 use Rattle.replay.proofs.capped.run_capped.Goals as goal
 use Rattle.replay.proofs.capped.run_capped.Goals.{After-add_up-need, After-fire_capped-full, After-shared_slice_known-in-firings-1, At-firings, At-loop-j, Start}
 
@@ -88,12 +88,12 @@ overflow_mul-j c =
 pub overflow_add-h : goal.overflow_add-h
 overflow_add-h c =
     let x = c.loop-j.invariant in
-    omega (arith, known x c.loop-j-test.true, arcs-fit x.sound, x.sound.placed.short)
+    omega (arith, known x c.loop-j-test.true, arcs_fit_lem x.sound, x.sound.placed.short)
 
 pub arc-a-requires : goal.arc-a-requires
 arc-a-requires c =
     let x = c.loop-j.invariant in
-    omega (arith, known x c.loop-j-test.true, arcs-fit x.sound)
+    omega (arith, known x c.loop-j-test.true, arcs_fit_lem x.sound)
 
 pub add_up-need-requires : goal.add_up-need-requires
 add_up-need-requires c =
@@ -106,7 +106,7 @@ offset_bounds-marking-p c = omega (arith, c.arc-a.ensures.1.place)
 pub bounds-marking-p : goal.bounds-marking-p
 bounds-marking-p c =
     let f = firing (goal.at.bounds-marking-p c).At-loop-j in
-    omega (arith, (weighed (goal.at.bounds-marking-p c).After-add_up-need).place, long-still f.firings.invariant.was f.firings.invariant.is, (call f).requires.ready.places)
+    omega (arith, (weighed (goal.at.bounds-marking-p c).After-add_up-need).place, long_still f.firings.invariant.was f.firings.invariant.is, (call f).requires.ready.places)
 
 -- ---- a place that is short
 
@@ -168,12 +168,12 @@ firings-preserved c =
     let f = firing x in
     let ready = (call f).requires.ready in
     let i = f.firings.invariant in
-    going_on i (fired-capped i.is (listed_at x) done.fire_capped-full.ensures c.in_default.is ready.sound ready.bytes)
+    going_on i (fired_capped i.is (listed_at x) done.fire_capped-full.ensures c.in_default.is ready.sound ready.bytes)
 
 -- ---- the ends
 
 pub shape_of-marking-then-list-k : goal.shape_of-marking-then-list-k
-shape_of-marking-then-list-k c = let i = c.firings.invariant in long-still i.was i.is
+shape_of-marking-then-list-k c = let i = c.firings.invariant in long_still i.was i.is
 
 pub returns-then-list-k : goal.returns-then-list-k
 returns-then-list-k c = let i = c.firings.invariant in ended-rest i (ended-fired i.is c.if-list-k.true)
@@ -181,7 +181,7 @@ returns-then-list-k c = let i = c.firings.invariant in ended-rest i (ended-fired
 pub shape_of-marking-then-count-need : goal.shape_of-marking-then-count-need
 shape_of-marking-then-count-need c =
     let i = (firing (goal.at.shape_of-marking-then-count-need c).At-loop-j).firings.invariant in
-    long-still i.was i.is
+    long_still i.was i.is
 
 pub returns-then-count-need : goal.returns-then-count-need
 returns-then-count-need c =

@@ -5,7 +5,7 @@ use lib.Dec.{eqb}
 use lib.ListN.{length}
 use lib.Seq.{sets, length-sets}
 use Rattle.file_words.specs.Word.{bytes32}
-use Rattle.starting.proofs.Places.{two_stored, least-place, place-capped, place-plain, next-capped, next-plain}
+use Rattle.starting.proofs.Places.{two_stored, least_place, place-capped, place-plain, next-capped, next-plain}
 use Rattle.starting.proofs.cuts.put_place.Goals as goal
 use Rattle.starting.proofs.cuts.put_place.Goals.{After-cap-most, After-put32, Start, Then-h-eq-CAPS}
 
@@ -23,7 +23,7 @@ put_of c = (goal.at.Then-h-eq-CAPS c).After-put32
 pub put32-requires : goal.put32-requires
 put32-requires c =
     let s = c in
-    omega (arith, s.requires.edition_in_bounds, least-place (eqb s.args.h.edition 2))
+    omega (arith, s.requires.edition_in_bounds, least_place (eqb s.args.h.edition 2))
 
 -- room for both numbers
 room : (c : Then-h-eq-CAPS) → let s = call (put_of c) in s.args.at + 8 ≤ length s.args.buffer.now

@@ -10,7 +10,7 @@ use Rattle.file.specs.Layout.{net_from}
 use Rattle.promise.specs.Together.{standing}
 use Rattle.sets.specs.Member.{member}
 use Rattle.slice.specs.Kept.{kept_pair}
-use Rattle.starting.proofs.Places.{as_kept, refused-too, room_for, written_over, passed-kept}
+use Rattle.starting.proofs.Places.{as_kept, refused_too, room_for, written_over, passed_kept}
 use Rattle.starting.proofs.cuts.write.Goals as goal
 use Rattle.starting.proofs.cuts.write.Goals.{After-refused, After-write-done, Start}
 
@@ -38,7 +38,7 @@ returns-then-refused c =
     let w = written (goal.at.returns-then-refused c).After-refused in
     let s = call w in
     let a = s.args in
-    refused-too a.h.edition (standing a.start.now) (plan s) (ps s) (ts s)
+    refused_too a.h.edition (standing a.start.now) (plan s) (ps s) (ts s)
     (as_kept a.plan.now a.h (kept_pair a.places.now a.transitions.now) (record { answer = w.write-done.ensures.answer; buffer = w.write-done.ensures.buffer }))
     (sym c.refused.ensures ∙ c.if-refused.true)
 
@@ -53,7 +53,7 @@ put_start-requires c =
     let room = room_for a.h.edition (standing a.start.now) (plan s) (ps s) (ts s) {entry = a.buffer.now} {r = w.write-done.result}
     (as_kept a.plan.now a.h (kept_pair a.places.now a.transitions.now) (record { answer = w.write-done.ensures.answer; buffer = w.write-done.ensures.buffer }))
     (sym whole.refused.ensures ∙ whole.if-refused.false) in
-    record { placed = s.requires.sound.placed; start_len = s.requires.start_len; places_in_bounds = omega (arith, room, ap length (passed-kept a.h.edition (standing a.start.now) (plan s) (member a.places.now) a.h.places)) }
+    record { placed = s.requires.sound.placed; start_len = s.requires.start_len; places_in_bounds = omega (arith, room, ap length (passed_kept a.h.edition (standing a.start.now) (plan s) (member a.places.now) a.h.places)) }
 
 pub returns : goal.returns
 returns c =
@@ -65,4 +65,4 @@ returns c =
     written_over a.h.edition (standing a.start.now) (plan s) (ps s) (ts s)
     (as_kept a.plan.now a.h (kept_pair a.places.now a.transitions.now) (record { answer = w.write-done.ensures.answer; buffer = w.write-done.ensures.buffer }))
     (sym whole.refused.ensures ∙ whole.if-refused.false)
-    (put.put_start.ensures ∙ ap (sets _ 0) (passed-kept a.h.edition (standing a.start.now) (plan s) (member a.places.now) a.h.places))
+    (put.put_start.ensures ∙ ap (sets _ 0) (passed_kept a.h.edition (standing a.start.now) (plan s) (member a.places.now) a.h.places))

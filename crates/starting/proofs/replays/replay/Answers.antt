@@ -6,7 +6,7 @@ use Rattle.net.proofs.Markings.{length-tokens}
 use Rattle.file.specs.Layout.{net_from}
 use Rattle.promise.specs.Starts.{started_from}
 use Rattle.inputs_lists.proofs.Passing.{kept-refused, written-whole}
-use Rattle.replay.proofs.Listing.{list-passes, room-enough, told-refused, told-whole}
+use Rattle.replay.proofs.Listing.{list_passes, room_enough, told-refused, told-whole}
 use Rattle.starting.proofs.replays.replay.Goals as goal
 
 pub held_back-refused-requires : goal.held_back-refused-requires
@@ -18,12 +18,12 @@ returns-then-refused-ne0 c = record { answer = told-refused _ _ c.held_back-refu
 pub slice_bounds-replay_all-end : goal.slice_bounds-replay_all-end
 slice_bounds-replay_all-end c =
     let s = c.args in
-    room-enough s.h s.list.now (length s.marking.now) c.held_back-refused.ensures c.if-refused-ne0.false
+    room_enough s.h s.list.now (length s.marking.now) c.held_back-refused.ensures c.if-refused-ne0.false
 
 pub slice_bounds-replay_all-end-2 : goal.slice_bounds-replay_all-end-2
 slice_bounds-replay_all-end-2 c =
     let s = c.args in
-    sym (length-take-le s.h.places s.marking.now (room-enough s.h s.list.now (length s.marking.now) c.held_back-refused.ensures c.if-refused-ne0.false))
+    sym (length-take-le s.h.places s.marking.now (room_enough s.h s.list.now (length s.marking.now) c.held_back-refused.ensures c.if-refused-ne0.false))
 
 pub replay_all-requires : goal.replay_all-requires
 replay_all-requires c =
@@ -33,8 +33,8 @@ replay_all-requires c =
     let none = c.if-refused-ne0.false in
     record {
       startable = start.requires;
-      list = list-passes s.h s.list.now (length s.marking.now) back none;
-      places = length-take-le s.h.places s.marking.now (room-enough s.h s.list.now (length s.marking.now) back none);
+      list = list_passes s.h s.list.now (length s.marking.now) back none;
+      places = length-take-le s.h.places s.marking.now (room_enough s.h s.list.now (length s.marking.now) back none);
     }
 
 pub returns : goal.returns

@@ -5,12 +5,12 @@ use lib.ListN.{length, get_or}
 use borrow.Author.Count.{below_more}
 use borrow.Author.Tests.{not-true, not-false}
 use Rattle.file.specs.Layout.{net_from, slice_from}
-use Rattle.file.proofs.Rows.{length-words, words-at}
+use Rattle.file.proofs.Rows.{length-words, words_at}
 use Rattle.promise.specs.Together.{standing}
 use Rattle.promise.specs.Starts.{starting_at}
 use Rattle.rules_origins.specs.Known.{same_at}
 use Rattle.rules_origins.proofs.Reached.{place-origins}
-use Rattle.rules_origins.proofs.Keeping.{other-found, other_none}
+use Rattle.rules_origins.proofs.Keeping.{other_found, other_none}
 use Rattle.starting.proofs.verdicts.other_start.Goals as goal
 use Rattle.starting.proofs.verdicts.other_start.Goals.{After-alike, After-get16-origin, At-loop-i, In-loop-i, Start}
 
@@ -30,7 +30,7 @@ origin_is : (c : After-get16-origin) → let t = (turn_of c) in let a = (call (g
 origin_is c =
     let t = turn_of c in
     let a = (call (goal.at.In-loop-i t).At-loop-i).args in
-    c.get16-origin.ensures.0 ∙ sym (words-at a.slice.now a.hs.originstart a.hs.places t.loop-i.i t.loop-i-test.true)
+    c.get16-origin.ensures.0 ∙ sym (words_at a.slice.now a.hs.originstart a.hs.places t.loop-i.i t.loop-i-test.true)
 
 inside : (c : In-loop-i) → let a = (call (goal.at.In-loop-i c).At-loop-i).args in c.loop-i.i < length (slice_from a.slice.now a.hs).place_origins
 inside c = let a = (call (goal.at.In-loop-i c).At-loop-i).args in omega (arith, length-words a.slice.now a.hs.originstart a.hs.places, c.loop-i-test.true)
@@ -75,7 +75,7 @@ returns-then-not-alike c =
     let t = turn_of (read_of (goal.at.returns-then-not-alike same).After-alike) in
     let pre = (call (goal.at.In-loop-i t).At-loop-i).requires in
     origin_is (read_of (goal.at.returns-then-not-alike same).After-alike)
-    ∙ other-found _ _ (pre.sound.place_origins pre.kind_value) pre.known t.loop-i.i (inside t) t.loop-i.invariant.1
+    ∙ other_found _ _ (pre.sound.place_origins pre.kind_value) pre.known t.loop-i.i (inside t) t.loop-i.invariant.1
     (sym (compared (goal.at.returns-then-not-alike same).After-alike) ∙ not-true _ c.if-not-alike.true-raw)
 
 pub loop-i-preserved : goal.loop-i-preserved
