@@ -6,10 +6,10 @@ set -eu
 root=$(cd "$(dirname "$0")/.." && pwd)
 to=${1:-$root/docs}
 
-# what a crate uses of the toolchain's own (io, os) is not drawn
+# what a crate uses of the toolchain's own (io) is not drawn
 LC_ALL=C awk -v dot="$to/map.dot" -v svg="$to/map.svg" '
     /^#/ { heading = substr($0, 3); next }
-    /^[a-z_]+:/ {
+    /^[a-z_]+( staticlib)?:/ {
         name = $1; sub(/:$/, "", name)
         crates[++n] = name; known[name] = 1
         sub(/^[^:]*:/, "")

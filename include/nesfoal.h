@@ -28,7 +28,7 @@
  * - It allocates nothing, keeps no state, and reads and writes nothing but its arguments; so calls may run on many threads at once.
  * README.md says what the proofs themselves assume.
  *
- * Link with libnesfoal.a (`rt staticlib nesfoal`).
+ * Link with libnesfoal.a (`dist/archive` makes it).
  */
 #ifndef NESFOAL_H
 #define NESFOAL_H

@@ -1,4 +1,4 @@
-//! Says where the library's archive stands: `rt staticlib nesfoal`, at the root of the repository, makes it. NESFOAL_ARCHIVE names
+//! Says where the library's archive stands: dist/archive, at the root of the repository, makes it. NESFOAL_ARCHIVE names
 //! another folder with one.
 
 use std::env;

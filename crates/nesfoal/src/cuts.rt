@@ -47,8 +47,7 @@ fn transitions_of(c: Cut) -> u32
 }
 
 // The safety cut: 0 or the number of a refusal; the file's length and the kept counts go to the last three, zeros where it is refused.
-#[unsafe(no_mangle)]
-pub extern "C" fn nesfoal_safety(
+pub fn nesfoal_safety(
     plan: &[u8],
     criterion: &[u16],
     buffer: &mut [u8],
@@ -71,8 +70,7 @@ pub extern "C" fn nesfoal_safety(
 }
 
 // The branching cut: 0 or the number of a refusal; the file's length and the kept counts go to the last three, zeros where it is refused.
-#[unsafe(no_mangle)]
-pub extern "C" fn nesfoal_branching(
+pub fn nesfoal_branching(
     plan: &[u8],
     criterion: &[u16],
     buffer: &mut [u8],
@@ -94,8 +92,7 @@ pub extern "C" fn nesfoal_branching(
 }
 
 // The safety cut from a lent marking.
-#[unsafe(no_mangle)]
-pub extern "C" fn nesfoal_safety_from(
+pub fn nesfoal_safety_from(
     plan: &[u8],
     start: &[u64],
     criterion: &[u16],
@@ -119,8 +116,7 @@ pub extern "C" fn nesfoal_safety_from(
 }
 
 // The branching cut from a lent marking.
-#[unsafe(no_mangle)]
-pub extern "C" fn nesfoal_branching_from(
+pub fn nesfoal_branching_from(
     plan: &[u8],
     start: &[u64],
     criterion: &[u16],

@@ -26,8 +26,7 @@ fn value(c: Change) -> i32
 }
 
 // Effect: 0 or the number of a refusal; the effect goes to `to`, 0 where it is refused.
-#[unsafe(no_mangle)]
-pub extern "C" fn nesfoal_effect(file: &[u8], place: u32, transition: u32, to: &mut i32) -> u32
+pub fn nesfoal_effect(file: &[u8], place: u32, transition: u32, to: &mut i32) -> u32
     ensures answer { result ≡ (effect_answer file.now place transition).refusal }
     ensures effect { to.new ≡ (effect_answer file.now place transition).effect }
 {

@@ -1,7 +1,6 @@
 #![tactic(auto)]
 
-// The C interface: each public call of the crates call_* as a C function, its answer as numbers. Only a crate's own C functions are in its
-// archive, so all of them stand here.
+// The C interface: each public call of the crates call_* with its answer as numbers. crates/nesfoal_c exports each of them to C under its name.
 pub mod cuts;
 pub mod effects;
 pub mod plans;

@@ -27,8 +27,7 @@ fn length_of(f: File) -> u32
 }
 
 // The normal form of a plan: 0 or the number of a refusal; the file's length goes to the last parameter, 0 where it is refused.
-#[unsafe(no_mangle)]
-pub extern "C" fn nesfoal_normal(plan: &[u8], buffer: &mut [u8], long: &mut u32) -> u32
+pub fn nesfoal_normal(plan: &[u8], buffer: &mut [u8], long: &mut u32) -> u32
     ensures answer { result ≡ (normal_answer plan.now (length buffer.old)).refusal }
     ensures buffer { buffer.new ≡ normal_buffer plan.now buffer.old }
     ensures long { long.new ≡ (normal_answer plan.now (length buffer.old)).length }
@@ -40,8 +39,7 @@ pub extern "C" fn nesfoal_normal(plan: &[u8], buffer: &mut [u8], long: &mut u32)
 }
 
 // The plan of a text in PNML: 0 or the number of a refusal; the file's length goes to the last parameter, 0 where it is refused.
-#[unsafe(no_mangle)]
-pub extern "C" fn nesfoal_from_pnml(text: &[u8], buffer: &mut [u8], long: &mut u32) -> u32
+pub fn nesfoal_from_pnml(text: &[u8], buffer: &mut [u8], long: &mut u32) -> u32
     ensures answer { result ≡ (pnml_answer text.now (length buffer.old)).refusal }
     ensures buffer { buffer.new ≡ pnml_buffer text.now buffer.old }
     ensures long { long.new ≡ (pnml_answer text.now (length buffer.old)).length }

@@ -20,8 +20,7 @@ fn code(a: Range) -> u32
 
 // 0 where the list fires from every marking between the plan's and the upper list, 100 where from some but not all, 101 where from none, or the
 // number of a refusal; what the list needs goes to the last parameter.
-#[unsafe(no_mangle)]
-pub extern "C" fn nesfoal_range(plan: &[u8], list: &[u16], upper: &[u32], need: &mut [u64]) -> u32
+pub fn nesfoal_range(plan: &[u8], list: &[u16], upper: &[u32], need: &mut [u64]) -> u32
     ensures answer { result ≡ range_code (range_answer plan.now list.now upper.now (length need.old)) }
     ensures need { need.new ≡ range_need plan.now list.now upper.now need.old }
     ensures range { TellsRange plan.now list.now upper.now (range_read result) need.new }

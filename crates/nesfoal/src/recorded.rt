@@ -91,8 +91,7 @@ fn amount_of(c: RunCut) -> u32
 
 // The run cut: 0 or the number of a refusal. The file's length, the kept counts and how many positions were chosen go to the next four, zeros where it is refused;
 // index, place and the tokens missing there to the last three, zeros but where the number is 14.
-#[unsafe(no_mangle)]
-pub extern "C" fn nesfoal_run_cut(
+pub fn nesfoal_run_cut(
     plan: &[u8],
     criterion: &[u16],
     list: &[u16],

@@ -57,8 +57,7 @@ fn amount_of(o: Outcome) -> u32
 
 // Replay: 0 where all fired, 100 where the list is stuck on a place that is short, 101 on one that is full, or the number of a refusal; index,
 // place and the tokens missing there, or above its cap, go to the last three parameters, zeros where the list is not stuck.
-#[unsafe(no_mangle)]
-pub extern "C" fn nesfoal_replay(
+pub fn nesfoal_replay(
     file: &[u8],
     list: &[u16],
     marking: &mut [u64],
@@ -80,8 +79,7 @@ pub extern "C" fn nesfoal_replay(
 }
 
 // The same from a lent marking.
-#[unsafe(no_mangle)]
-pub extern "C" fn nesfoal_replay_from(
+pub fn nesfoal_replay_from(
     file: &[u8],
     start: &[u64],
     list: &[u16],

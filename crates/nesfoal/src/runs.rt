@@ -3,8 +3,7 @@ ghost use Rattle.std.specs.Prelude.{◌≡◌, length};
 ghost use Rattle.promise.specs.Firing.{arc_run, arc_start};
 
 // Arcs: the run's length in bytes; where it starts in the file named goes to `start`, 0 where the run is empty.
-#[unsafe(no_mangle)]
-pub extern "C" fn nesfoal_arcs(
+pub fn nesfoal_arcs(
     plan: &[u8],
     slice: &[u8],
     inslice: bool,

@@ -68,8 +68,7 @@ fn count_of(s: Shadow) -> u32
 
 // A run and its shadow: 0, 100 or 101 as of replay, or the number of a refusal; index, place and amount go to the next three parameters,
 // zeros where the list is not stuck; the count of the shadow goes to the last, 0 where the call is refused.
-#[unsafe(no_mangle)]
-pub extern "C" fn nesfoal_shadow(
+pub fn nesfoal_shadow(
     plan: &[u8],
     slice: &[u8],
     list: &[u16],

@@ -29,8 +29,7 @@ fn times_of(a: Together) -> u64
 }
 
 // 0, 100 where any number of times fits, or the number of a refusal; the largest number of times goes to the last parameter, 0 where there is none.
-#[unsafe(no_mangle)]
-pub extern "C" fn nesfoal_together(
+pub fn nesfoal_together(
     plan: &[u8],
     transition: u32,
     marking: &[u64],

@@ -3,8 +3,7 @@ ghost use Rattle.std.specs.Prelude.{◌≡◌, length};
 ghost use Rattle.promise.specs.Transfer.{transfer_answer, transfer_marking, Carried};
 
 // 0, or the number of a refusal.
-#[unsafe(no_mangle)]
-pub extern "C" fn nesfoal_transfer(
+pub fn nesfoal_transfer(
     old: &[u8],
     new: &[u8],
     running: &[u64],

@@ -7,8 +7,7 @@ ghost use Rattle.promise.specs.Calls.{checked, checked_bytes};
 ghost use Rattle.promise.specs.Starts.{net_at, checked_from};
 
 // Check, the criterion as 2 bytes a place, low byte first: 0 accepted, 1 to 10 or 16 a refusal, 100 plus the rule otherwise.
-#[unsafe(no_mangle)]
-pub extern "C" fn nesfoal_check(plan: &[u8], slice: &[u8], q: &[u8]) -> u32
+pub fn nesfoal_check(plan: &[u8], slice: &[u8], q: &[u8]) -> u32
     ensures answer { result ≡ checked_bytes plan.now slice.now q.now }
     ensures guarantee { result ≡ 0 → Guarantee (net_of plan.now) (slice_of slice.now) (criterion_of q.now) }
 {
@@ -16,8 +15,7 @@ pub extern "C" fn nesfoal_check(plan: &[u8], slice: &[u8], q: &[u8]) -> u32
 }
 
 // Check, the criterion as numbers; the place or transition that breaks the rule goes to `to`, 0 where there is none.
-#[unsafe(no_mangle)]
-pub extern "C" fn nesfoal_verdict(plan: &[u8], slice: &[u8], q: &[u16], to: &mut u32) -> u32
+pub fn nesfoal_verdict(plan: &[u8], slice: &[u8], q: &[u16], to: &mut u32) -> u32
     ensures answer { result ≡ (checked plan.now slice.now q.now).code }
     ensures number { to.new ≡ (checked plan.now slice.now q.now).number }
     ensures guarantee { result ≡ 0 → Guarantee (net_of plan.now) (slice_of slice.now) q.now }
@@ -28,8 +26,7 @@ pub extern "C" fn nesfoal_verdict(plan: &[u8], slice: &[u8], q: &[u16], to: &mut
 }
 
 // Check from a lent marking, against which rule 3 compares.
-#[unsafe(no_mangle)]
-pub extern "C" fn nesfoal_verdict_from(
+pub fn nesfoal_verdict_from(
     plan: &[u8],
     slice: &[u8],
     start: &[u64],

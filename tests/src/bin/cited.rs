@@ -9,7 +9,7 @@ use std::fs;
 use std::path::{Path, PathBuf};
 use std::process::exit;
 
-/// The crates whose public functions are the calls: the families, and the C interface.
+/// The crates whose public functions are the calls: the families, and the C interface (nesfoal_c says the same again).
 fn of_calls(name: &str) -> bool {
     name.starts_with("call_") || name == "nesfoal"
 }
@@ -32,10 +32,10 @@ struct Source {
     contracts: BTreeMap<String, String>,
 }
 
-/// The file that a path of a `use` line names: `Rattle·net.specs.Net`, or from within the crate `Rattle·net·specs.specs.Net`.
+/// The file that a path of a `use` line names, as `Rattle.net.specs.Net`; none for the library that comes with the toolchain.
 fn module(path: &str) -> Option<String> {
-    let (name, rest) = path.strip_prefix("Rattle·")?.split_once(".specs.")?;
-    Some(format!("{}.{rest}", name.trim_end_matches("·specs")))
+    let (name, rest) = path.strip_prefix("Rattle.")?.split_once(".specs.")?;
+    (name != "std").then(|| format!("{name}.{rest}"))
 }
 
 /// What is declared in a crate's code stands in no file of specs/.
@@ -45,7 +45,7 @@ fn declared(module: &str) -> bool {
 
 /// The names that a text cites: no fields, which a point leads, and none that is given there, as `name :` or `{ name = .. }`.
 fn words(text: &str) -> Vec<&str> {
-    let marks = |c: char| "(){}[],;|⌜⌝".contains(c);
+    let marks = |c: char| "(){}[],;|".contains(c);
     let all: Vec<&str> = text
         .split_whitespace()
         .flat_map(|part| part.split_inclusive(marks))
@@ -142,14 +142,16 @@ impl Tree {
         let mut found = Vec::new();
         let source = &self.sources[file];
         for word in words(text) {
-            let own = source.defined(word);
-            let (from, name) = match word.split_once('.') {
-                _ if !own.is_empty() => (file.to_string(), word.to_string()),
-                Some((here, name)) if source.renamed.contains_key(here) => {
-                    (source.renamed[here].clone(), name.to_string())
-                }
-                _ if source.used.contains_key(word) => source.used[word].clone(),
-                _ => continue,
+            // what stands behind a point is a field, or a name of a file that is used under another name
+            let (head, rest) = word.split_once('.').unwrap_or((word, ""));
+            let (from, name) = if !source.defined(head).is_empty() {
+                (file.to_string(), head.to_string())
+            } else if let Some(from) = source.renamed.get(head) {
+                (from.clone(), rest.to_string())
+            } else if let Some(one) = source.used.get(head) {
+                one.clone()
+            } else {
+                continue;
             };
             let names = self.sources.get(&from).map_or(Vec::new(), |source| source.defined(&name));
             if names.is_empty() && !declared(&from) {
@@ -262,12 +264,13 @@ mod tests {
         "-- two lines\nunfoldable pub low : ℕ\nlow = 1\n\npub data Way : Type 0 where\n  up : Way\n  down : Way\n";
     const AHEAD: &str = "unfoldable pub low : ℕ\nlow = 1\n    + 1\n    + 1\n";
     const CALL: &str = "\
-ghost use Rattle·net.specs.Net.{low as least, up};
-ghost use Rattle·ahead.specs.Steps.{low};
+ghost use Rattle.std.specs.Prelude.{◌≡◌};
+ghost use Rattle.net.specs.Net.{low as least, up};
+ghost use Rattle.ahead.specs.Steps.{low};
 
 // low
 pub fn first(a: u32) -> u32
-    ensures answer { λ r. ⌜ r ≡ record { low = least .low } ⌝ }
+    ensures answer { result ≡ record { low = least.low } }
 {
     low(a)
 }
@@ -275,7 +278,7 @@ pub fn first(a: u32) -> u32
 pub extern \"C\" fn second(
     a: u32,
 ) -> u32
-    ensures { λ r. ⌜ r ≡ first up ⌝ }
+    ensures { result ≡ (first up).low }
 {
     0
 }
@@ -322,7 +325,7 @@ pub extern \"C\" fn second(
             ["calls.lib cites lower, which net.Net does not define"]
         );
         assert_eq!(
-            fault(&CALL.replace("    ensures { λ r. ⌜ r ≡ first up ⌝ }\n", ""), &[(9, vec!["first", "second"])]),
+            fault(&CALL.replace("    ensures { result ≡ (first up).low }\n", ""), &[(9, vec!["first", "second"])]),
             ["second: it promises nothing"]
         );
     }
