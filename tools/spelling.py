@@ -56,6 +56,8 @@ def main():
             declared.add(m.group(3))
             if "/specs/" in p:
                 (fields if m.group(1) else definitions).add(m.group(3))
+        for block in re.findall(r"(?m)^(?:(?:abbrev|pub)\s+)*record [^\n]*\n((?:[ ]+[^\n]*\n|\n(?= ))*)", code):
+            fields |= {m.group(3) for m in HEAD.finditer(block) if m.group(1)}
         for m in RECORD.finditer(code):
             definitions.add(m.group(1))
     for p in antt + rust:

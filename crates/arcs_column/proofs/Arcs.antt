@@ -20,7 +20,7 @@ use Rattle.arcs_column.specs.Ways.{Joins}
 pub record JoinsBelow (d p t : ℕ) (s : List ℕ) (start n : ℕ) : Type 0 where
   pub at : ℕ
   pub below : at < n
-  pub joins-it : Joins d p t s start at
+  pub joins_it : Joins d p t s start at
 
 pub joined : (d p t : ℕ) (s : List ℕ) (start i : ℕ) (a : Arc) → a ≡ arc_at s (start + 8 * i) → joins d p t a ≡ true → Joins d p t s start i
 joined d p t s start i a is e = go (eqb a.transition t) (eqb a.direction d) (eqb a.place p) refl refl refl e
@@ -42,11 +42,11 @@ has_arc d p t s start zero l = absurd (omega (arith, weight_none d p t s start))
 has_arc d p t s start (suc n) l = go (joins d p t (arc_at s (start + 8 * n))) refl (λ h. has_arc d p t s start n h)
   where
     go : (b : Bool) → joins d p t (arc_at s (start + 8 * n)) ≡ b → (0 < weight_on d p t (arcs_from s start n) → JoinsBelow d p t s start n) → JoinsBelow d p t s start (suc n)
-    go true e rest = record { at = n; below = omega arith; joins-it = joined d p t s start n (arc_at s (start + 8 * n)) refl e }
+    go true e rest = record { at = n; below = omega arith; joins_it = joined d p t s start n (arc_at s (start + 8 * n)) refl e }
     go false e rest =
         let q : counted (joins d p t (arc_at s (start + 8 * n))) (arc_at s (start + 8 * n)).weight ≡ 0 = rw e in
         let r = rest (omega (arith, weight_next d p t s start n, q)) in
-        record { at = r.at; below = let h = r.below in omega arith; joins-it = r.joins-it }
+        record { at = r.at; below = let h = r.below in omega arith; joins_it = r.joins_it }
 
 -- an arc adds its weight
 pub arc-has : (d p t : ℕ) (s : List ℕ) (start n i : ℕ) → i < n → Joins d p t s start i → (arc_at s (start + 8 * i)).weight ≤ weight_on d p t (arcs_from s start n)
@@ -69,7 +69,7 @@ module _ (s : List ℕ) (h : Header) (sound : Sound s h) where
     where
       go : Dec (weight_on d p t (arcs_from s h.arcstart h.arcs) ≡ 0) → weight_on d p t (arcs_from s h.arcstart h.arcs) ≡ 0
       go (yes e) = e
-      go (no e) = let j = has_arc d p t s h.arcstart h.arcs (omega (arith, e)) in absurd (omega (arith, (good_at s h sound j.at j.below).place, j.joins-it.place))
+      go (no e) = let j = has_arc d p t s h.arcstart h.arcs (omega (arith, e)) in absurd (omega (arith, (good_at s h sound j.at j.below).place, j.joins_it.place))
 
   -- the arcs of t in direction d stand between two starts
   module _ (d t b e : ℕ) (dl : d ≤ 1) (low : Split s h.arcstart h.arcs (2 * t + d) b) (high : Split s h.arcstart h.arcs (2 * t + d + 1) e) where

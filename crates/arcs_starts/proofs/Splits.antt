@@ -64,7 +64,7 @@ module _ {s : List ℕ} {start j size : ℕ} {table : List ℕ} (x : Ended s sta
 
 pub record Filled (E : List ℕ) (most k : ℕ) (table : List ℕ) : Type 0 where
   pub long : length table ≡ length E
-  pub most-is : most ≡ Table.running_most E k
+  pub most_is : most ≡ Table.running_most E k
   pub done : (i : ℕ) → i ≤ k → get_or table i 0 ≡ Table.running_most E i
   pub left : (i : ℕ) → k < i → get_or table i 0 ≡ get_or E i 0
 
@@ -72,7 +72,7 @@ pub filled_none : (E : List ℕ) → get_or E 0 0 ≡ 0 → Filled E 0 0 E
 unfolding Table.running_most
 filled_none E z = record {
   long = refl;
-  most-is = refl;
+  most_is = refl;
   done = λ i l. let q : i ≡ 0 = omega arith in rw q z;
   left = λ i l. refl;
 }
@@ -85,13 +85,13 @@ module _ {E : List ℕ} {most k : ℕ} {table : List ℕ} (x : Filled E most k t
   pub filled_more : (next : ℕ) → next ≡ Table.larger most (get_or table (k + 1) 0) → Filled E next (k + 1) (set table (k + 1) next)
   filled_more next e = record {
     long = length-set table (k + 1) next ∙ x.long;
-    most-is = now;
+    most_is = now;
     done = λ i l. at i l (ℕ_discrete i (k + 1));
     left = λ i l. get_or-set_other table (k + 1) i next 0 (λ q. omega arith) ∙ x.left i (omega arith);
   }
     where
       now : next ≡ Table.running_most E (k + 1)
-      now = e ∙ ap (λ (m : ℕ). Table.larger m (get_or table (k + 1) 0)) x.most-is ∙ ap (Table.larger (Table.running_most E k)) (x.left (k + 1) (omega arith)) ∙ sym (most-next E k)
+      now = e ∙ ap (λ (m : ℕ). Table.larger m (get_or table (k + 1) 0)) x.most_is ∙ ap (Table.larger (Table.running_most E k)) (x.left (k + 1) (omega arith)) ∙ sym (most-next E k)
 
       at : (i : ℕ) → i ≤ k + 1 → Dec (i ≡ k + 1) → get_or (set table (k + 1) next) i 0 ≡ Table.running_most E i
       at i l (yes q) = ap (λ (n : ℕ). get_or (set table (k + 1) next) n 0) q ∙ get_or-set_same table (k + 1) next 0 (omega (arith, x.long)) ∙ now ∙ ap (Table.running_most E) (sym q)

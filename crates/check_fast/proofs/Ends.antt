@@ -189,7 +189,7 @@ module _ {N : Net} {ps ts Q : List ℕ} {w z : ℕ} (dl : (arc_of w).direction �
   pub due_arc : Ends N ps ts Q w z → kept_of z ≡ true → (own : ℕ) → ArcGood 1024 1024 (arc_of own) → Alike z own → arc_of own ≡ renumber ps ts (arc_of w)
   unfolding renumber
   due_arc (both q ql kp kt x) k own g like =
-      let e = own_is x x.small-p (arc_of w).direction dl q ql refl (few_flags x k).1 (arc_of own).transition (arc_of own).direction (spare own) (arc_of own).place (arc_of own).weight own g.transition g.direction (spare_below own) g.place (whole own) like in
+      let e = own_is x x.small_p (arc_of w).direction dl q ql refl (few_flags x k).1 (arc_of own).transition (arc_of own).direction (spare own) (arc_of own).place (arc_of own).weight own g.transition g.direction (spare_below own) g.place (whole own) like in
       let t : (arc_of own).transition ≡ position (arc_of w).transition ts = e.0 ∙ less (position (arc_of w).transition ts) in
       let p : (arc_of own).place ≡ position (arc_of w).place ps = e.2 ∙ less (position (arc_of w).place ps) in
       λ i. record { transition = t i; direction = e.1 i; place = p i; weight = e.3 i }
@@ -258,7 +258,7 @@ module _ (t p g d q z : ℕ) (sum : z ≡ t + 65536 * (d + 2 * q) + 4294967296 *
 
 module _ {N : Net} {ps ts Q : List ℕ} {w z : ℕ} (dl : (arc_of w).direction ≤ 1) (plain : spare w ≡ 0) where
   pub due_fits : Ends N ps ts Q w z → kept_of z ≡ true → 4398046512128 + z / 131072 % 2 * 131072 ≤ z
-  due_fits (both q ql kp kt x) k = due_low _ _ (arc_of w).weight (arc_of w).direction q z (omega (arith, x.sum, plain)) dl ql x.least-t x.small-t x.least-p x.small-p
+  due_fits (both q ql kp kt x) k = due_low _ _ (arc_of w).weight (arc_of w).direction q z (omega (arith, x.sum, plain)) dl ql x.least_t x.small_t x.least_p x.small_p
   due_fits (at_place kp kt kq x) k = absurd (omega (arith, (few_flags x k).0))
   due_fits (at_asked kp kt kq x) k = absurd (omega (arith, (few_flags x k).0))
   due_fits (at_transition kp kt kc x) k = absurd (omega (arith, (few_flags x k).0))
@@ -267,7 +267,7 @@ module _ {N : Net} {ps ts Q : List ℕ} {w z : ℕ} (dl : (arc_of w).direction �
 
   -- the word of the arc due
   pub due_word : Ends N ps ts Q w z → kept_of z ≡ true → due_of z ≡ position (arc_of w).transition ts + 65536 * (arc_of w).direction + 16777216 * 0 + 4294967296 * position (arc_of w).place ps + 281474976710656 * (arc_of w).weight
-  due_word (both q ql kp kt x) k = omega (arith, due_parts _ _ (arc_of w).weight (arc_of w).direction q z (omega (arith, x.sum, plain)) dl ql x.least-t x.small-t x.least-p x.small-p)
+  due_word (both q ql kp kt x) k = omega (arith, due_parts _ _ (arc_of w).weight (arc_of w).direction q z (omega (arith, x.sum, plain)) dl ql x.least_t x.small_t x.least_p x.small_p)
   due_word (at_place kp kt kq x) k = absurd (omega (arith, (few_flags x k).0))
   due_word (at_asked kp kt kq x) k = absurd (omega (arith, (few_flags x k).0))
   due_word (at_transition kp kt kc x) k = absurd (omega (arith, (few_flags x k).0))

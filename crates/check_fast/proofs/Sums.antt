@@ -85,11 +85,11 @@ pub own_is : {t s p g f z : ℕ} → Flags t s p g f z → p < 2048 → (d : ℕ
     → (T ≡ t - 1024) × (D ≡ d) × (P ≡ p - 1024) × (G ≡ g)
 own_is {t} {s} {p} {g} {f} {z} x pl d dl q ql e n T D S P G w Tl Dl Sl Pl is like =
     let f4 : f < 4 = omega arith in
-    let one : t % 1024 ≡ T % 1024 = sym (bits_1 t f s p g z x.small-t f4 x.small-s pl x.sum) ∙ like.first ∙ bits_1 T D S P G w (omega arith) (omega arith) Sl (omega arith) is in
-    let two : 32 * d ≡ 32 * D = sym (low_bit f d dl q e) ∙ sym (bits_2 t f s p g z x.small-t f4 x.small-s pl x.sum) ∙ like.second ∙ bits_2 T D S P G w (omega arith) (omega arith) Sl (omega arith) is ∙ low_bit D D Dl 0 (omega arith) in
-    let three : (64 * s + 16384 * p) % 16777216 ≡ (64 * S + 16384 * P) % 16777216 = sym (bits_3 t f s p g z x.small-t f4 x.small-s pl x.sum) ∙ like.third ∙ bits_3 T D S P G w (omega arith) (omega arith) Sl (omega arith) is in
-    let four : 32 * g ≡ 32 * G = sym (bits_4 t f s p g z x.small-t f4 x.small-s pl x.sum) ∙ like.fourth ∙ bits_4 T D S P G w (omega arith) (omega arith) Sl (omega arith) is in
-    (transition t T x.least-t x.small-t Tl one, half d D two, place p s P S x.least-p pl Pl Sl n three, half g G four)
+    let one : t % 1024 ≡ T % 1024 = sym (bits_1 t f s p g z x.small_t f4 x.small_s pl x.sum) ∙ like.first ∙ bits_1 T D S P G w (omega arith) (omega arith) Sl (omega arith) is in
+    let two : 32 * d ≡ 32 * D = sym (low_bit f d dl q e) ∙ sym (bits_2 t f s p g z x.small_t f4 x.small_s pl x.sum) ∙ like.second ∙ bits_2 T D S P G w (omega arith) (omega arith) Sl (omega arith) is ∙ low_bit D D Dl 0 (omega arith) in
+    let three : (64 * s + 16384 * p) % 16777216 ≡ (64 * S + 16384 * P) % 16777216 = sym (bits_3 t f s p g z x.small_t f4 x.small_s pl x.sum) ∙ like.third ∙ bits_3 T D S P G w (omega arith) (omega arith) Sl (omega arith) is in
+    let four : 32 * g ≡ 32 * G = sym (bits_4 t f s p g z x.small_t f4 x.small_s pl x.sum) ∙ like.fourth ∙ bits_4 T D S P G w (omega arith) (omega arith) Sl (omega arith) is in
+    (transition t T x.least_t x.small_t Tl one, half d D two, place p s P S x.least_p pl Pl Sl n three, half g G four)
   where
     transition : (a b : ℕ) → 1024 ≤ a → a < 2048 → b < 1024 → a % 1024 ≡ b % 1024 → b ≡ a - 1024
     transition a b l m k e = omega arith

@@ -23,7 +23,7 @@ pub takes_inside : (s : List ℕ) (h : Header) → Sound s h → (t p : ℕ) →
 unfolding takes_from input
 takes_inside s h sound t p x =
     let j = has_arc 0 p t s h.arcstart h.arcs (ltb-true 0 (weight_on 0 p t (net_from s h).arcs) (is_true _ x)) in
-    omega (arith, j.joins-it.place, (good_at s h sound j.at j.below).place)
+    omega (arith, j.joins_it.place, (good_at s h sound j.at j.below).place)
 
 -- k is the place of one of the n arcs from `from` on
 unfoldable pub placed_in : List ℕ → ℕ → ℕ → ℕ → ℕ → Bool
@@ -90,9 +90,9 @@ module _ (s : List ℕ) (h : Header) (sound : Sound s h) (t : ℕ) where
       from : T (ltb 0 (weight_on 0 k t (net_from s h).arcs)) → T (placed_in s h.arcstart b (m - b) k)
       from x =
           let j = has_arc 0 k t s h.arcstart h.arcs (ltb-true 0 (weight_on 0 k t (net_from s h).arcs) (is_true _ x)) in
-          let i = joins-in s h sound 0 t b m (omega arith) low' high' k j.at j.below j.joins-it in
+          let i = joins-in s h sound 0 t b m (omega arith) low' high' k j.at j.below j.joins_it in
           let e : b + (j.at - b) ≡ j.at = omega (arith, i.0) in
-          subst (λ (p : ℕ). T (placed_in s h.arcstart b (m - b) p)) (ap (place_at s h.arcstart) e ∙ j.joins-it.place)
+          subst (λ (p : ℕ). T (placed_in s h.arcstart b (m - b) p)) (ap (place_at s h.arcstart) e ∙ j.joins_it.place)
           (placed_has s h.arcstart b (m - b) (j.at - b) (omega (arith, i.0, i.1)))
 
 -- the arcs up to j are not after the inputs of t, which start with arc `from`

@@ -99,9 +99,9 @@ pub row_ended : (s : List ℕ) (h : Header) (d p e upto : ℕ) → d ≤ 1 → L
     → (t : ℕ) → T (moves (net_from s h) d p t) → met t
 row_ended s h d p e upto dl last ends met seen t u =
     let a = moves-arc s h d p t dl u in
-    let u' : T (moves (net_from s h) d p (transition_at s h.arcstart a.at)) = subst (λ (v : ℕ). T (moves (net_from s h) d p v)) (sym a.joins-it.transition) u in
-    subst met a.joins-it.transition (go a u' (dec_lt a.at upto))
+    let u' : T (moves (net_from s h) d p (transition_at s h.arcstart a.at)) = subst (λ (v : ℕ). T (moves (net_from s h) d p v)) (sym a.joins_it.transition) u in
+    subst met a.joins_it.transition (go a u' (dec_lt a.at upto))
   where
     go : (a : JoinsBelow d p t s h.arcstart h.arcs) → T (moves (net_from s h) d p (transition_at s h.arcstart a.at)) → Dec (a.at < upto) → met (transition_at s h.arcstart a.at)
-    go a u' (yes l) = absurd (omega (arith, ends, (last.rest a.at (omega arith) l a.joins-it.place a.joins-it.direction u').0))
-    go a u' (no l) = seen a.at (omega arith) a.below a.joins-it.place a.joins-it.direction u'
+    go a u' (yes l) = absurd (omega (arith, ends, (last.rest a.at (omega arith) l a.joins_it.place a.joins_it.direction u').0))
+    go a u' (no l) = seen a.at (omega arith) a.below a.joins_it.place a.joins_it.direction u'

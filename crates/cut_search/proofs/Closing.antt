@@ -30,23 +30,23 @@ module _ (G : Growth) (K D R : ℕ → Bool) where
   -- the same places are pending
   search_as : (D' : ℕ → Bool) (f i : ℕ) → ((k : ℕ) → D k ≡ D' k) → Searching G K D R f i → Searching G K D' R f i
   search_as D' f i same s = record {
-    K-kept = s.K-kept;
-    R-kept = s.R-kept;
+    K_kept = s.K_kept;
+    R_kept = s.R_kept;
     pending_kept = λ p h. s.pending_kept p (subst T (sym (same p)) h);
-    criterion_in = s.criterion-in;
-    needed_in = s.needed-in;
-    drawn-in = λ p t h o. s.drawn-in p t h (λ d. o (subst T (same p) d));
+    criterion_in = s.criterion_in;
+    needed_in = s.needed_in;
+    drawn_in = λ p t h o. s.drawn_in p t h (λ d. o (subst T (same p) d));
   }
 
   -- a place that is gone through does not matter any more
   search_between : (f g : ℕ) → Searching G K D R f G.transitions → Searching G K D R g G.transitions
   search_between f g s = record {
-    K-kept = s.K-kept;
-    R-kept = s.R-kept;
+    K_kept = s.K_kept;
+    R_kept = s.R_kept;
     pending_kept = s.pending_kept;
-    criterion_in = s.criterion-in;
-    needed_in = s.needed-in;
-    drawn-in = λ p t h o a l d. s.drawn-in p t h o (λ e. l) l d;
+    criterion_in = s.criterion_in;
+    needed_in = s.needed_in;
+    drawn_in = λ p t h o a l d. s.drawn_in p t h o (λ e. l) l d;
   }
 
 -- ---- the loop

@@ -176,11 +176,11 @@ module _ (s : List ℕ) (h : Header) (sound : Sound s h) (from t : ℕ) (low : S
       found : (d : ℕ) → T (ltb 0 (weight_on d k t (net_from s h).arcs)) → T (eqb d 0 || capped (net_from s h) k) → T (x.new k)
       found d w needs =
           let arc = has_arc d k t s h.arcstart h.arcs (ltb-true 0 (weight_on d k t (net_from s h).arcs) (is_true _ w)) in
-          let inside = among arc.at arc.below arc.joins-it.transition in
+          let inside = among arc.at arc.below arc.joins_it.transition in
           let here : T (needs_place (net_from s h) (arc_at s (h.arcstart + 8 * arc.at))) =
-          subst (λ (p : ℕ). T (eqb (direction_at s h.arcstart arc.at) 0 || capped (net_from s h) p)) (sym arc.joins-it.place)
-          (subst (λ (c : ℕ). T (eqb c 0 || capped (net_from s h) k)) (sym arc.joins-it.direction) needs) in
-          subst (λ (p : ℕ). T (x.new p)) arc.joins-it.place (x.has arc.at inside.0 inside.1 here)
+          subst (λ (p : ℕ). T (eqb (direction_at s h.arcstart arc.at) 0 || capped (net_from s h) p)) (sym arc.joins_it.place)
+          (subst (λ (c : ℕ). T (eqb c 0 || capped (net_from s h) k)) (sym arc.joins_it.direction) needs) in
+          subst (λ (p : ℕ). T (x.new p)) arc.joins_it.place (x.has arc.at inside.0 inside.1 here)
 
       needed_are : x.new k ≡ needs_of (net_from s h) t k
       unfolding takes_from adds_to input output

@@ -36,38 +36,38 @@ module _ (G : Growth) (K D R : ℕ → Bool) (f : ℕ) (s : Searching G K D R f 
       → ((p : ℕ) → D' p ≡ D p || new p && not (K p))
       → Searching G K' D' R' f 0
   search_draw t l kept draws range K' D' R' new New-is R-is K-is D-is =
-      let t-kept : KeptTransition G t = drawn (s.K-kept f kept) l draws in
+      let t-kept : KeptTransition G t = drawn (s.K_kept f kept) l draws in
       let takes : (p : ℕ) → T (new p) → T (G.needs t p) = λ p h. and_right (not (R t)) (G.needs t p) (rw New-is at h) in
       record {
-        K-kept = λ p h. by_or (K p) (new p) (rw K-is at h) (λ k. s.K-kept p k) (λ k. needed t-kept (range p (takes p k)) (takes p k));
-        R-kept = λ k h. by_or (R k) (eqb k t) (rw R-is at h) (λ r. s.R-kept k r) (λ e. subst (KeptTransition G) (sym (eqb→eq k t e)) t-kept);
+        K_kept = λ p h. by_or (K p) (new p) (rw K-is at h) (λ k. s.K_kept p k) (λ k. needed t-kept (range p (takes p k)) (takes p k));
+        R_kept = λ k h. by_or (R k) (eqb k t) (rw R-is at h) (λ r. s.R_kept k r) (λ e. subst (KeptTransition G) (sym (eqb→eq k t e)) t-kept);
         pending_kept = λ p h. rw K-is (by_or (D p) (new p && not (K p)) (rw D-is at h)
             (λ k. or_left (K p) (new p) (s.pending_kept p k))
             (λ k. or_right (K p) (new p) (and_left (new p) (not (K p)) k)));
-        criterion_in = λ p h. rw K-is (or_left (K p) (new p) (s.criterion-in p h));
+        criterion_in = λ p h. rw K-is (or_left (K p) (new p) (s.criterion_in p h));
         needed_in = λ u p h a k. rw K-is (by_or (R u) (eqb u t) (rw R-is at h)
-            (λ r. or_left (K p) (new p) (s.needed-in u p r a k))
+            (λ r. or_left (K p) (new p) (s.needed_in u p r a k))
             (λ e. inputs p a (subst (λ (v : ℕ). T (G.needs v p)) (eqb→eq u t e) k) (R t) refl));
-        drawn-in = λ p u h o a b d.
+        drawn_in = λ p u h o a b d.
             let old : T (K p) = by_or (K p) (new p) (rw K-is at h) (λ x. x) (λ x. not-not (K p) (λ y. o (rw D-is (or_right (D p) (new p && not (K p)) (and_both (new p) (not (K p)) x y))))) in
-            rw R-is (or_left (R u) (eqb u t) (s.drawn-in p u old (λ x. o (rw D-is (or_left (D p) (new p && not (K p)) x))) a b d));
+            rw R-is (or_left (R u) (eqb u t) (s.drawn_in p u old (λ x. o (rw D-is (or_left (D p) (new p && not (K p)) x))) a b d));
       }
     where
       inputs : (p : ℕ) → p < G.places → T (G.needs t p) → (b : Bool) → R t ≡ b → T (K p || new p)
-      inputs p a k true e = or_left (K p) (new p) (s.needed-in t p (holds (R t) e) a k)
+      inputs p a k true e = or_left (K p) (new p) (s.needed_in t p (holds (R t) e) a k)
       inputs p a k false e = or_right (K p) (new p) (rw (New-is p, e) k)
 
   -- all that f draws in is kept: f is gone through
   pub search_turned : ((t : ℕ) → t < G.transitions → T (G.draws f t) → T (R t)) → Searching G K D R f G.transitions
   search_turned all = record {
-    K-kept = s.K-kept;
-    R-kept = s.R-kept;
+    K_kept = s.K_kept;
+    R_kept = s.R_kept;
     pending_kept = s.pending_kept;
-    criterion_in = s.criterion-in;
-    needed_in = s.needed-in;
-    drawn-in = λ p t h o a l d. by_cases (eqb p f)
+    criterion_in = s.criterion_in;
+    needed_in = s.needed_in;
+    drawn_in = λ p t h o a l d. by_cases (eqb p f)
         (λ e. all t l (subst (λ (q : ℕ). T (G.draws q t)) (eqb-true p f e) d))
-        (λ e. s.drawn-in p t h o (λ y. absurd (eqb-false p f e y)) l d);
+        (λ e. s.drawn_in p t h o (λ y. absurd (eqb-false p f e y)) l d);
   }
 
 -- ---- what grows
@@ -176,10 +176,10 @@ module _ (s : List ℕ) (h : Header) (sound : Sound s h) (next : List ℕ) (next
         marked = y.needed.marked;
       }
 
-      drawn-in : (G : Growth) (all : Bool) (both : List ℕ) → Search.Grows G s h all both → T (G.draws p t) → (gone : ℕ → Bool) → ((k : ℕ) → T (gone k) → T (member P k)) → T (member P p)
+      drawn_in : (G : Growth) (all : Bool) (both : List ℕ) → Search.Grows G s h all both → T (G.draws p t) → (gone : ℕ → Bool) → ((k : ℕ) → T (gone k) → T (member P k)) → T (member P p)
           → Search.At G P gone R p 0 → Search.At G P' gone R' p 0
       unfolding new
-      drawn-in G all both g draws gone part kept at =
+      drawn_in G all both g draws gone part kept at =
           search_draw G (member P) (waits P gone) (member R) p at t (omega (arith, g.transitions, (good_at s h sound (e / 65536 - 1) row_from).transition)) kept draws
           (λ q u. omega (arith, g.places, needs_inside s h sound t q (subst T (g.needs t q) u)))
           (member P') (waits P' gone) (member R') new (λ q. ap (λ (b : Bool). not (member R t) && b) (sym (g.needs t q))) y.members y.needed.kept
@@ -193,7 +193,7 @@ module _ (s : List ℕ) (h : Header) (sound : Sound s h) (next : List ℕ) (next
         seen = λ k a b u v w. see k a b u v w (dec_lt k x.upto);
         grown = grown-join h marks m m' places transitions P R P' R' x.grown step;
         search = λ G all both g draws gone part kept at.
-            drawn-in G all both g (draws t (subst (λ (u : ℕ). T (moves (net_from s h) d p u)) (sym t_same) row_moves)) gone (λ k u. x.grown.more_places k (part k u)) (x.grown.more_places p kept)
+            drawn_in G all both g (draws t (subst (λ (u : ℕ). T (moves (net_from s h) d p u)) (sym t_same) row_moves)) gone (λ k u. x.grown.more_places k (part k u)) (x.grown.more_places p kept)
             (x.search G all both g draws gone part kept at);
       }
         where

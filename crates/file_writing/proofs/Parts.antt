@@ -272,7 +272,7 @@ module _ (kind ed : ℕ) (N : Net) (w : NetWritable ed N) (s : List ℕ) (laid :
   module _ (due : Due) (kind_due : kind_wrong due kind ≡ false) (counts_right : counts_wrong tail ≡ false) (origins : origins_refusal s head ≡ 0) where
     trailer_right : trailer_refusal due (length s) tail ≡ 0
     unfolding trailer_refusal
-    trailer_right = rw (w.edition-known, kind_due, counts_right, body-right)
+    trailer_right = rw (w.edition_known, kind_due, counts_right, body-right)
 
     body-passes : body_refusal s head ≡ 0
     unfolding body_refusal links_refusal

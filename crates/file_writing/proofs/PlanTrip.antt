@@ -105,7 +105,7 @@ module _ (ed : ℕ) (N : Net) where
     unfolding plan_bytes
     plan_are_bytes =
         bytes-join (Ms ++ As) Rs (bytes-join Ms As (bytes-places ed N.marking N.cap 0 P) (bytes-arcs N.arcs w.fit))
-        (bytes-trailer 0 ed (plan_body ed N) P T A (omega arith) w.edition-small)
+        (bytes-trailer 0 ed (plan_body ed N) P T A (omega arith) w.edition_small_lem)
 
     -- 40,976 bytes hold any plan without note
     pub plan_room : length (plan_bytes ed N) ≤ 40976

@@ -132,8 +132,8 @@ module _ (ed : ℕ) (S : Slice) (w : Writable ed S) where
   pub reads_back : slice_of (slice_bytes ed S) ≡ S
   reads_back =
       let n≡ = net-back 1 ed S.net w.net s laid in
-      let p≡ : words_from s (L + 8 * A) P ≡ S.place_origins = ap (words_from s (L + 8 * A)) (sym w.place_count) ∙ read_origins s (L + 8 * A) S.place_origins at_places w.places-small in
-      let t≡ : words_from s (L + 8 * A + 2 * P) T ≡ S.transition_origins = ap (words_from s (L + 8 * A + 2 * P)) (sym w.transition_count) ∙ read_origins s (L + 8 * A + 2 * P) S.transition_origins at_transitions w.transitions-small in
+      let p≡ : words_from s (L + 8 * A) P ≡ S.place_origins = ap (words_from s (L + 8 * A)) (sym w.place_count) ∙ read_origins s (L + 8 * A) S.place_origins at_places w.places_small in
+      let t≡ : words_from s (L + 8 * A + 2 * P) T ≡ S.transition_origins = ap (words_from s (L + 8 * A + 2 * P)) (sym w.transition_count) ∙ read_origins s (L + 8 * A + 2 * P) S.transition_origins at_transitions w.transitions_small in
       ap (slice_from s) header_read ∙ (λ i. record { net = n≡ i; place_origins = p≡ i; transition_origins = t≡ i })
 
   pub edition_back : (header_of (slice_bytes ed S)).edition ≡ ed
@@ -146,8 +146,8 @@ module _ (ed : ℕ) (S : Slice) (w : Writable ed S) where
   origins_pass : origins_refusal s head ≡ 0
   unfolding origins_refusal
   origins_pass =
-      let p : table_refusal s (L + 8 * A) 0 P ≡ 0 = ap (table_refusal s (L + 8 * A) 0) (sym w.place_count) ∙ table_pass s (L + 8 * A) 0 S.place_origins at_places w.places-small w.places_rise in
-      let t : table_refusal s (L + 8 * A + 2 * P) 0 T ≡ 0 = ap (table_refusal s (L + 8 * A + 2 * P) 0) (sym w.transition_count) ∙ table_pass s (L + 8 * A + 2 * P) 0 S.transition_origins at_transitions w.transitions-small w.transitions_rise in
+      let p : table_refusal s (L + 8 * A) 0 P ≡ 0 = ap (table_refusal s (L + 8 * A) 0) (sym w.place_count) ∙ table_pass s (L + 8 * A) 0 S.place_origins at_places w.places_small w.places_rise in
+      let t : table_refusal s (L + 8 * A + 2 * P) 0 T ≡ 0 = ap (table_refusal s (L + 8 * A + 2 * P) 0) (sym w.transition_count) ∙ table_pass s (L + 8 * A + 2 * P) 0 S.transition_origins at_transitions w.transitions_small w.transitions_rise in
       rw (p, t)
 
   pub not-refused : file_refusal due.Slice (slice_bytes ed S) ≡ 0
@@ -158,7 +158,7 @@ module _ (ed : ℕ) (S : Slice) (w : Writable ed S) where
   are_bytes =
       bytes-join (Ms ++ As ++ Ps ++ Ts) Rs
       (bytes-join (Ms ++ As ++ Ps) Ts (bytes-join (Ms ++ As) Ps (bytes-join Ms As (bytes-places ed S.net.marking S.net.cap 0 P) (bytes-arcs S.net.arcs w.net.fit)) (bytes-origins S.place_origins)) (bytes-origins S.transition_origins))
-      (bytes-trailer 1 ed (slice_body ed S) P T A (omega arith) w.net.edition-small)
+      (bytes-trailer 1 ed (slice_body ed S) P T A (omega arith) w.net.edition_small_lem)
 
   -- 45,072 bytes hold any slice
   pub room : length (slice_bytes ed S) ≤ 45072

@@ -44,7 +44,7 @@ module _ (N : Net) (S : Slice) where
 -- the branching cut leaves out nothing that changes a kept place
 pub branching-changers : (N : Net) (Q : List ℕ) → ((q : ℕ) → T (among q Q) → q < N.places) → KeepsChangers N (branching_cut N Q)
 unfolding KeepsChangers cut keeping safety branching growth
-branching-changers N Q q-known t p l h c = (computed_closed _ q-known).drawn-in p t h l (or_left (changes N t p) _ c)
+branching-changers N Q q-known t p l h c = (computed_closed _ q-known).drawn_in p t h l (or_left (changes N t p) _ c)
 
 module _ (N : Net) (S : Slice) (Q : List ℕ) (ok : Accepted N S Q) (keeps : KeepsChangers N S) where
   -- rules 5 and 6 hold of all its places
@@ -70,7 +70,7 @@ module _ (N : Net) (S : Slice) (Q : List ℕ) (ok : Accepted N S Q) (keeps : Kee
   branching-closed = record {
     criterion_in = ok.criterion_kept;
     needed_in = needs_kept N S Q ok;
-    drawn-in = λ p t hp l d. by_or (changes N t p) (capped N p && changes N t p) d
+    drawn_in = λ p t hp l d. by_or (changes N t p) (capped N p && changes N t p) d
         (λ c. keeps t p l hp c)
         (λ c. keeps t p l hp (and_right (capped N p) (changes N t p) c));
   }

@@ -105,7 +105,7 @@ pub record Indexing (s names head next : List ℕ) (k : ℕ) : Type 0 where
   pub some : k ≤ length names
   pub falls : (j : ℕ) → get_or next j 0 ≤ j
   pub heads : (h : ℕ) → get_or head h 0 ≤ k
-  pub head-room : 2048 ≤ length head
+  pub head_room : 2048 ≤ length head
   pub room : length names ≤ length next
   pub all : (j : ℕ) → j < k → Has next (get_or head (sum_of 0 (id_at s (get_or names j 0))) 0) j
   pub once : repeats (ids_in s (take k names)) ≡ false
@@ -116,7 +116,7 @@ indexing_none b = record {
   some = omega arith;
   falls = λ j. omega (arith, b.no_rows j);
   heads = λ h. omega (arith, b.no_heads h);
-  head-room = b.heads;
+  head_room = b.heads;
   room = b.room;
   all = λ j l. absurd (omega arith);
   once = refl;
@@ -175,16 +175,16 @@ module _ {s names head next : List ℕ} {k : ℕ} (inv : Indexing s names head n
         (λ e. let q = eqb-true k j e in let u = get_or-set_same next k last 0 (let z = inv.room in omega arith) in let b = inv.heads h in omega (arith, ap (λ (i : ℕ). get_or (set next k last) i 0) q))
         (λ e. let u = get_or-set_other next k j last 0 (λ z. eqb-false k j e (sym z)) in let b = inv.falls j in omega arith);
     heads = λ i. by_cases (eqb h i)
-        (λ e. let q = eqb-true h i e in let u = get_or-set_same head h (k + 1) 0 (let z = inv.head-room in omega arith) in omega (arith, ap (λ (j : ℕ). get_or (set head h (k + 1)) j 0) q))
+        (λ e. let q = eqb-true h i e in let u = get_or-set_same head h (k + 1) 0 (let z = inv.head_room in omega arith) in omega (arith, ap (λ (j : ℕ). get_or (set head h (k + 1)) j 0) q))
         (λ e. let u = get_or-set_other head h i (k + 1) 0 (λ z. eqb-false h i e (sym z)) in let b = inv.heads i in omega arith);
-    head-room = omega (arith, length-set head h (k + 1), inv.head-room);
+    head_room = omega (arith, length-set head h (k + 1), inv.head_room);
     room = omega (arith, length-set next k last, inv.room);
     all = λ j d. in_row j (dec_lt j k) d;
     once = ap repeats more ∙ repeats-more (id_at s a) (ids_in s (take k names)) ∙ rw inv.once (none_among g);
   }
     where
       first : get_or (set head h (k + 1)) h 0 ≡ suc k
-      first = get_or-set_same head h (k + 1) 0 (let z = inv.head-room in omega arith) ∙ add-one k
+      first = get_or-set_same head h (k + 1) 0 (let z = inv.head_room in omega arith) ∙ add-one k
 
       link : get_or (set next k last) k 0 ≡ last
       link = get_or-set_same next k last 0 (let z = inv.room in omega arith)
@@ -218,7 +218,7 @@ indexed_all {s} {names} {head} {next} {k} inv h =
     let e : k ≡ length names = (let b = inv.some in omega arith) in
     record {
       rows = λ i. record { falls = inv.falls; room = inv.room; within = (let b = inv.heads i in omega arith) };
-      heads = inv.head-room;
+      heads = inv.head_room;
       all = λ j d. inv.all j (omega arith);
       once = sym (ap (λ (l : List ℕ). repeats (ids_in s l)) (ap (λ (i : ℕ). take i names) e ∙ take-length names)) ∙ inv.once;
     }

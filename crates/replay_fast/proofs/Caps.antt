@@ -45,14 +45,14 @@ module _ {s : List ℕ} {h : Header} {t from to : ℕ} (run : Stretch s h t from
       go : Dec (0 < output (net_from s h) p t) → get_or is p 0 ≤ (net_from s h).cap p
       go (yes o) =
           let a = has_arc 1 p t s h.arcstart h.arcs o in
-          let joins = a.joins-it in
+          let joins = a.joins_it in
           subst (λ (q : ℕ). 0 < (net_from s h).cap q → get_or is q 0 ≤ (net_from s h).cap q) joins.place (room.at a.at (begun (dec_lt a.at from)) (ended (dec_lt a.at to))) some
         where
           begun : Dec ((has_arc 1 p t s h.arcstart h.arcs o).at < from) → from ≤ (has_arc 1 p t s h.arcstart h.arcs o).at
-          begun (yes u) = let a = has_arc 1 p t s h.arcstart h.arcs o in absurd (earlier run a.at u a.joins-it.transition)
+          begun (yes u) = let a = has_arc 1 p t s h.arcstart h.arcs o in absurd (earlier run a.at u a.joins_it.transition)
           begun (no u) = omega (arith, u)
 
           ended : Dec ((has_arc 1 p t s h.arcstart h.arcs o).at < to) → (has_arc 1 p t s h.arcstart h.arcs o).at < to
           ended (yes u) = u
-          ended (no u) = let a = has_arc 1 p t s h.arcstart h.arcs o in absurd (later run a.at (omega (arith, u)) a.below a.joins-it.transition)
+          ended (no u) = let a = has_arc 1 p t s h.arcstart h.arcs o in absurd (later run a.at (omega (arith, u)) a.below a.joins_it.transition)
       go (no o) = omega (arith, unfed p (omega (arith, o)), before p l c)

@@ -101,8 +101,8 @@ module _ {s : List ℕ} {h : Header} {t from to : ℕ} {m : List ℕ} {j : ℕ} 
     unfolding output
     arc-of =
         let a = has_arc 1 q t s h.arcstart h.arcs o in
-        let b = joins-in s h c.sound 1 t from to (omega arith) c.first c.second q a.at a.below a.joins-it in
-        (a.at, b.0, b.1, a.joins-it.place)
+        let b = joins-in s h c.sound 1 t from to (omega arith) c.first c.second q a.at a.below a.joins_it in
+        (a.at, b.0, b.1, a.joins_it.place)
 
     -- one before arc j
     fits_before : (i : ℕ) → from ≤ i → i < j → place_of s h i ≡ q → get_or m q 0 ≤ (net_from s h).cap q

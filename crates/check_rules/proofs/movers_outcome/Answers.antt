@@ -43,9 +43,9 @@ returns-then-taker-transitions c =
 pub raiser_missing-raiser-requires : goal.raiser_missing-raiser-requires
 raiser_missing-raiser-requires c =
     let changed = changes_at (goal.at.raiser_missing-raiser-requires c).Else-changer-transitions in
-    let kept = changed.change_breaker-changer.kept in
+    let kept = changed.change_breaker-changer.auto in
     let pre = (start_of changed).requires in
-    record { cases = pre.cases; resting = changed.change_breaker-changer.ensures.resting_2; limit_len = omega (arith, kept.1.1.1.1.1.1.1.1.1.0, kept.1.1.1.1.1.1.1.1.1.1.0, pre.limit_len) }
+    record { cases = pre.cases; resting = changed.change_breaker-changer.ensures.resting_2; limit_len = omega (arith, kept.limit, kept.column, pre.limit_len) }
 
 pub overflow_cast-result-then-raiser-transitions : goal.overflow_cast-result-then-raiser-transitions
 overflow_cast-result-then-raiser-transitions c = omega (arith, c.if-raiser-transitions.true, (start_of (changes_at (goal.at.Else-taker-transitions (inputs_at (raises_at (goal.at.overflow_cast-result-then-raiser-transitions c).After-slice_known-6-1))).Else-changer-transitions)).requires.cases.planned.placed.transitions)
@@ -62,10 +62,10 @@ pub caps_outcome-requires : goal.caps_outcome-requires
 caps_outcome-requires c =
     let raised = raises_at (goal.at.caps_outcome-requires c).After-slice_known-6-1 in
     let changed = changes_at (goal.at.Else-taker-transitions (inputs_at raised)).Else-changer-transitions in
-    let kept6 = changed.change_breaker-changer.kept in
-    let kept8 = raised.raiser_missing-raiser.kept in
+    let kept6 = changed.change_breaker-changer.auto in
+    let kept8 = raised.raiser_missing-raiser.auto in
     let pre = (start_of changed).requires in
-    record { cases = pre.cases; resting = raised.raiser_missing-raiser.ensures.resting_2; limit_len = omega (arith, kept8.1.1.1.1.1.1.1.0, kept8.1.1.1.1.1.1.1.1.0, kept6.1.1.1.1.1.1.1.1.1.0, kept6.1.1.1.1.1.1.1.1.1.1.0, pre.limit_len) }
+    record { cases = pre.cases; resting = raised.raiser_missing-raiser.ensures.resting_2; limit_len = omega (arith, kept8.limit, kept8.column, kept6.limit, kept6.column, pre.limit_len) }
 
 pub returns : goal.returns
 returns c =

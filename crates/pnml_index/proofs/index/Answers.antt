@@ -13,7 +13,7 @@ pub offset_bounds-head-h : goal.offset_bounds-head-h
 offset_bounds-head-h c = omega (arith, c.sum-h.ensures.1)
 
 pub bounds-head-h : goal.bounds-head-h
-bounds-head-h c = omega (arith, c.sum-h.ensures.1, c.loop-k.invariant.0.head-room)
+bounds-head-h c = omega (arith, c.sum-h.ensures.1, c.loop-k.invariant.0.head_room)
 
 pub seek-requires : goal.seek-requires
 seek-requires c = searching.row_of c.loop-k.invariant.0 c.sum-h.result c.wide.ensures.0
@@ -47,7 +47,7 @@ pub bounds-head-h-in-loop-k : goal.bounds-head-h-in-loop-k
 bounds-head-h-in-loop-k c =
     let at_sum = c in
     let turn = at_sum in
-    omega (arith, at_sum.sum-h.ensures.1, turn.loop-k.invariant.0.head-room)
+    omega (arith, at_sum.sum-h.ensures.1, turn.loop-k.invariant.0.head_room)
 
 pub loop-k-preserved : goal.loop-k-preserved
 loop-k-preserved c =
