@@ -130,7 +130,12 @@ def main():
             new = table.get(word, word)
             # behind a dot stands a field, or a step of a function that a proof cites
             behind = m.start() and code[m.start() - 1] == "." and code[m.start() - 2 : m.start() - 1] not in ("", " ", "\n")
-            return word if behind and word not in fields else new
+            if behind and word not in fields:
+                head = re.search(r"([^\s(){}.;,@\"«»\[\]]+)\.$", code[: m.start()])
+                return new if head and head.group(1) in modules else word
+            return new
+
+        modules = set(re.findall(r"(?m)^use \S+ as (\S+)$", code)) - {"goal", "tie"}
 
         code = WORD.sub(one, code)
         return re.sub(r"`([^`\s]+)`", lambda m: "`" + table.get(m.group(1), m.group(1)) + "`", code)

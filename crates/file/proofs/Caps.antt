@@ -37,7 +37,7 @@ no_cap_by s h e p = by_cases (ltb p h.places)
 
 -- a file without caps, whatever its edition
 pub none_capped : (s : List ℕ) (h : Header) → has_caps (net_from s h) ≡ false → Uncapped (net_from s h)
-none_capped s h e = net.none-capped (net_from s h) (below-off h.places (cap_at s h)) e
+none_capped s h e = net.none_capped (net_from s h) (below-off h.places (cap_at s h)) e
 
 pub marking_within : (due : Due) (s : List ℕ) → file_refusal due s ≡ 0 → WithinCaps (net_of s) (net_of s).marking
 marking_within due s e = (sound due s e).caps

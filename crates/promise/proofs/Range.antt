@@ -114,19 +114,19 @@ module _ (plan list upper lent : List ℕ) where
 
     is_every : ((range_answer plan list upper (length lent)).every ≡ true) ↔ FromEvery N (standing upper) list
     is_every =
-        let m = law.every-means N none (standing upper) list known rises in
+        let m = law.every_means N none (standing upper) list known rises in
         let t = told-every (extent N (standing upper) list) in
         by_told (λ x. x.every) (λ e. m.0 (t.0 e), λ f. t.1 (m.1 f))
 
     is_partly : ((range_answer plan list upper (length lent)).partly ≡ true) ↔ FromSome N (standing upper) list
     is_partly =
-        let m = law.partly-means N none (standing upper) list known rises in
+        let m = law.partly_means N none (standing upper) list known rises in
         let t = told-partly (extent N (standing upper) list) in
         by_told (λ x. x.partly) (λ e. m.0 (t.0 e), λ f. t.1 (m.1 f))
 
     is_never : ((range_answer plan list upper (length lent)).never ≡ true) ↔ FromNone N (standing upper) list
     is_never =
-        let m = law.never-means N none (standing upper) list known rises in
+        let m = law.never_means N none (standing upper) list known rises in
         let t = told-never (extent N (standing upper) list) in
         by_told (λ x. x.never) (λ e. m.0 (t.0 e), λ f. t.1 (m.1 f))
 

@@ -101,7 +101,7 @@ module _ (plan : List ℕ) (t : ℕ) (marking rest : List ℕ) where
     largest = λ a b. by_times (passed a) _ (is_times (passed a) b);
     unlimited = λ a. (
       λ b. law.no_inputs N t M (is_unlimited (passed a) b),
-      λ f. ap (λ (x : TogetherAnswer). x.unlimited) (told (passed a)) ∙ ap (λ (x : Takings). (together_told x).unlimited) (law.is-unlimited N t M f),
+      λ f. ap (λ (x : TogetherAnswer). x.unlimited) (told (passed a)) ∙ ap (λ (x : Takings). (together_told x).unlimited) (law.is_unlimited N t M f),
     );
     unchanged = λ a b. (by_unlimited (passed a) (is_unlimited (passed a) b), same_list (passed a) (is_unlimited (passed a) b));
   }

@@ -68,7 +68,7 @@ module _ (s : List ℕ) (h : Header) (list upper : List ℕ) (room : ℕ) {n : �
 
 -- the firings of a list that is not refused
 pub known_list : (h : Header) (list : List ℕ) → list_refusal h.transitions list ≡ 0 → Known h list
-known_list h list e = record { short = listed.list-short h.transitions list e; known = listed.list-known h.transitions list e }
+known_list h list e = record { short = listed.list_short h.transitions list e; known = listed.list_known h.transitions list e }
 
 -- "A refusal returns its number with zeros elsewhere"
 pub told-refused : (m : ℕ) {n : ℕ} (x : Extent) → n ≡ m → (n ≡ 0 → ⊥) → record { refused = true; refusal = n; every = false; partly = false; never = false } ≡ range_or m x

@@ -47,7 +47,7 @@ module _ {s : List ℕ} {h : Header} {table m : List ℕ} (r : Ready s h table m
     rises = weights.rising d 0 t s start h.arcs b e l ways low high
 
     sums : (p : ℕ) → sum_to s h.arcstart p e ≡ sum_to s h.arcstart p b + weight_on d p t (arcs_from s h.arcstart h.arcs)
-    sums p = weights.weight-run d p t s start h.arcs b e l ways low high
+    sums p = weights.weight_run d p t s start h.arcs b e l ways low high
 
   -- where the arcs of t start, by the table
   pub runs : {t from middle to : ℕ} → t < h.transitions → from ≡ get_or table (2 * t) 0 → middle ≡ get_or table (2 * t + 1) 0 → to ≡ get_or table (2 * t + 2) 0 → Runs s h t from middle to

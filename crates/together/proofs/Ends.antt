@@ -103,11 +103,11 @@ module _ {s : List ℕ} {h : Header} {t from to : ℕ} (f : Found s h t from to)
 
     pub no_inputs : to ≤ from → Ends (together_numbers Unlimited) m
     unfolding NoInputs remainder
-    no_inputs l = by unlimited (law.is-unlimited N t M (λ p u. omega (arith, drawn-is p, sum_more s h.arcstart p to from l))) places (λ p u. refl)
+    no_inputs l = by unlimited (law.is_unlimited N t M (λ p u. omega (arith, drawn-is p, sum_more s h.arcstart p to from l))) places (λ p u. refl)
 
     pub most : {k : ℕ} {m' : List ℕ} → MostTimes s h.arcstart from to m k → TakesTimes s h.arcstart from to k m m' → Ends (together_numbers (Times k)) m'
     unfolding Takable remainder
     most {k} x y =
         let z = x.no_more in
-        by (times k) (law.is-times N t M k (λ p l. omega (arith, x.fits p, times_is k p)) (z.0, omega (arith, z.1, places), omega (arith, z.2, times_is (suc k) z.0)))
+        by (times k) (law.is_times N t M k (λ p l. omega (arith, x.fits p, times_is k p)) (z.0, omega (arith, z.1, places), omega (arith, z.2, times_is (suc k) z.0)))
         (y.long ∙ places) (λ p l. omega (arith, y.at p, times_is k p))

@@ -25,4 +25,4 @@ pub returns : goal.returns
 returns c =
     let at-counts-off = c in
     let call = at-counts-off in
-    let g = call.requires in let a : length call.args.names.now - (2 + call.args.places) - call.args.transitions ≡ length (entries Arcs call.args.text.now) = omega (arith, listing_long g) in laws.unfit-is call.args.text.now call.args.off g.place_count g.transition_count a at-counts-off.counts_off-counts.ensures (c.marking_off-markings.ensures ∙ ap (any_off 0 4294967295) (laws.places-part g))
+    let g = call.requires in let a : length call.args.names.now - (2 + call.args.places) - call.args.transitions ≡ length (entries Arcs call.args.text.now) = omega (arith, listing_long g) in laws.unfit-is call.args.text.now call.args.off g.place_count g.transition_count a at-counts-off.counts_off-counts.ensures (c.marking_off-markings.ensures ∙ ap (any_off 0 4294967295) (laws.places_part g))

@@ -30,10 +30,10 @@ loop-k-preserved c =
     let test = at-unpacked in
     let turn = test in
     let call = turn in
-    let x = turn.loop-k in let w = call.args.words.now in (omega (arith, test.loop-k-test.true), omega (arith, x.invariant.1), arc-stored (arc_of (get_or w x.k 0)) (arcs_in (drop (x.k + 1) w)) (storing_as x.invariant.2 (ap arcs_bytes (laws.arcs-next w x.k test.loop-k-test.true))) (at-put-arc.put_arc.ensures ∙ ap (λ (a : Arc). sets x.buffer x.at (arc_bytes a)) at-unpacked.unpacked.ensures) refl)
+    let x = turn.loop-k in let w = call.args.words.now in (omega (arith, test.loop-k-test.true), omega (arith, x.invariant.1), arc-stored (arc_of (get_or w x.k 0)) (arcs_in (drop (x.k + 1) w)) (storing_as x.invariant.2 (ap arcs_bytes (laws.arcs_next w x.k test.loop-k-test.true))) (at-put-arc.put_arc.ensures ∙ ap (λ (a : Arc). sets x.buffer x.at (arc_bytes a)) at-unpacked.unpacked.ensures) refl)
 
 pub shape_of-buffer : goal.shape_of-buffer
 shape_of-buffer c = c.loop-k.invariant.2.long
 
 pub returns : goal.returns
-returns c = storing_none (storing_as c.loop-k.invariant.2 (laws.arcs-left c.args.words.now c.loop-k.k c.loop-k-test.false))
+returns c = storing_none (storing_as c.loop-k.invariant.2 (laws.arcs_left_lem c.args.words.now c.loop-k.k c.loop-k-test.false))

@@ -28,7 +28,7 @@ loop-p-preserved c =
     let test = at_wide in
     let turn = test in
     let call = turn in
-    let x = turn.loop-p in let m = laws.marking-at call.args.text.now call.args.places.now x.p at_wide.wide.result test.loop-p-test.true at_wide.wide.ensures.0 at_place.place-e.ensures.number in (omega (arith, test.loop-p-test.true), place-stored 1 _ _ _ _ test.loop-p-test.true x.invariant.1 (at-put-place.put_place.ensures ∙ (λ i. sets x.buffer (4 * x.p) (place_bytes false (m i) 0))))
+    let x = turn.loop-p in let m = laws.marking_at_lem call.args.text.now call.args.places.now x.p at_wide.wide.result test.loop-p-test.true at_wide.wide.ensures.0 at_place.place-e.ensures.number in (omega (arith, test.loop-p-test.true), place-stored 1 _ _ _ _ test.loop-p-test.true x.invariant.1 (at-put-place.put_place.ensures ∙ (λ i. sets x.buffer (4 * x.p) (place_bytes false (m i) 0))))
 
 pub shape_of-buffer : goal.shape_of-buffer
 shape_of-buffer c = c.loop-p.invariant.1.long

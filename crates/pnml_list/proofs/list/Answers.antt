@@ -27,7 +27,7 @@ collect-p-requires c =
     let at-net = at-page in
     let call = at-net in
     let s = call.args.text.now in
-    record { text_len_bound = call.requires.text_len_bound; at_in_bounds = lists.room_for Places s at-inside.inside-first.result 2 _ at-inside.inside-first.ensures (omega (arith, lists.few-ids s, call.requires.text_in_bounds, lists.long-set call.args.names.now at-net.net-a.result at-page.page-b.result)) }
+    record { text_len_bound = call.requires.text_len_bound; at_in_bounds = lists.room_for Places s at-inside.inside-first.result 2 _ at-inside.inside-first.ensures (omega (arith, lists.few_ids s, call.requires.text_in_bounds, lists.long_set call.args.names.now at-net.net-a.result at-page.page-b.result)) }
 
 pub collect-t-requires : goal.collect-t-requires
 collect-t-requires c =
@@ -37,7 +37,7 @@ collect-t-requires c =
     let at-net = at-page in
     let call = at-net in
     let s = call.args.text.now in
-    record { text_len_bound = call.requires.text_len_bound; at_in_bounds = lists.room_for Transitions s at-inside.inside-first.result at-collect.collect-p.result _ at-inside.inside-first.ensures (omega (arith, lists.few-ids s, call.requires.text_in_bounds, lists.long-set call.args.names.now at-net.net-a.result at-page.page-b.result, at-collect.collect-p.ensures.room, lists.found-count Places s at-inside.inside-first.result at-inside.inside-first.ensures at-collect.collect-p.ensures)) }
+    record { text_len_bound = call.requires.text_len_bound; at_in_bounds = lists.room_for Transitions s at-inside.inside-first.result at-collect.collect-p.result _ at-inside.inside-first.ensures (omega (arith, lists.few_ids s, call.requires.text_in_bounds, lists.long_set call.args.names.now at-net.net-a.result at-page.page-b.result, at-collect.collect-p.ensures.room, lists.found_count Places s at-inside.inside-first.result at-inside.inside-first.ensures at-collect.collect-p.ensures)) }
 
 pub collect-n-requires : goal.collect-n-requires
 collect-n-requires c =
@@ -48,7 +48,7 @@ collect-n-requires c =
     let at-net = at-page in
     let call = at-net in
     let s = call.args.text.now in
-    record { text_len_bound = call.requires.text_len_bound; at_in_bounds = lists.room_for Arcs s at-inside.inside-first.result at-collect2.collect-t.result _ at-inside.inside-first.ensures (omega (arith, lists.few-ids s, call.requires.text_in_bounds, lists.long-set call.args.names.now at-net.net-a.result at-page.page-b.result, at-collect.collect-p.ensures.room, at-collect2.collect-t.ensures.room, lists.found-count Places s at-inside.inside-first.result at-inside.inside-first.ensures at-collect.collect-p.ensures, lists.found-count Transitions s at-inside.inside-first.result at-inside.inside-first.ensures at-collect2.collect-t.ensures)) }
+    record { text_len_bound = call.requires.text_len_bound; at_in_bounds = lists.room_for Arcs s at-inside.inside-first.result at-collect2.collect-t.result _ at-inside.inside-first.ensures (omega (arith, lists.few_ids s, call.requires.text_in_bounds, lists.long_set call.args.names.now at-net.net-a.result at-page.page-b.result, at-collect.collect-p.ensures.room, at-collect2.collect-t.ensures.room, lists.found_count Places s at-inside.inside-first.result at-inside.inside-first.ensures at-collect.collect-p.ensures, lists.found_count Transitions s at-inside.inside-first.result at-inside.inside-first.ensures at-collect2.collect-t.ensures)) }
 
 pub overflow_sub-result : goal.overflow_sub-result
 overflow_sub-result c =
@@ -70,7 +70,7 @@ shape_of-names c =
     let at-page = at-collect in
     let at-net = at-page in
     let call = at-net in
-    at-collect3.collect-n.ensures.room ∙ at-collect2.collect-t.ensures.room ∙ at-collect.collect-p.ensures.room ∙ lists.long-set call.args.names.now at-net.net-a.result at-page.page-b.result
+    at-collect3.collect-n.ensures.room ∙ at-collect2.collect-t.ensures.room ∙ at-collect.collect-p.ensures.room ∙ lists.long_set call.args.names.now at-net.net-a.result at-page.page-b.result
 
 pub returns : goal.returns
 returns c =
@@ -81,4 +81,4 @@ returns c =
     let at-page = at-inside in
     let at-net = at-page in
     let call = at-net in
-    lists.listed call.args.text.now at-net.net-a.result at-page.page-b.result at-inside.inside-first.result call.requires.text_len_bound (omega (arith, call.requires.text_in_bounds, lists.long-set call.args.names.now at-net.net-a.result at-page.page-b.result)) (lists.two_set call.args.names.now at-net.net-a.result at-page.page-b.result (omega (arith, call.requires.text_in_bounds))) at-net.net-a.ensures at-page.page-b.ensures at-inside.inside-first.ensures at-collect.collect-p.ensures at-collect2.collect-t.ensures at-collect3.collect-n.ensures
+    lists.listed call.args.text.now at-net.net-a.result at-page.page-b.result at-inside.inside-first.result call.requires.text_len_bound (omega (arith, call.requires.text_in_bounds, lists.long_set call.args.names.now at-net.net-a.result at-page.page-b.result)) (lists.two_set call.args.names.now at-net.net-a.result at-page.page-b.result (omega (arith, call.requires.text_in_bounds))) at-net.net-a.ensures at-page.page-b.ensures at-inside.inside-first.ensures at-collect.collect-p.ensures at-collect2.collect-t.ensures at-collect3.collect-n.ensures

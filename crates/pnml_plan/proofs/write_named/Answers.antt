@@ -9,7 +9,7 @@ pub returns-then-index : goal.returns-then-index
 returns-then-index c =
     let at-index = c in
     let call = at-index in
-    laws.told call.args.text.now call.args.buffer.now 18 _ (sym (laws.twice-is call.requires.listing at-index.index.ensures.answer) ∙ c.if-index.true)
+    laws.told call.args.text.now call.args.buffer.now 18 _ (sym (laws.twice_is call.requires.listing at-index.index.ensures.answer) ∙ c.if-index.true)
 
 pub write_joined-requires : goal.write_joined-requires
 write_joined-requires c =
@@ -24,4 +24,4 @@ returns c =
     let at-if1 = at-write-joined in
     let at-index = at-if1 in
     let call = at-index in
-    laws.passed call.args.text.now 19 _ (sym (laws.twice-is call.requires.listing at-index.index.ensures.answer) ∙ at-if1.if-index.false) at-write-joined.write_joined.ensures
+    laws.passed call.args.text.now 19 _ (sym (laws.twice_is call.requires.listing at-index.index.ensures.answer) ∙ at-if1.if-index.false) at-write-joined.write_joined.ensures

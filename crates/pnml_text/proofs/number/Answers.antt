@@ -20,14 +20,14 @@ returns-then-not-goes_on c =
     let test = c in
     let turn = test in
     let call = turn in
-    runs.number-stop turn.loop-a.invariant test.loop-a-test.true (sym (going (goal.at.returns-then-not-goes_on c).After-goes_on) ∙ not-true _ c.if-not-goes_on.true-raw) ∙ sym (runs.number-of call.args.text.now call.args.at)
+    runs.number_stop turn.loop-a.invariant test.loop-a-test.true (sym (going (goal.at.returns-then-not-goes_on c).After-goes_on) ∙ not-true _ c.if-not-goes_on.true-raw) ∙ sym (runs.number_of_lem call.args.text.now call.args.at)
 
 pub loop-a-preserved : goal.loop-a-preserved
 loop-a-preserved c =
     let at_before = c in
     let test = at_before in
     let turn = test in
-    runs.number-on turn.loop-a.invariant test.loop-a-test.true (sym (going (goal.at.loop-a-preserved at_before).After-goes_on) ∙ not-false _ at_before.if-not-goes_on.false-raw) c.push-n.ensures.1 c.push-n.ensures.0
+    runs.number_on turn.loop-a.invariant test.loop-a-test.true (sym (going (goal.at.loop-a-preserved at_before).After-goes_on) ∙ not-false _ at_before.if-not-goes_on.false-raw) c.push-n.ensures.1 c.push-n.ensures.0
 
 pub returns : goal.returns
-returns c = runs.number-end c.loop-a.invariant c.loop-a-test.false ∙ sym (runs.number-of c.args.text.now c.args.at)
+returns c = runs.number_end c.loop-a.invariant c.loop-a-test.false ∙ sym (runs.number_of_lem c.args.text.now c.args.at)
