@@ -1,5 +1,5 @@
 -- The net that a text in PNML names, and refusals 19 and 20 (document 02, A10). `d` is what a text of the profile says.
-use Rattle.std.specs.Prelude.{ℕ, Bool, true, false, ◌||◌, ◌&&◌, List, [], ◌∷◌, ◌++◌, map, eqb, ltb, length, get_or}
+use Rattle.std.specs.Prelude.{ℕ, Bool, false, ◌||◌, ◌&&◌, List, [], ◌∷◌, ◌++◌, map, eqb, ltb, length, get_or}
 use Rattle.net.specs.Net.{Net}
 use Rattle.net.specs.declared.Arc.{Arc}
 use Rattle.file_arcs.specs.Refusal.{key}

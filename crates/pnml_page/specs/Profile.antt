@@ -1,6 +1,6 @@
 -- The strict profile of PNML that is taken (document 02, A10): which pieces stand in a text, one after the other. "Nothing else is taken".
 -- A tag is written out in full: "Attributes stand in the order given, in double quotes, one space before each".
-use Rattle.std.specs.Prelude.{ℕ, zero, suc, ◌+◌, ◌-◌, ◌*◌, Bool, true, false, ◌||◌, ◌&&◌, List, [], ◌∷◌, ◌++◌, length, take, drop, get_or, eqb, ltb}
+use Rattle.std.specs.Prelude.{ℕ, zero, suc, Bool, true, false, ◌||◌, ◌&&◌, List, [], ◌∷◌, ◌++◌, length, take, drop, get_or, eqb, ltb}
 use Prim.Native.String.{String}
 use Rattle.pnml_text.specs.Words.{bytes}
 use Rattle.pnml_text.specs.Characters.{is_space, is_digit, is_id}

@@ -2,7 +2,6 @@ use native.Mathlib.Omega.{arith}
 use mathlib.Core.Path.{refl, sym}
 use mathlib.Core.List.{[], append-nil}
 use lib.ListN.{take}
-use Rattle.pnml_page.specs.Steps
 use Rattle.pnml_names.proofs.Filling as filling
 use Rattle.pnml_names.proofs.collect.Goals as goal
 

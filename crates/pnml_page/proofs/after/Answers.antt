@@ -1,5 +1,4 @@
 use Rattle.pnml_page.specs.Steps
-use Rattle.pnml_text.specs.Rest.{spaces}
 use Rattle.pnml_page.proofs.after.Goals as goal
 
 pub returns : goal.returns

@@ -1,5 +1,4 @@
 use Rattle.pnml_page.specs.Steps
-use Rattle.pnml_page.proofs.Tags as tags
 use Rattle.pnml_text.specs.Rest.{rest_at}
 use mathlib.Core.Path.{◌≡◌}
 use Rattle.pnml_page.proofs.elements_end.Given as goal

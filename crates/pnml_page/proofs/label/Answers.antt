@@ -1,5 +1,4 @@
 use Rattle.pnml_page.proofs.Tags as tags
-use Rattle.pnml_page.specs.Steps.{held}
 use mathlib.Core.Path.{refl}
 use Rattle.pnml_page.proofs.label.Goals as goal
 

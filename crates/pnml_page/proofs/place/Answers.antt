@@ -1,5 +1,4 @@
 use Rattle.pnml_page.proofs.Tags as tags
-use Rattle.pnml_page.specs.Steps.{tail}
 use Rattle.pnml_page.proofs.place.Goals as goal
 
 pub returns : goal.returns

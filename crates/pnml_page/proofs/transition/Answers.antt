@@ -1,5 +1,4 @@
 use Rattle.pnml_page.proofs.Tags as tags
-use Rattle.pnml_text.specs.Rest.{word}
 use Rattle.pnml_page.proofs.transition.Goals as goal
 
 pub returns-then-closed-text : goal.returns-then-closed-text

@@ -1,4 +1,3 @@
-use Rattle.pnml_text.proofs.Runs as runs
 use Rattle.pnml_text.specs.Rest.{strip}
 use lib.ListN.{length, drop}
 use Prim.Native.Nat.{◌-◌, ◌≤◌}
