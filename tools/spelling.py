@@ -135,7 +135,7 @@ def main():
                 return new if head and head.group(1) in modules else word
             return new
 
-        modules = set(re.findall(r"(?m)^use \S+ as (\S+)$", code)) - {"goal", "tie"}
+        modules = set(re.findall(r"(?m)^use (?:\S+\.)?([^\s.{}]+)$", code)) | set(re.findall(r"(?m)^use \S+ as (\S+)$", code)) - {"goal", "tie"}
 
         code = WORD.sub(one, code)
         return re.sub(r"`([^`\s]+)`", lambda m: "`" + table.get(m.group(1), m.group(1)) + "`", code)

@@ -1,11 +1,9 @@
 -- Where the arcs of a transition stand, by the two places where the arcs split.
 use Prim.Native.Nat.{ℕ, zero, suc, ◌+◌, ◌-◌, ◌*◌, ◌≤◌, ◌<◌}
 use mathlib.Core.Path.{◌≡◌, refl, sym, ap, ap₂, ◌∙◌, subst}
-use mathlib.Core.Bool.{Bool, true, false}
 use mathlib.Core.List.{List, [], ◌∷◌}
 use native.Mathlib.Omega.{arith}
-use lib.Dec.{eqb, ltb}
-use lib.IntN.{ℤ, pos, ◌-ℤ◌}
+use lib.IntN.{pos, ◌-ℤ◌}
 use lib.ListN.{length, take, drop, length-take, length-drop}
 use borrow.Author.Tests.{lt-ltb, le-ltb, ne_eqb, eq-eqb}
 use Rattle.net.specs.Net.{weight_on, input, output, effect}
@@ -23,9 +21,8 @@ use Rattle.file.proofs.Rows.{good_at}
 use Rattle.arcs_starts.proofs.Reached.{number_below_lem}
 use Rattle.arcs_column.specs.Gain.{sum_to}
 use Rattle.arcs_column.proofs.Weights.{weight_run, rising}
-use Rattle.promise.specs.Firing.{before, run_if, run_from, run_start, start_if}
+use Rattle.promise.specs.Firing.{before, run_start, start_if}
 use Rattle.arcs_effect.specs.Runs.{run_of, start_of, PartOf, Within}
-use Rattle.arcs_effect.specs.declared.Part.{Part}
 
 -- the arcs of lower transitions are those with a slot below 2t
 before-number : (P T t : ℕ) (l : List Arc) → InRange P T l → before t l ≡ number_below (2 * t) l

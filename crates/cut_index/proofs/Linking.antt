@@ -333,7 +333,7 @@ module _ (s : List ℕ) (h : Header) (sound : Sound s h) (j stop from : ℕ) (gr
       go : Dec (pl k ≡ p) → Dec (tr k ≡ t) → Dec (dr k ≡ d) → T (told j (dr k) (pl k) (tr k))
       go (yes a) (yes b) (yes c) = absurd (opens k m (record { transition = b; direction = c; place = a }))
       go (yes a) (yes b) (no c) =
-          let o = Weights.inputs-first s h sound k j m l b in
+          let o = Weights.inputs_first s h sound k j m l b in
           let u = d_in in
           let z : dr k ≡ 0 = omega (arith, o, u, c) in
           let v : d ≡ 1 = omega (arith, o, u, c) in
@@ -410,11 +410,11 @@ module _ (s : List ℕ) (h : Header) (sound : Sound s h) (j stop from : ℕ) (gr
       let u = d_in in
       let v : d ≡ 1 = omega arith in
       let none : Weights.sum_of s h j 0 p t ≡ 0 = Weights.still s h 0 j 0 p t (omega arith) (λ k a b y. no_taker n v k b y.place y.direction y.transition) ∙ weight_none 0 p t s h.arcstart in
-      let less : Weights.sum_of s h j 0 p t < w = omega (arith, none, Weights.weight-some s h sound j stop group fits opens) in
+      let less : Weights.sum_of s h j 0 p t < w = omega (arith, none, Weights.weight_some s h sound j stop group fits opens) in
       subst (λ (g : ℕ). T (told stop g p t)) (sym v) (holds _ (Weights.output-raises s h sound j stop group fits opens v ∙ lt-ltb _ _ less))
 
   others_new : (e / 65536 ≡ from + 1 → ⊥) → Dec (d ≡ 0) → (g : ℕ) → g ≤ 1 → (g ≡ d → ⊥) → Ends s h (told stop g p) stop g p (get_or head (2 * p + g) 0)
-  others_new n (yes o) g a c = other g a c (λ k m at goes u. let f = Weights.inputs-first s h sound k j m l u in omega (arith, o, c, goes, f))
+  others_new n (yes o) g a c = other g a c (λ k m at goes u. let f = Weights.inputs_first s h sound k j m l u in omega (arith, o, c, goes, f))
   others_new n (no o) g a c = other g a c (λ k m at goes u. let f = d_in in no_taker n (omega (arith, o, f)) k m at (omega (arith, o, f, a, c, goes)) u)
 
   pub linked_new : (head' next' : List ℕ) → 2 * p + 1 < length head → j < length next → (e / 65536 ≡ from + 1 → ⊥) → Fronted (2 * p + d) j from head next head' next' → Rowed s h stop head' next'

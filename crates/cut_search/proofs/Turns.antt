@@ -128,13 +128,13 @@ module _ (s : List ℕ) (h : Header) (sound : Sound s h) (next : List ℕ) (next
   -- where the row goes on
   module _ (more : e ≡ 0 → ⊥) where
     pub row_arc : e % 65536 ≡ suc (e % 65536 - 1)
-    row_arc = Row.row-arc s h d p e x.upto x.within x.last more
+    row_arc = Row.row_arc s h d p e x.upto x.within x.last more
 
     pub row_below : e % 65536 - 1 < h.arcs
     row_below = Row.row_below s h d p e x.upto x.within x.last more
 
     pub row_begun : 0 < e / 65536
-    row_begun = Row.row-begun s h d p e x.upto x.within x.last more
+    row_begun = Row.row_begun s h d p e x.upto x.within x.last more
 
     row_first : Split s h.arcstart h.arcs (2 * transition_at s h.arcstart (e % 65536 - 1)) (e / 65536 - 1)
     row_first = Row.row_first s h d p e x.upto x.within x.last more
@@ -147,13 +147,13 @@ module _ (s : List ℕ) (h : Header) (sound : Sound s h) (next : List ℕ) (next
 
     -- what the row moves
     row_moves : T (moves (net_from s h) d p (transition_at s h.arcstart (e % 65536 - 1)))
-    row_moves = Row.row-moves s h d p e x.upto x.within x.last more
+    row_moves = Row.row_moves s h d p e x.upto x.within x.last more
 
     row_next : Last s h (e % 65536 - 1) d p (get_or next (e % 65536 - 1) 0)
     row_next = Row.row_next s h d p e x.upto x.within x.last more next nexts.nexts
 
     pub row_less : get_or next (e % 65536 - 1) 0 % 65536 < e % 65536
-    row_less = Row.row-less s h d p e x.upto x.within x.last more next nexts.nexts
+    row_less = Row.row_less s h d p e x.upto x.within x.last more next nexts.nexts
 
     module _ (m' : ℕ) (P' R' : List ℕ)
         (y : Search.TransitionKept (Search.needs_of (net_from s h) (transition_at s h.arcstart (e / 65536 - 1))) (transition_at s h.arcstart (e / 65536 - 1)) m m' P R P' R') where
@@ -200,7 +200,7 @@ module _ (s : List ℕ) (h : Header) (sound : Sound s h) (next : List ℕ) (next
           see : (k : ℕ) → e % 65536 - 1 ≤ k → k < h.arcs → place_at s h.arcstart k ≡ p → direction_at s h.arcstart k ≡ d → T (moves (net_from s h) d p (transition_at s h.arcstart k)) → Dec (k < x.upto)
               → T (member R' (transition_at s h.arcstart k))
           see k a b u v w (yes q) =
-              let f = Row.row-rest s h d p e x.upto x.within x.last more k a q u v w in
+              let f = Row.row_rest s h d p e x.upto x.within x.last more k a q u v w in
               subst T (sym (y.members (transition_at s h.arcstart k))) (or_right (member R (transition_at s h.arcstart k)) _ (holds _ (eq-eqb _ t (f ∙ sym t_same))))
           see k a b u v w (no q) = step.more_transitions (transition_at s h.arcstart k) (x.seen k (omega arith) b u v w)
 

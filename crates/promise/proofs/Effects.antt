@@ -1,5 +1,5 @@
 -- "Effect then spans -268,431,360 to 268,431,360": a file has at most 4,096 arcs, of weights up to 65,535; and so "a replayed marking stays below 2 to the power 45".
-use Prim.Native.Nat.{ℕ, zero, suc, ◌+◌, ◌-◌, ◌*◌, ◌≤◌, ◌<◌}
+use Prim.Native.Nat.{ℕ, zero, suc, ◌+◌, ◌-◌, ◌*◌, ◌≤◌}
 use mathlib.Core.Path.{◌≡◌}
 use mathlib.Core.List.{List, [], ◌∷◌}
 use native.Mathlib.Omega.{arith}

@@ -23,7 +23,7 @@ use Rattle.promise.specs.Calls.{safety_buffer}
 use Rattle.promise.specs.Firing.{list_refusal}
 use Rattle.promise.specs.RunCut.{run_file, run_chosen, run_written, run_room, run_refusal, run_outcome, run_answer, run_buffer, run_positions, RunForNothing}
 use Rattle.promise.specs.Promise.{empty_slice}
-use Rattle.promise.proofs.Empty.{none_selected, nothing_written, safety-file, passes, fits}
+use Rattle.promise.proofs.Empty.{none_selected, nothing_written, safety-file, fits}
 
 none_raised : (N : Net) (ts : List ℕ) (i : ℕ) → go_back N ts i [] [] ≡ record { places = []; positions = [] }
 unfolding go_back raised any

@@ -1,15 +1,15 @@
 -- What is written fits into what is lent, and the rooms that include/nesfoal.h names always suffice.
 use Prim.Native.Nat.{ℕ, zero, suc, ◌≤◌}
-use mathlib.Core.Bool.{Bool, true, false, not}
+use mathlib.Core.Bool.{false, not}
 use mathlib.Core.List.{List, [], ◌∷◌}
-use mathlib.Core.Path.{◌≡◌, refl, sym, ap, subst⁻¹, ◌∙◌}
+use mathlib.Core.Path.{◌≡◌, refl, sym, ap}
 use mathlib.Core.Logic.{◌≢◌}
 use native.Mathlib.Omega.{arith}
 use lib.ListN.{length, length-take, length-map}
-use lib.Dec.{T, eqb, ltb, leb}
+use lib.Dec.{eqb, ltb, leb}
 use borrow.Author.Tests.{le-ltb, ltb-false, eqb-true, not-false}
 use Rattle.net.specs.Numbers.{among, any, position}
-use Rattle.net.specs.Net.{Net, has_caps, Uncapped, Answer, fired, short, full, replay}
+use Rattle.net.specs.Net.{Net, has_caps, Answer, fired, short, full, replay}
 use Rattle.net.specs.Cut.{safety, branching}
 use Rattle.net.specs.Slice.{Slice, strike, own, project}
 use Rattle.net.specs.Run.{fed, run_cut}

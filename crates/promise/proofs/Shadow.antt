@@ -1,26 +1,25 @@
 -- The shadow fires in every accepted slice (document 02, A5).
 use Prim.Native.Nat.{ℕ, ◌+◌, ◌<◌}
-use mathlib.Core.List.{List, [], ◌∷◌, ◌++◌}
-use mathlib.Core.Path.{◌≡◌, refl, sym, ap, subst, subst⁻¹, ◌∙◌}
+use mathlib.Core.List.{List, [], ◌++◌}
+use mathlib.Core.Path.{◌≡◌, sym, ap, subst, subst⁻¹, ◌∙◌}
 use native.Mathlib.Omega.{arith}
-use lib.ListN.{length, take, drop, get_or, get_or-append}
+use lib.ListN.{length, take, get_or, get_or-append}
 use lib.Seq.{take-append_seam}
 use lib.Dec.{T}
 use Rattle.net.specs.Numbers.{among}
 use Rattle.net.specs.Net.{Net, Marking, Answer, fired, short, full, replay_from, replay, tokens, Fires, after, StuckAt}
-use Rattle.net.specs.Slice.{project, strike, own, own_place}
+use Rattle.net.specs.Slice.{project, own_place}
 use Rattle.net.specs.Guarantee.{PlanFires, plan_tokens, SliceFires, slice_tokens, struck, Guarantee}
 use Rattle.net.proofs.Replay.{Meaning, replay-means}
 use Rattle.file_words.specs.Word.{Bytes}
 use Rattle.file.specs.Layout.{net_of, slice_of}
-use Rattle.file_words.specs.Refusal.{refuse}
 use Rattle.file.specs.Refusal.{file_refusal}
 use Rattle.file_header.specs.declared.Due.TheVariants as due
 use Rattle.file_words.proofs.Laws.{or_else_0}
 use Rattle.file.proofs.Criterion.{passed}
-use Rattle.promise.specs.Calls.{written, Accepts}
+use Rattle.promise.specs.Calls.{Accepts}
 use Rattle.promise.specs.Firing.{list_refusal}
-use Rattle.promise.specs.Shadow.{fired_part, shadow_of, lent_refusal, shadow_refusal, shadow_or, ShadowAnswer, shadow_answer, shadow_marking, shadow_output, FollowedIn}
+use Rattle.promise.specs.Shadow.{fired_part, shadow_of, lent_refusal, shadow_refusal, shadow_answer, shadow_marking, shadow_output, FollowedIn}
 use Rattle.net.proofs.Markings.{length-tokens, get_d_tokens}
 use Rattle.promise.proofs.Replays.{list_known}
 use Rattle.promise.proofs.Demands.{check_passes, judges, demand_3}

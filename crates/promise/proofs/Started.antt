@@ -1,16 +1,16 @@
 -- The file in which a start stands for the markings: it can be read, and nothing but the marking is another.
-use Prim.Native.Nat.{ℕ, zero, suc, ◌+◌, ◌-◌, ◌*◌, ◌/◌, ◌%◌, ◌≤◌, ◌<◌}
-use mathlib.Core.Bool.{Bool, true, false, not, ◌&&◌, ◌||◌}
-use mathlib.Core.List.{List, [], ◌∷◌, ◌++◌}
+use Prim.Native.Nat.{ℕ, zero, suc, ◌+◌, ◌-◌, ◌*◌, ◌≤◌, ◌<◌}
+use mathlib.Core.Bool.{Bool, true, false, not}
+use mathlib.Core.List.{List, ◌∷◌, ◌++◌}
 use mathlib.Core.Path.{◌≡◌, refl, sym, ap, subst, subst⁻¹, ◌∙◌}
 use native.Mathlib.Omega.{arith}
-use native.Mathlib.Nat.{zero-add, add-zero}
-use lib.ListN.{length, take, drop, get_or, length-append, length-take, length-drop, get_or-append, get_or-eq_default}
+use native.Mathlib.Nat.{zero-add}
+use lib.ListN.{length, take, drop, length-append, length-take, length-drop, get_or-append, get_or-eq_default}
 use lib.Seq.{ext_get_or, get_or-take, get_or-drop, get_or-append-add}
-use lib.Dec.{T, eqb, ltb}
+use lib.Dec.{eqb, ltb}
 use borrow.Author.Tests.{ltb-true, ltb-false, lt-ltb, le-ltb, eqb-true, eq-eqb, ne_eqb, not-false}
 use Rattle.net.specs.Numbers.{any, selected}
-use Rattle.net.specs.Net.{Net, capped, WithinCaps, tokens}
+use Rattle.net.specs.Net.{Net, capped, WithinCaps}
 use Rattle.net.specs.declared.Arc.{Arc}
 use Rattle.net.proofs.Numbers.{by_cases, holds, fails, is_true, is_false, any-has, any-finds, below-has, below-passes}
 use Rattle.net.proofs.Markings.{below_at, below-off, below-is, length-tokens, get_d_tokens}
@@ -24,7 +24,6 @@ use Rattle.file_header.specs.Layout.{pick, places_length, in_slice, trailer_of, 
 use Rattle.file_header.specs.Refusal.{trailer_refusal}
 use Rattle.file_header.specs.declared.Due.{Due}
 use Rattle.file_header.specs.declared.Header.{Header}
-use Rattle.file_header.specs.declared.Trailer.{Trailer}
 use Rattle.file.specs.Layout.{marking_at, cap_at, net_from, net_of}
 use Rattle.file.specs.Refusal.{length_wrong, origins_refusal, links_refusal, body_refusal, file_refusal}
 use Rattle.file.specs.Facts.{Sound, Opened}

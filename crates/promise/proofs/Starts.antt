@@ -1,6 +1,6 @@
 -- The calls that start from a lent marking: what is promised of a file is promised of a start.
 use Prim.Native.Nat.{ℕ, zero, suc, ◌+◌, ◌≤◌}
-use mathlib.Core.Bool.{Bool, true, false, not}
+use mathlib.Core.Bool.{false, not}
 use mathlib.Core.List.{List}
 use mathlib.Core.Path.{◌≡◌, refl, sym, ap, subst, subst⁻¹, ◌∙◌}
 use mathlib.Core.Logic.{◌↔◌}
@@ -24,7 +24,7 @@ use Rattle.file.specs.Layout.{net_of, slice_of}
 use Rattle.file.specs.Refusal.{file_refusal}
 use Rattle.file.specs.Criterion.{criterion_refusal}
 use Rattle.promise.specs.Calls.{CutAnswer, cut_of, cut_refusal, write_refusal, safety_file, branching_file, safety_answer, safety_buffer, branching_answer, branching_buffer, check_refusal, Checked, checked, Accepts}
-use Rattle.promise.specs.Firing.{ReplayAnswer, replay_or, replay_refusal, replay_answer, replay_marking}
+use Rattle.promise.specs.Firing.{replay_or, replay_refusal, replay_answer, replay_marking}
 use Rattle.promise.specs.Exactness.{WritesExact, ReadInFull}
 use Rattle.promise.specs.Promise.{our_cut, our_branching, Wrote, Demand3, WritesSmallest, ReadsBack, Replays}
 use Rattle.promise.specs.Together.{standing}

@@ -1,24 +1,23 @@
 -- A transfer that is not refused: each new place has its sum, the total is unchanged, and the calls that start there do not refuse it.
 use Prim.Native.Nat.{ℕ, zero, suc, ◌+◌, ◌≤◌, ◌<◌}
-use mathlib.Core.Bool.{Bool, true, false, not, ◌&&◌, ◌||◌}
+use mathlib.Core.Bool.{Bool, true, false, not, ◌&&◌}
 use mathlib.Core.List.{List, [], ◌∷◌, ◌++◌, map}
-use mathlib.Core.Path.{◌≡◌, refl, sym, ap, subst, subst⁻¹, ◌∙◌}
+use mathlib.Core.Path.{◌≡◌, refl, sym, ap, ◌∙◌}
 use native.Mathlib.Omega.{arith}
 use native.Mathlib.Nat.{zero-add}
 use lib.ListN.{length, take, drop, get_or, get_or-append}
-use lib.Dec.{eqb, ltb, leb}
-use borrow.Author.Tests.{ltb-true, ltb-false, le-ltb, eqb-true, eqb-false, eq-eqb, ne_eqb, le-leb, not-false}
+use lib.Dec.{eqb, ltb}
+use borrow.Author.Tests.{ltb-true, ltb-false, eqb-true, eqb-false, eq-eqb, ne_eqb, le-leb, not-false}
 use Rattle.net.specs.Numbers.{any, selected}
 use Rattle.net.specs.Net.{Net, counted, tokens}
 use Rattle.net.proofs.Numbers.{by_cases}
 use Rattle.net.proofs.Markings.{length-tokens, get_d_tokens}
-use Rattle.file_words.specs.Refusal.{refuse, or_else}
+use Rattle.file_words.specs.Refusal.{or_else}
 use Rattle.file_words.proofs.Laws.{refuse-0, or_else_0, or-false}
 use Rattle.file.specs.Layout.{net_of}
 use Rattle.file.specs.Refusal.{file_refusal}
 use Rattle.file.proofs.Opening.{sound}
 use Rattle.file_header.specs.declared.Due.TheVariants as due
-use Rattle.promise.specs.Calls.{written}
 use Rattle.promise.specs.Together.{standing}
 use Rattle.promise.specs.Starts.{too_many, overfull, start_refusal, from_refusal}
 use Rattle.promise.specs.Transfer.{carried_to, names_no_place, table_wrong, strands, carry_refusal, transfer_answer, transfer_marking, total, Carried, CarriedOn}

@@ -1,19 +1,18 @@
 -- What follows from the fields of `Promise`, and of the records that the calls ensure, where one call's answer goes to the next.
-use Prim.Native.Nat.{ℕ, zero, suc, ◌+◌, ◌-◌, ◌*◌, ◌%◌, ◌≤◌, ◌<◌}
-use mathlib.Core.Bool.{Bool, true, false}
+use Prim.Native.Nat.{ℕ, zero, suc, ◌+◌, ◌-◌, ◌*◌, ◌≤◌, ◌<◌}
+use mathlib.Core.Bool.{true, false}
 use mathlib.Core.List.{List, [], ◌∷◌, ◌++◌}
 use mathlib.Core.Path.{◌≡◌, refl, sym, ap, subst, subst⁻¹, ◌∙◌}
-use mathlib.Core.Logic.{◌↔◌}
 use native.Mathlib.Omega.{arith}
 use native.Mathlib.Nat.{add-mul}
 use lib.ListN.{length, take, drop, get_or, length-take, length-drop, length-map, take-append-drop}
 use lib.Seq.{take-add, get_or-take, get_or-drop, ext_get_or}
-use lib.Dec.{T, eqb, ltb, leb}
+use lib.Dec.{T, ltb, leb}
 use borrow.Author.Tests.{le-ltb, lt-leb, eqb-true, not-false, ltb-true, ltb-false}
 use Rattle.net.specs.Numbers.{among, any}
-use Rattle.net.specs.Net.{Marking, Net, input, fire, Fires, after, Leads, Answer, fired, short, full, replay, tokens, has_caps, Uncapped, StuckAt, ShortAt, FullAt, Supplied}
-use Rattle.net.specs.Rakow.{Set, nothing, adding, less, Inner, OuterEnds, outer_ends, changing, raising, changed_from, changers_of, SliceEnds, SafetySliceEnds}
-use Rattle.net.specs.Slice.{Slice, HasPlace, project, own, own_place, arcs_of, Accepted}
+use Rattle.net.specs.Net.{Marking, Net, input, fire, Fires, after, Answer, fired, short, full, replay, tokens, Uncapped, ShortAt, FullAt, Supplied}
+use Rattle.net.specs.Rakow.{Set, adding, less, Inner, OuterEnds, outer_ends, changing, raising, SliceEnds, SafetySliceEnds}
+use Rattle.net.specs.Slice.{project, own, own_place, arcs_of, Accepted}
 use Rattle.net.specs.Guarantee.{PlanFires, plan_tokens, SliceFires, slice_tokens, struck, Guarantee}
 use Rattle.net.specs.Conclusions.{StuckForGood}
 use Rattle.net.specs.Run.{fired_at}
@@ -22,24 +21,22 @@ use Rattle.net.proofs.Numbers.{by_cases, by_order, position-lt, rising_selected,
 use Rattle.net.proofs.Markings.{below_at, below-off, length-tokens}
 use Rattle.net.proofs.Replay.{leads_fires, fires_leads}
 use Rattle.net.proofs.Conclusions.{short_for_good, full_for_good}
-use Rattle.file_words.specs.Word.{byte_at, le64, Bytes}
-use Rattle.file_words.specs.Refusal.{refuse, or_else}
+use Rattle.file_words.specs.Word.{byte_at}
 use Rattle.file_words.proofs.Laws.{refuse-0, or_else_0}
 use Rattle.file_arcs.specs.Layout.{arcs_from}
 use Rattle.file_header.specs.Layout.{trailer_of, header_of}
 use Rattle.file_header.specs.Refusal.{letters_wrong, kind_wrong, trailer_refusal}
 use Rattle.file_header.specs.declared.Due.TheVariants as due
-use Rattle.file.specs.Layout.{marking_at, cap_at, net_of, slice_of}
-use Rattle.file.specs.Refusal.{length_wrong, body_refusal, file_refusal}
-use Rattle.file.specs.Criterion.{criterion_of}
+use Rattle.file.specs.Layout.{cap_at, net_of, slice_of}
+use Rattle.file.specs.Refusal.{length_wrong, file_refusal}
 use Rattle.file.proofs.Criterion.{passed}
-use Rattle.promise.specs.Calls.{CutAnswer, cut_refusal, safety_file, branching_file, safety_answer, checked_bytes, written, Accepts}
-use Rattle.promise.specs.Firing.{list_refusal, replay_refusal, ReplayAnswer, replay_told, replay_or, replay_answer, replay_marking, named, arc_run, arc_start}
+use Rattle.promise.specs.Calls.{safety_file, branching_file, checked_bytes, written, Accepts}
+use Rattle.promise.specs.Firing.{list_refusal, replay_refusal, ReplayAnswer, replay_told, replay_or, replay_answer, replay_marking, named}
 use Rattle.promise.specs.Shadow.{FollowedIn}
 use Rattle.promise.specs.Together.{standing, TogetherAnswer, TakesLargest}
-use Rattle.promise.specs.RunCut.{RunAnswer, run_buffer, Feeds, RunsBack}
-use Rattle.promise.specs.Promise.{our_cut, Wrote, WritesSmallest, Sticks, Promise}
-use Rattle.promise.specs.Uses.{LeadsOn, NoneSmaller, EqualOn, EnoughOn, Endless, Uses}
+use Rattle.promise.specs.RunCut.{RunAnswer, Feeds, RunsBack}
+use Rattle.promise.specs.Promise.{Promise}
+use Rattle.promise.specs.Uses.{LeadsOn, EqualOn, EnoughOn, Endless, Uses}
 use Rattle.promise.proofs.Replays.{differ, not_stuck, answered}
 use Rattle.promise.proofs.Demands.{slice_well_formed, check_passes}
 use Rattle.promise.proofs.Shadow.{written_entry}

@@ -1,6 +1,6 @@
 -- Rows for markings known within a range (document 02, A11), worked out by hand, on the small plan of document 01.
 use Rattle.std.specs.Prelude.{ℕ, Bool, true, false, List, [], ◌∷◌, ◌≡◌, length, set, ltb}
-use Rattle.promise.specs.Range.{RangeAnswer, range_answer, range_need}
+use Rattle.promise.specs.Range.{range_answer, range_need}
 use Rattle.promise.specs.Example.{small_plan, parallel_plan}
 use Rattle.promise.specs.FullExample.{full_plan, zero_plan}
 

@@ -1,7 +1,6 @@
 -- Rows for the change of plan and for calls from a lent marking (document 02, A12), worked out by hand, on the small plan of document 01.
 use Rattle.std.specs.Prelude.{ℕ, true, false, List, [], ◌∷◌, ◌≡◌, take}
-use Rattle.promise.specs.Calls.{safety_file, branching_file}
-use Rattle.promise.specs.Firing.{replay_answer}
+use Rattle.promise.specs.Calls.{safety_file}
 use Rattle.promise.specs.Starts.{started, replay_from_answer, replay_from_marking, safety_from_answer, branching_from_answer, checked_from}
 use Rattle.promise.specs.Transfer.{transfer_answer, transfer_marking}
 use Rattle.promise.specs.Example.{small_plan, one_place_plan, one_place_cut}

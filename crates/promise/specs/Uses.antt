@@ -14,7 +14,7 @@ use Rattle.file.specs.Refusal.{file_refusal}
 use Rattle.file.specs.Criterion.{criterion_of}
 use Rattle.file_header.specs.declared.Due.TheVariants as due
 use Rattle.promise.specs.Calls.{CutAnswer, cut_refusal, safety_file, branching_file, safety_answer, checked_bytes, Accepts}
-use Rattle.promise.specs.Firing.{list_refusal, replay_refusal, ReplayAnswer, replay_told, replay_answer, replay_marking, named, arc_run, arc_start}
+use Rattle.promise.specs.Firing.{list_refusal, replay_refusal, replay_told, replay_answer, replay_marking, named, arc_run, arc_start}
 use Rattle.promise.specs.Shadow.{FollowedIn}
 use Rattle.promise.specs.Together.{standing, TogetherAnswer, TakesLargest}
 use Rattle.promise.specs.RunCut.{RunAnswer, run_buffer, Feeds, RunsBack}

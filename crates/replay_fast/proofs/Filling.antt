@@ -1,5 +1,5 @@
 -- A table that is filled from its first entry on.
-use Rattle.std.proofs.Common.{◌≡◌, ℕ, ◌+◌, ◌<◌, ◌≤◌, List, length, get_or, set, refl, ◌∙◌, arith, length-set, get_or-set_other, get_or-set_same, below_none, below_more}
+use Rattle.std.proofs.Common.{◌≡◌, ℕ, ◌+◌, ◌<◌, List, length, get_or, set, refl, ◌∙◌, arith, length-set, get_or-set_other, get_or-set_same, below_none, below_more}
 
 -- the first n entries are those of f
 pub record Filled (f : ℕ → ℕ) (was is : List ℕ) (n : ℕ) : Type 0 where

@@ -1,6 +1,6 @@
 -- Numbers of 32 bits with a sign, and entries that wrap.
 use Rattle.std.proofs.Common.{◌≡◌, ℕ, ◌+◌, ◌-◌, ◌*◌, ◌%◌, ◌^◌, ◌<◌, ◌≤◌, ap, ◌∙◌, arith, eq-eqb, ne_eqb}
-use lib.Bits.{bit_and, bit_or, bit_xor, xor_comm, xor_shifted, xor_block, xor_self, xor_zero_r, or_add_and, and_le_l, and_le_r}
+use lib.Bits.{bit_or, bit_xor, xor_comm, xor_shifted, xor_block, xor_self, xor_zero_r, or_add_and, and_le_l, and_le_r}
 use Rattle.replay_fast.specs.Moves.{change_of, Weighs, Signed, lift}
 
 -- ---- bit 31 turned round

@@ -72,19 +72,19 @@ along_none s h p e last first lead = record {
 module _ (s : List ℕ) (h : Header) (head next : List ℕ) (rows : Rows s h head next) (p e : ℕ) (last first F : List ℕ) (x : Along s h p e last first F) where
   module _ (more : e ≡ 0 → ⊥) where
     pub row_arc : e % 65536 ≡ suc (e % 65536 - 1)
-    row_arc = Row.row-arc s h 1 p e x.upto x.within x.lead more
+    row_arc = Row.row_arc s h 1 p e x.upto x.within x.lead more
 
     pub row_below : e % 65536 - 1 < h.arcs
     row_below = Row.row_below s h 1 p e x.upto x.within x.lead more
 
     pub row_begun : 0 < e / 65536
-    row_begun = Row.row-begun s h 1 p e x.upto x.within x.lead more
+    row_begun = Row.row_begun s h 1 p e x.upto x.within x.lead more
 
     pub row_first : Split s h.arcstart h.arcs (2 * transition_at s h.arcstart (e % 65536 - 1)) (e / 65536 - 1)
     row_first = Row.row_first s h 1 p e x.upto x.within x.lead more
 
     pub row_less : get_or next (e % 65536 - 1) 0 % 65536 < e % 65536
-    row_less = Row.row-less s h 1 p e x.upto x.within x.lead more next rows.nexts
+    row_less = Row.row_less s h 1 p e x.upto x.within x.lead more next rows.nexts
 
     -- the transition of the arc gets its entry
     module _ (t : ℕ) (same : t ≡ transition_at s h.arcstart (e % 65536 - 1)) (l : t < length F) where
@@ -102,7 +102,7 @@ module _ (s : List ℕ) (h : Header) (head next : List ℕ) (rows : Rows s h hea
 
       see : (k : ℕ) → e % 65536 - 1 ≤ k → k < h.arcs → place_at s h.arcstart k ≡ p → direction_at s h.arcstart k ≡ 1 → T (moves (net_from s h) 1 p (transition_at s h.arcstart k)) → Dec (k < x.upto)
           → T (drawn last F' (transition_at s h.arcstart k))
-      see k a b u v w (yes q) = joins-in (transition_at s h.arcstart k) (Row.row-rest s h 1 p e x.upto x.within x.lead more k a q u v w ∙ sym same)
+      see k a b u v w (yes q) = joins-in (transition_at s h.arcstart k) (Row.row_rest s h 1 p e x.upto x.within x.lead more k a q u v w ∙ sym same)
       see k a b u v w (no q) = stays (transition_at s h.arcstart k) (x.seen k (omega arith) b u v w)
 
       abbrev Begins : List ℕ → ℕ → Type 0
@@ -131,7 +131,7 @@ module _ (s : List ℕ) (h : Header) (head next : List ℕ) (rows : Rows s h hea
         seen = λ k a b u v w. see k a b u v w (dec_lt k x.upto);
         more = λ u m. stays u (x.more u m);
         only = λ u m. by_or (drawn last F u) (eqb u t) (subst T (drawn-is u) m) (x.only u)
-            (λ d. or_right (drawn last first u) (moves (net_from s h) 1 p u) (subst (λ (v : ℕ). T (moves (net_from s h) 1 p v)) (sym (eqb→eq u t d ∙ same)) (Row.row-moves s h 1 p e x.upto x.within x.lead more)));
+            (λ d. or_right (drawn last first u) (moves (net_from s h) 1 p u) (subst (λ (v : ℕ). T (moves (net_from s h) 1 p v)) (sym (eqb→eq u t d ∙ same)) (Row.row_moves s h 1 p e x.upto x.within x.lead more)));
         starts = λ st u m. by_cases (eqb u t) (λ a. here u (eqb-true u t a) m) (λ a. other u (eqb-false u t a) (x.starts st u) m);
         long = length-set F t (due_of last t (e / 65536)) ∙ x.long;
       }
@@ -140,7 +140,7 @@ module _ (s : List ℕ) (h : Header) (head next : List ℕ) (rows : Rows s h hea
   along_end ends = record {
     members = λ t. same_test (drawn last F t) (drawn last first t || raises (net_from s h) t p)
         (λ m. by_or (drawn last first t) (moves (net_from s h) 1 p t) (x.only t m) (or_left (drawn last first t) (raises (net_from s h) t p)) (λ u. or_right (drawn last first t) (raises (net_from s h) t p) (unfold raises moves in u)))
-        (λ m. by_or (drawn last first t) (raises (net_from s h) t p) m (x.more t) (λ u. Row.row-ended s h 1 p e x.upto (omega arith) x.lead ends (λ v. T (drawn last F v)) x.seen t (unfold raises moves in u)));
+        (λ m. by_or (drawn last first t) (raises (net_from s h) t p) m (x.more t) (λ u. Row.row_ended s h 1 p e x.upto (omega arith) x.lead ends (λ v. T (drawn last F v)) x.seen t (unfold raises moves in u)));
     starts = x.starts;
     long = x.long;
   }

@@ -1,5 +1,5 @@
 -- The input arcs of a transition, by where they stand in a file that was read; the answer and what is left.
-use Prim.Native.Nat.{ℕ, suc, ◌+◌, ◌-◌, ◌*◌, ◌≤◌, ◌<◌}
+use Prim.Native.Nat.{ℕ, suc, ◌+◌, ◌*◌, ◌≤◌, ◌<◌}
 use mathlib.Core.List.{List}
 use mathlib.Core.Path.{◌≡◌, refl, sym, ap, subst, ◌∙◌}
 use native.Mathlib.Omega.{arith}
@@ -17,7 +17,7 @@ use Rattle.promise.specs.Together.{standing, TogetherAnswer, together_told}
 use Rattle.arcs_starts.specs.Table.{slot_at, Split}
 use Rattle.arcs_column.specs.Ways.{transition_at, direction_at}
 use Rattle.arcs_column.proofs.Sums.{sum_more}
-use Rattle.arcs_column.proofs.Weights.{weight_run, rising}
+use Rattle.arcs_column.proofs.Weights.{weight_run}
 use Rattle.together.specs.Told.{together_numbers}
 use Rattle.together.specs.Inputs.{drawn, OneWay, MostTimes, TakesTimes}
 use Rattle.together.specs.declared.Together.TheVariants.{Times, Unlimited}

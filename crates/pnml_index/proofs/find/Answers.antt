@@ -1,5 +1,4 @@
 use native.Mathlib.Omega.{arith}
-use Rattle.pnml_names.proofs.Ids.{within}
 use Rattle.pnml_index.proofs.Searching as searching
 use Rattle.pnml_index.proofs.find.Goals as goal
 

@@ -1,7 +1,6 @@
 use native.Mathlib.Omega.{arith}
 use Prim.Native.Nat.{◌-◌}
 use mathlib.Core.Path.{sym, ◌∙◌}
-use Rattle.pnml_names.proofs.Ids.{within}
 use Rattle.pnml_index.proofs.Searching as searching
 use Rattle.pnml_index.proofs.seek.Goals as goal
 

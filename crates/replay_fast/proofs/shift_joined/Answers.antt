@@ -1,4 +1,4 @@
-use Rattle.std.proofs.Common.{◌≡◌, ◌<◌, length, sym, refl, ◌∙◌, ⊎_elim, arith, length-set}
+use Rattle.std.proofs.Common.{◌≡◌, ◌<◌, length, sym, refl, ◌∙◌, arith, length-set}
 use Rattle.file_header.specs.declared.Header.{Header}
 use Rattle.replay_fast.specs.Moves.{MovesOf, Movable}
 use Rattle.replay_fast.proofs.Moving.{change_is, place_inside, shifting_none, shifting_end, Holding, holding_none, holding_long, holding_still, holding_other, holding_more}
