@@ -99,7 +99,7 @@ def main():
         if olds == [new]:
             continue
         # a definition of specs/ has the name first; a lemma that would have it too gets _lem, a field _row
-        olds.sort(key=lambda n: (n not in in_specs, n != new, n))
+        olds.sort(key=lambda n: (n not in in_specs, n not in definitions, n != new, n))
         for k, old in enumerate(olds):
             name = new + ("_row" if old in fields else "_lem") * k
             why = None

@@ -18,7 +18,7 @@ use Rattle.file_arcs.specs.Facts.{ArcWord, arc_of}
 use Rattle.file_header.specs.declared.Header.{Header}
 use Rattle.file.proofs.Rows.{rising_from}
 use Rattle.check_fast.specs.Pass.{Ready, joined_of, kept_of, due_of, Meets}
-use Rattle.check_fast.proofs.Ends.{spare, own-place, own-transition, due_fits, word-arc, arc-word}
+use Rattle.check_fast.proofs.Ends.{own-place, own-transition, due_fits, word-arc, arc-word}
 use Rattle.check_fast.proofs.Walking.{good_word, word-ends, plain, plain_word, kept_here, left-out_here}
 use Rattle.check_fast.proofs.Parting.{Level, level_out, level_next, parted_plan, parted_slice}
 

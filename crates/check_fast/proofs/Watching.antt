@@ -1,12 +1,12 @@
 -- The places that no transition left out may change.
 use Prim.Native.Nat.{ℕ, ◌<◌}
 use mathlib.Core.Path.{◌≡◌}
-use mathlib.Core.Bool.{Bool, true, false, ◌&&◌, ◌||◌}
+use mathlib.Core.Bool.{Bool, true, ◌&&◌, ◌||◌}
 use mathlib.Core.List.{List}
 use lib.Dec.{T}
 use Rattle.net.specs.Numbers.{among}
 use Rattle.net.specs.Net.{capped}
-use Rattle.net.proofs.Numbers.{holds, is_true, by_or, or_left, or_right, and_both, and_left, same_test, below-has, below-passes}
+use Rattle.net.proofs.Numbers.{holds, is_true, by_or, or_right, and_both, and_left, same_test, below-has, below-passes}
 use Rattle.file.specs.Layout.{net_from, slice_from}
 use Rattle.file_header.specs.declared.Header.{Header}
 use Rattle.rules_tables.proofs.Caps.{capped-known}

@@ -6,12 +6,11 @@ use mathlib.Core.Path.{◌≡◌, refl, sym, ap, ◌∙◌, subst}
 use native.Mathlib.Omega.{arith}
 use native.Mathlib.Decide.{dec_lt}
 use lib.Dec.{T}
-use Rattle.file.specs.Layout.{net_from}
 use Rattle.file_header.specs.declared.Header.{Header}
 use Rattle.arcs_starts.specs.Table.{Split}
 use Rattle.arcs_column.specs.Ways.{transition_at, direction_at, place_at}
 use Rattle.arcs_groups.specs.Groups.{Opens}
-use Rattle.cut_rows.specs.Rows.{moves, entry_of, Ends}
+use Rattle.cut_rows.specs.Rows.{entry_of, Ends}
 
 entry_arc : (j from : ℕ) → j < 4096 → (65536 * suc from + suc j) % 65536 ≡ suc j
 entry_arc j from l = omega arith

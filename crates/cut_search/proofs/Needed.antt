@@ -10,7 +10,7 @@ use lib.ListN.{length}
 use borrow.Author.Tests.{eq-eqb, ne_eqb, lt-ltb, le-ltb, ltb-true, eqb-true, eqb-false}
 use Rattle.net.specs.Net.{Net, weight_on, input, output, takes_from, adds_to, capped, Uncapped}
 use Rattle.net.specs.declared.Arc.{Arc}
-use Rattle.net.proofs.Numbers.{by_cases, by_or, holds, fails, is_true, and_left, and_right, and_both, or_left, or_right, same_test}
+use Rattle.net.proofs.Numbers.{by_cases, by_or, holds, is_true, and_left, and_right, and_both, or_left, or_right, same_test}
 use Rattle.net.proofs.Markings.{below-off}
 use Rattle.net.proofs.Uncapped.{no_cap}
 use Rattle.file_arcs.specs.Layout.{arc_at}
@@ -22,7 +22,7 @@ use Rattle.file.proofs.Rows.{good_at}
 use Rattle.arcs_starts.specs.Table.{slot_at, Split}
 use Rattle.arcs_starts.proofs.Reached.{ordered}
 use Rattle.sets_pending.specs.Growing.{PlacesKept}
-use Rattle.arcs_column.specs.Ways.{Joins, transition_at, direction_at, place_at}
+use Rattle.arcs_column.specs.Ways.{transition_at, direction_at, place_at}
 use Rattle.arcs_column.proofs.Arcs.{has_arc, arc-has}
 use Rattle.cut_rows.proofs.Inputs.{takes_inside}
 use Rattle.cut_search.specs.Search.{needs_of, needs_place}

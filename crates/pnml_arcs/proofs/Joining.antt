@@ -21,7 +21,7 @@ use Rattle.pnml_names.specs.Tables.{ids_in, wanted_read}
 use Rattle.pnml_names.specs.declared.Which.TheVariants.{Places, Transitions, Arcs}
 use Rattle.pnml_names.proofs.Ids.{among-append, position-among, position_in, position-not, no_other}
 use Rattle.pnml_net.specs.Named
-use Rattle.pnml_net.specs.Read.{read_of, id_of, entries, ids, names}
+use Rattle.pnml_net.specs.Read.{read_of, id_of, entries, ids}
 use Rattle.pnml_net.specs.Named.{joined}
 use Rattle.pnml_list.specs.Listing.{Listing}
 use Rattle.pnml_index.specs.Rows.{Indexed}

@@ -10,7 +10,7 @@ use Rattle.promise.specs.Together.{together_answer}
 use Rattle.promise.specs.RunCut.{run_refusal, run_answer}
 use Rattle.promise.specs.Example.{small_plan, one_place_cut}
 
--- "Within one place of checking the lower number comes first": the trailer, the arcs, the origins. 1 before 2: `too_short`; 4 before 5: `many-places`; 5 before 16 before 6: `after_5`, `before_6`
+-- "Within one place of checking the lower number comes first": the trailer, the arcs, the origins. 1 before 2: `too_short`; 4 before 5: `many_places`; 5 before 16 before 6: `after_5`, `before_6`
 pub record FileOrder : Type 0 where
   -- edition 3 and kind 2; a plan of 1,025 places where a slice is asked for
   pub letters_before_kind : file_refusal due.Plan (set (set small_plan 102 2) 103 3) ≡ 2
@@ -28,10 +28,10 @@ pub record CallOrder : Type 0 where
   -- replay: the file, the list, 13
   pub replay_file : (replay_answer [] (0 ∷ []) 0).refusal ≡ 1
   pub replay_list : (replay_answer small_plan (4 ∷ []) 0).refusal ≡ 12
-  -- shadow: a slice as plan and no bytes as slice; slice before list and list before buffers: `no-slice`, `unknown`
+  -- shadow: a slice as plan and no bytes as slice; slice before list and list before buffers: `no_slice`, `unknown`
   pub shadow_plan : (shadow_answer one_place_cut [] (4 ∷ []) 0 0).run.refusal ≡ 3
   pub shadow_slice : (shadow_answer small_plan [] (4 ∷ []) 0 0).run.refusal ≡ 1
-  -- together: the plan, 12, 15, 13: `no-plan`, `no-transition`, `four-entries`
+  -- together: the plan, 12, 15, 13: `no_plan`, `no_transition`, `four_entries`
   pub together_plan : (together_answer [] 9 [] 0).refusal ≡ 1
   -- the cuts: the plan, 10, 13
   pub safety_plan : (safety_answer [] (9 ∷ []) 0).refusal ≡ 1

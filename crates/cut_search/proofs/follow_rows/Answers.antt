@@ -1,5 +1,4 @@
 use mathlib.Core.Path.{sym, ◌∙◌}
-use mathlib.Core.Logic.{⊎_elim}
 use native.Mathlib.Omega.{arith}
 use Rattle.file.specs.Layout.{net_from}
 use Rattle.cut_search.specs.Search.{draws_both}

@@ -1,7 +1,6 @@
 use Prim.Native.Nat.{◌+◌, ◌-◌}
 use mathlib.Core.Path.{◌≡◌}
 use lib.ListN.{length}
-use Rattle.pnml_arcs.proofs.Joining as joining
 use Rattle.pnml_arcs.proofs.Packing as packing
 use Rattle.pnml_arcs.proofs.pack.Given as goal
 
