@@ -1,11 +1,10 @@
 -- For the calls that start from a lent marking: what is known of the file in which it stands, and how they are refused.
 use Prim.Native.Nat.{ℕ, ◌<◌}
 use mathlib.Core.List.{List}
-use mathlib.Core.Path.{◌≡◌, refl, sym, ap, subst⁻¹}
+use mathlib.Core.Path.{◌≡◌, sym, ap, subst⁻¹}
 use lib.ListN.{length}
 use Rattle.file_words.specs.Word.{byte_at, Bytes}
 use Rattle.file_words.proofs.Laws.{or_else_stop}
-use Rattle.file_header.specs.Layout.{header_of}
 use Rattle.file_header.specs.declared.Due.{Due}
 use Rattle.file_header.specs.declared.Header.{Header}
 use Rattle.file.specs.Layout.{net_from}

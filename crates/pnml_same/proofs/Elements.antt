@@ -7,12 +7,12 @@ use mathlib.Core.List.{List, [], ◌∷◌, map}
 use Rattle.pnml_text.specs.Words.{bytes}
 use Rattle.pnml_text.specs.Characters.{is_space}
 use Rattle.pnml_text.specs.declared.Run.TheVariants.{Id}
-use Rattle.pnml_text.specs.Rest.{Rest, outside, more, word, spaces, id, id_of, front, left, digits, capped, number_of}
+use Rattle.pnml_text.specs.Rest.{Rest, outside, more, word, spaces, id, id_of, front, capped, number_of}
 use Rattle.pnml_page.specs.Profile
 use Rattle.pnml_page.specs.Profile.{Piece, tag, blank, name, number, failed, parsed, past, reads, Element, Form, made, forms, Next, none, stands, element, content}
 use Rattle.pnml_page.specs.Steps
 use Rattle.pnml_page.specs.Steps.{Number, Read, or_missing, label, ended, or_closed, tail, or_else, if_stands, if_read, a_place, a_transition, an_arc, place_read, transition_read, arc_read}
-use Rattle.pnml_same.proofs.Pieces.{clash, clash_word, step, holds, steps, held, parse, steps_outside, reads-are, spaces-are}
+use Rattle.pnml_same.proofs.Pieces.{clash, clash_word, steps, held, parse, steps_outside, reads-are, spaces-are}
 
 -- an element with its number as the code holds it
 abbrev pub cap : Element → Element

@@ -1,5 +1,5 @@
 -- What the code reads of a text is what the profile says of it, numbers being capped; so it refuses the same texts and makes the same net. Assumes nothing.
-use Prim.Native.Nat.{ℕ, suc, ◌*◌, ◌≤◌, ◌<◌}
+use Prim.Native.Nat.{ℕ, suc, ◌≤◌, ◌<◌}
 use mathlib.Core.Path.{◌≡◌, refl, sym, ap, ◌∙◌}
 use mathlib.Core.Bool.{Bool, true, false, ◌||◌, ◌&&◌, true≢false}
 use mathlib.Core.List.{List, [], ◌∷◌, ◌++◌, map}
@@ -7,7 +7,6 @@ use native.Mathlib.Omega.{arith}
 use lib.Dec.{eqb, ltb, leb}
 use lib.ListN.{length, get_or, length-map}
 use borrow.Author.Tests.{leb-true, leb-false, lt-ltb, le-ltb, ne_eqb}
-use Rattle.net.specs.Net.{Net}
 use Rattle.net.proofs.Numbers.{by_cases}
 use Rattle.pnml_text.specs.Rest.{Rest, outside, more, strip, id_of, capped}
 use Rattle.pnml_text.proofs.Runs.{cap_low, cap_high}
@@ -25,7 +24,7 @@ use Rattle.pnml_net.specs.Named.{joined, arcs_of, any_off}
 use Rattle.pnml_net.specs.Read
 use Rattle.pnml_net.specs.Read.{read_of, counts_off, sorted}
 use Rattle.pnml_net.proofs.Arcs.{not-off, apart_is}
-use Rattle.pnml_same.proofs.Pieces.{step, holds, steps, held, parse, reads-are}
+use Rattle.pnml_same.proofs.Pieces.{steps, held, parse, reads-are}
 use Rattle.pnml_same.proofs.Elements.{cap, same}
 
 -- ---- a text

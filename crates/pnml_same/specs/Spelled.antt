@@ -2,7 +2,7 @@
 use Rattle.std.specs.Prelude.{ℕ, ◌≤◌, Bool, true, false, ◌||◌, List, [], ◌∷◌, ◌++◌, map, ◌≡◌, eqb, length}
 use Rattle.pnml_text.specs.Words.{bytes}
 use Rattle.pnml_text.specs.Rest.{decimal}
-use Rattle.pnml_page.specs.Profile.{Element, Drawing, drawing, of_profile}
+use Rattle.pnml_page.specs.Profile.{Element, drawing, of_profile}
 
 -- each byte is one of these
 abbrev pub one_of : List ℕ → ℕ → Bool

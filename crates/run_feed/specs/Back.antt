@@ -1,7 +1,7 @@
 -- How far going back over a run has come: for the contracts of its steps, not for a reader of the call.
 use Rattle.std.specs.Prelude.{ℕ, ◌*◌, ◌-◌, ◌≤◌, ◌<◌, Bool, ◌||◌, List, ◌≡◌, T, ltb, length, get_or, drop}
 use Rattle.net.specs.Numbers.{among}
-use Rattle.net.specs.Net.{Net, raises, takes_from}
+use Rattle.net.specs.Net.{raises, takes_from}
 use Rattle.net.proofs.Feeding.{feed, upto}
 use Rattle.file.specs.Layout.{net_from}
 use Rattle.file_header.specs.declared.Header.{Header}

@@ -5,17 +5,15 @@ use mathlib.Core.List.{List, ◌++◌}
 use mathlib.Core.Path.{◌≡◌, sym, ap, subst, subst⁻¹, ◌∙◌}
 use native.Mathlib.Omega.{arith}
 use borrow.Author.Tests.{ltb-false}
-use lib.ListN.{length, get_or, take, drop}
+use lib.ListN.{length, take, drop}
 use lib.Dec.{ltb}
 use lib.Seq.{length-take-le, get_or-take}
 use Rattle.net.specs.Slice.{Slice}
-use Rattle.file_words.specs.Refusal.{refuse}
 use Rattle.file_header.specs.declared.Header.{Header}
-use Rattle.promise.specs.Calls.{written}
 use Rattle.projection.specs.Choice.{chosen_by, Reached, Projects}
 use Rattle.projection.proofs.Choices.{chosen-few}
 use Rattle.replay.specs.declared.Outcome.{Outcome}
-use Rattle.shadow.specs.Told.{fired_of, with_count, cast_by, fired_projection, Fireable, Given, Casts}
+use Rattle.shadow.specs.Told.{fired_of, with_count, fired_projection, Fireable, Given, Casts}
 use Rattle.shadow.specs.declared.Shadow.{Shadow}
 use Rattle.shadow.specs.declared.Shadow.TheVariants.{Refused}
 

@@ -1,5 +1,5 @@
 -- What a replay's outcome says of the run's shadow: the part that is projected, the answer, the marking.
-use Prim.Native.Nat.{ℕ, zero, suc, ◌+◌, ◌<◌, ◌≤◌}
+use Prim.Native.Nat.{ℕ, zero, suc, ◌<◌, ◌≤◌}
 use mathlib.Core.Bool.{Bool, true, false, ◌||◌}
 use mathlib.Core.List.{List, [], ◌∷◌, ◌++◌}
 use mathlib.Core.Path.{◌≡◌, refl, sym, ap, subst, ◌∙◌}
@@ -28,7 +28,7 @@ use Rattle.replay.specs.Told.{outcome_numbers, held_back}
 use Rattle.replay.specs.declared.Outcome.{Outcome}
 use Rattle.replay.specs.declared.Outcome.TheVariants as outcome
 use Rattle.replay.proofs.Listing.{list_passes, room_enough}
-use Rattle.shadow.specs.Told.{shadow_numbers, fired_of, with_count, cast_by, due_of, fired_projection, Given, Casts, Follows}
+use Rattle.shadow.specs.Told.{shadow_numbers, fired_of, cast_by, due_of, fired_projection, Given, Casts, Follows}
 use Rattle.shadow.specs.declared.Shadow.{Shadow}
 use Rattle.shadow.specs.declared.Shadow.TheVariants.{Fired, Short, Full, Refused}
 

@@ -1,4 +1,3 @@
-use mathlib.Core.Bool.{false}
 use mathlib.Core.Path.{sym, ap, ◌∙◌}
 use Rattle.promise.specs.Transfer.{names_no_place}
 use Rattle.inputs_lists.proofs.Prefixes.{any_none, any-all, any_met, any-not_yet}

@@ -1,4 +1,3 @@
-use borrow.Author.Rules.{rules}
 use native.Mathlib.Omega.{arith}
 use Rattle.check_rules.proofs.Steps.{broken_here, range4}
 use Rattle.checker.proofs.OnePass.{agreed_told}

@@ -4,7 +4,6 @@ use lib.ListN.{length, drop}
 use Rattle.file_writing.specs.Writing.{arcs_bytes}
 use Rattle.tables.proofs.Storing.{Storing}
 use Rattle.pnml_file.specs.Ready.{arcs_in}
-use Rattle.pnml_file.proofs.Laws as laws
 use Rattle.pnml_file.proofs.write_arcs.Given as goal
 
 abbrev pub invariant-loop-k : goal.invariant-loop-k

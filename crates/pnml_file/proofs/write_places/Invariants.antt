@@ -4,7 +4,6 @@ use Rattle.file_writing.specs.Writing.{places_bytes}
 use Rattle.tables.proofs.Storing.{Storing}
 use Rattle.slice_put.proofs.Placing.{places_from}
 use Rattle.pnml_file.specs.Ready.{marking_in}
-use Rattle.pnml_file.proofs.Laws as laws
 use Rattle.pnml_file.proofs.write_places.Given as goal
 
 abbrev pub invariant-loop-p : goal.invariant-loop-p

@@ -19,9 +19,6 @@ use Rattle.run_cut.proofs.counted.Goals.{After-share-n, At-loop-k, In-loop-k, St
 abbrev Turn : Type 0
 Turn = At-loop-k
 
-abbrev Start : Type 0
-Start = Start
-
 abbrev call : Turn → Start
 call c = (goal.at.At-loop-k c).Start
 
@@ -41,7 +38,8 @@ counts : (c : After-share-n) → let t = c in let s = call (goal.at.After-share-
 counts c = c.share-n.ensures ∙ ap (λ (n : ℕ). choose (ltb c.loop-k.k n) 1 0) c.entry.ensures.0
 
 one_or_none : (b : Bool) → choose b 1 0 < 2
-one_or_none b = elim b [ true ↦ omega arith | false ↦ omega arith ]
+one_or_none true = omega arith
+one_or_none false = omega arith
 
 pub loop-k-init : goal.loop-k-init
 loop-k-init c = (omega arith, none_yet _)

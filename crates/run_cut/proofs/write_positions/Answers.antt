@@ -18,9 +18,6 @@ use Rattle.run_cut.proofs.write_positions.Goals.{After-share-n, At-loop-i, In-lo
 abbrev Turn : Type 0
 Turn = At-loop-i
 
-abbrev Start : Type 0
-Start = Start
-
 abbrev call : Turn → Start
 call c = (goal.at.At-loop-i c).Start
 
@@ -72,7 +69,8 @@ pub entry-requires : goal.entry-requires
 entry-requires c = (call (goal.at.entry-requires c).At-loop-i).requires.0.known c.loop-i.i (below (goal.at.entry-requires c).In-loop-i)
 
 one_or_none : (b : Bool) → choose b 1 0 < 2
-one_or_none b = elim b [ true ↦ omega arith | false ↦ omega arith ]
+one_or_none true = omega arith
+one_or_none false = omega arith
 
 pub overflow_add-n : goal.overflow_add-n
 overflow_add-n c =

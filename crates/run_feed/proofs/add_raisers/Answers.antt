@@ -53,7 +53,8 @@ due_is : (c : Due) → let i = (in_of (read_of c)) in c.due-from.result ≡ due_
 due_is c = c.due-from.ensures ∙ ap (λ (n : ℕ). choose (eqb n 0) ((in_of (read_of c)).loop-e.e / 65536) 0) c.entry.ensures.0
 
 due_few : (b : Bool) (n : ℕ) → choose b n 0 ≤ n
-due_few b n = elim b [ true ↦ omega arith | false ↦ omega arith ]
+due_few true n = omega arith
+due_few false n = omega arith
 
 -- an entry of either row
 pub overflow_cast-e : goal.overflow_cast-e

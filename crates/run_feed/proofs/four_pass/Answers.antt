@@ -20,7 +20,7 @@ pub waiting-d-requires : goal.waiting-d-requires
 waiting-d-requires c = let s = call (goal.at.waiting-d-requires c).After-waiting-a in (omega (arith, s.requires.0), s.requires.1)
 
 pub returns : goal.returns
-returns c =
+returns c e =
     let third = c in
     let second = third in
     let first = second in

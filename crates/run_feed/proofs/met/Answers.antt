@@ -25,7 +25,7 @@ pub pass-i-requires : goal.pass-i-requires
 pass-i-requires c = c.requires
 
 pub loop-i-init : goal.loop-i-init
-loop-i-init c = (within, passed)
+loop-i-init c within passed = (within, passed)
 
 pub waiting-requires : goal.waiting-requires
 waiting-requires c = let t = c in let s = call (goal.at.waiting-requires t).At-loop-i in (omega (arith, c.loop-i-test.true, (so_far (goal.at.waiting-requires t).At-loop-i).0, s.requires.0), s.requires.1)
@@ -37,7 +37,7 @@ returns-then-waiting-ne0 c =
     record { within = x.0; passed = x.1; waiting = λ w. omega (arith, read.waiting.ensures.0, c.if-waiting-ne0.true) }
 
 pub loop-i-preserved : goal.loop-i-preserved
-loop-i-preserved c =
+loop-i-preserved c within passed =
     let read = c in
     let t = turn_of (goal.at.loop-i-preserved read).After-waiting in
     let x = t.loop-i.invariant within passed in
