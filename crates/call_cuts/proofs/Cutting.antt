@@ -1,17 +1,15 @@
 -- The answer and the buffer of a cut, by the way out that the call took.
 use Prim.Native.Nat.{ℕ, zero, suc, ◌<◌}
-use mathlib.Core.Path.{◌≡◌, refl, sym, ap, ap₂, subst, subst⁻¹, ◌∙◌}
+use mathlib.Core.Path.{◌≡◌, refl, sym, ap₂, subst}
 use mathlib.Core.Logic.{◌≢◌}
-use mathlib.Core.Bool.{Bool, true, false}
+use mathlib.Core.Bool.{true, false}
 use mathlib.Core.List.{List}
 use lib.ListN.{length}
-use Rattle.net.specs.Net.{Net}
-use Rattle.net.specs.Cut.{Growth, growth, safety, branching}
+use Rattle.net.specs.Cut.{growth, safety, branching}
 use Rattle.net.specs.Slice.{Slice, keeping, cut}
 use Rattle.file_words.specs.Word.{byte_at, Bytes}
 use Rattle.file_header.specs.Layout.{header_of}
-use Rattle.file.specs.Layout.{net_from, net_of}
-use Rattle.file_words.specs.Refusal.{or_else}
+use Rattle.file.specs.Layout.{net_from}
 use Rattle.file.specs.Refusal.{file_refusal}
 use Rattle.file.specs.Criterion.{criterion_refusal}
 use Rattle.file_writing.specs.Writing.{slice_bytes}

@@ -1,14 +1,10 @@
 -- The arc run, by the way out that the call took.
 use Prim.Native.Nat.{ℕ, zero, suc}
 use mathlib.Core.Path.{◌≡◌, refl, sym, ap, ◌∙◌}
-use mathlib.Core.Bool.{Bool, true, false, ◌&&◌}
+use mathlib.Core.Bool.{Bool, true, false}
 use mathlib.Core.Logic.{◌≢◌}
 use mathlib.Core.List.{List, []}
-use lib.Dec.{eqb, ltb}
-use lib.ListN.{length}
 use borrow.Author.Tests.{ne_eqb}
-use Rattle.file_header.specs.Layout.{header_of}
-use Rattle.file.specs.Layout.{net_of}
 use Rattle.file_words.specs.Refusal.{or_else}
 use Rattle.file.specs.Refusal.{file_refusal}
 use Rattle.file.specs.Facts.{Opened}
@@ -19,7 +15,7 @@ use Rattle.file.specs.declared.Reading.{Reading}
 use Rattle.file.specs.declared.Reading.TheVariants.{Refused}
 use Rattle.file.proofs.Opening.{turned_back_lem}
 use Rattle.file_header.specs.declared.Header.{Header}
-use Rattle.promise.specs.Firing.{named, run_if, run_start, run_from, run_in, arc_run, start_if, arc_start}
+use Rattle.promise.specs.Firing.{run_in, arc_run, arc_start}
 use Rattle.arcs_effect.specs.Runs.{run_of, start_of}
 
 -- either file refused: no run

@@ -11,7 +11,7 @@ use Rattle.file.specs.Facts.{Opened}
 use Rattle.file_header.specs.declared.Due.TheVariants.{Either}
 use Rattle.file_header.specs.declared.Header.{Header}
 use Rattle.file_words.proofs.Laws.{or_else_stop}
-use Rattle.promise.specs.Firing.{EffectAnswer, effect_refusal, effect_answer, effect_or}
+use Rattle.promise.specs.Firing.{effect_refusal, effect_answer, effect_or}
 use Rattle.call_firing.specs.Effect.{change_numbers}
 use Rattle.call_firing.specs.declared.effects.Change.TheVariants.{By, Refused}
 

@@ -1,7 +1,7 @@
 -- The answer of `shadow`, its marking and its output list, by the way out that the call took; and what they are good for.
 use Prim.Native.Nat.{ℕ, zero, suc}
 use mathlib.Core.Path.{◌≡◌, refl, sym, ap, subst⁻¹, ◌∙◌}
-use mathlib.Core.Bool.{Bool, true, false, not}
+use mathlib.Core.Bool.{false}
 use borrow.Author.Tests.{eqb-true, not-false}
 use mathlib.Core.List.{List}
 use lib.Dec.{eqb}

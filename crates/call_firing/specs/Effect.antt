@@ -1,5 +1,5 @@
 -- The answer of `effect` in document 01's numbers.
-use Rattle.std.specs.Prelude.{true, false, ◌≡◌, ℤ, pos}
+use Rattle.std.specs.Prelude.{true, false, ◌≡◌, pos}
 use Rattle.promise.specs.Firing.{EffectAnswer}
 use Rattle.call_firing.specs.declared.effects.Change.{Change}
 use Rattle.call_firing.specs.declared.effects.Change.TheVariants.{By, Refused}

@@ -1,11 +1,11 @@
 -- The answer of `transfer` and its marking, by the way out that the call took.
-use Prim.Native.Nat.{ℕ, zero, suc}
-use mathlib.Core.Path.{◌≡◌, refl, sym, ap, subst⁻¹, ◌∙◌}
+use Prim.Native.Nat.{ℕ}
+use mathlib.Core.Path.{◌≡◌, refl, sym, subst⁻¹, ◌∙◌}
 use mathlib.Core.List.{List}
 use lib.ListN.{length}
-use Rattle.net.specs.Net.{Net, tokens}
+use Rattle.net.specs.Net.{tokens}
 use Rattle.file_words.proofs.Laws.{or_else_stop}
-use Rattle.file.specs.Layout.{net_from, net_of}
+use Rattle.file.specs.Layout.{net_from}
 use Rattle.file.specs.Refusal.{file_refusal}
 use Rattle.file.specs.Facts.{Opened}
 use Rattle.file_header.specs.declared.Due.TheVariants.{Plan}

@@ -9,9 +9,8 @@ use Rattle.file.specs.Facts.{Opened}
 use Rattle.file.specs.Refusal.{file_refusal}
 use Rattle.plan_put.specs.Told.{file_numbers}
 use Rattle.plan_put.specs.declared.File.{File}
-use Rattle.plan_put.specs.declared.File.TheVariants.{Length, Refused}
-use Rattle.promise.specs.Normal.{FileAnswer}
-use Rattle.promise.specs.Pnml.{pnml_answer, WritesNamed}
+use Rattle.plan_put.specs.declared.File.TheVariants.{Length}
+use Rattle.promise.specs.Pnml.{WritesNamed}
 use Rattle.clients_pnml.specs.Drawn.{Tells}
 use Rattle.clients_pnml.specs.declared.Drawn.TheVariants.{Net}
 

@@ -1,17 +1,15 @@
 -- What a cut from a start wrote, and the check from the same start.
 use Prim.Native.Nat.{ℕ, zero, suc, ◌≤◌}
-use mathlib.Core.Bool.{Bool, true, false}
+use mathlib.Core.Bool.{true, false}
 use mathlib.Core.List.{List}
-use mathlib.Core.Path.{◌≡◌, refl, sym, ap, subst, subst⁻¹, ◌∙◌}
+use mathlib.Core.Path.{◌≡◌, refl, sym, ap, subst, ◌∙◌}
 use native.Mathlib.Omega.{arith}
 use lib.ListN.{length, take, drop, length-append, length-drop}
 use lib.Dec.{eqb, ltb}
 use borrow.Author.Tests.{ltb-false, eqb-true, eq-eqb}
-use Rattle.net.specs.Net.{Net}
 use Rattle.net.specs.Cut.{safety, branching}
 use Rattle.net.specs.Slice.{Slice}
 use Rattle.net.specs.Guarantee.{Guarantee}
-use Rattle.file_words.specs.Refusal.{refuse, or_else}
 use Rattle.file_words.proofs.Laws.{refuse-0, or_else_0}
 use Rattle.file_header.specs.declared.Due.TheVariants as due
 use Rattle.file.specs.Layout.{slice_of}

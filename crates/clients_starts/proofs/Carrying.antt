@@ -1,9 +1,9 @@
 -- A transfer, and the replay from what it left.
 use Prim.Native.Nat.{ℕ, zero, suc, ◌≤◌, ◌<◌}
-use mathlib.Core.Bool.{true, false}
+use mathlib.Core.Bool.{false}
 use mathlib.Core.List.{List, [], ◌∷◌, ◌++◌}
 use mathlib.Core.Path.{◌≡◌, refl, sym, ap, subst, subst⁻¹, ◌∙◌}
-use mathlib.Core.Logic.{◌↔◌, ◌≢◌}
+use mathlib.Core.Logic.{◌↔◌}
 use native.Mathlib.Omega.{arith}
 use lib.ListN.{length, take, drop, length-append, length-drop}
 use lib.Dec.{ltb, leb}
@@ -12,12 +12,10 @@ use Rattle.net.specs.Net.{Net, Answer, fired, short, full, after, replay, tokens
 use Rattle.net.specs.Guarantee.{PlanFires}
 use Rattle.net.proofs.Markings.{length-tokens}
 use Rattle.file_words.specs.Word.{byte_at, Bytes}
-use Rattle.file_words.specs.Refusal.{refuse, or_else}
 use Rattle.file_words.proofs.Laws.{or_else_0}
 use Rattle.file_header.specs.declared.Due.TheVariants as due
 use Rattle.file.specs.Layout.{net_of}
 use Rattle.file.specs.Refusal.{file_refusal}
-use Rattle.promise.specs.Calls.{written}
 use Rattle.promise.specs.Firing.{ReplayAnswer, replay_or, list_refusal, replay_refusal, replay_answer, replay_marking}
 use Rattle.promise.specs.Promise.{Replays}
 use Rattle.promise.specs.Together.{standing}

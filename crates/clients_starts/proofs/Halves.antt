@@ -1,19 +1,19 @@
 -- A list replayed in two parts: the second goes on where the first ended.
 use Prim.Native.Nat.{ℕ, zero, suc, ◌+◌, ◌≤◌, ◌<◌}
-use mathlib.Core.Bool.{Bool, true, false, not, ◌&&◌, ◌||◌}
+use mathlib.Core.Bool.{Bool, true, false, not}
 use mathlib.Core.List.{List, [], ◌∷◌, ◌++◌}
 use mathlib.Core.Path.{◌≡◌, refl, sym, ap, subst, ◌∙◌}
 use native.Mathlib.Omega.{arith}
 use lib.ListN.{length, drop, get_or, length-append, get_or-append, get_or-eq_default}
-use lib.Dec.{T, eqb, ltb, leb}
+use lib.Dec.{ltb, leb}
 use borrow.Author.Tests.{ltb-true, ltb-false, lt-ltb, le-ltb, eq-eqb, ne_eqb}
 use Rattle.net.specs.Numbers.{any}
-use Rattle.net.specs.Net.{Net, Marking, Answer, fired, short, full, passes, input, output, weight_on, capped, fire, Enabled, WithinCaps, test_firing, Replay, replay_from, replay, tokens}
-use Rattle.net.proofs.Numbers.{by_cases, holds, is_true}
+use Rattle.net.specs.Net.{Net, Marking, Answer, fired, short, full, input, output, capped, fire, Enabled, WithinCaps, test_firing, Replay, replay_from, replay, tokens}
+use Rattle.net.proofs.Numbers.{by_cases, holds}
 use Rattle.net.proofs.Markings.{below-off, length-tokens, get_d_tokens, tokens-are}
 use Rattle.net.proofs.Replay.{by_test, test_means}
 use Rattle.file_words.specs.Word.{byte_at, Bytes}
-use Rattle.file_words.specs.Refusal.{refuse, or_else, over_cap}
+use Rattle.file_words.specs.Refusal.{refuse, or_else}
 use Rattle.file_words.proofs.Laws.{refuse-0, or_else_0}
 use Rattle.file_header.specs.Layout.{header_of}
 use Rattle.file_header.specs.declared.Due.TheVariants as due
@@ -25,7 +25,7 @@ use Rattle.arcs_column.proofs.Arcs.{none_past}
 use Rattle.promise.specs.Calls.{written}
 use Rattle.promise.specs.Firing.{ReplayAnswer, replay_told, replay_or, list_refusal, replay_refusal, replay_answer, replay_marking}
 use Rattle.promise.specs.Together.{standing}
-use Rattle.promise.specs.Starts.{net_at, started, too_many, start_refusal, from_refusal, replay_from_answer, replay_from_marking, OtherMarking}
+use Rattle.promise.specs.Starts.{started, too_many, start_refusal, from_refusal, replay_from_answer, replay_from_marking, OtherMarking}
 use Rattle.promise.proofs.Started.{over_none}
 use Rattle.promise.proofs.Starts.{other_marking}
 use Rattle.promise.proofs.Replays.{differ}

@@ -1,23 +1,20 @@
 -- The replay of no firing leaves the file's own marking, from which each call is the plain one.
 use Prim.Native.Nat.{ℕ, zero, suc, ◌<◌}
-use mathlib.Core.Bool.{true, false}
 use mathlib.Core.List.{List, [], ◌∷◌, ◌++◌}
-use mathlib.Core.Path.{◌≡◌, refl, sym, ap, ◌∙◌}
+use mathlib.Core.Path.{◌≡◌, refl, ap, ◌∙◌}
 use native.Mathlib.Omega.{arith}
 use lib.ListN.{length, drop, drop_of_length-le}
-use lib.Dec.{ltb}
 use borrow.Author.Tests.{le-ltb}
 use Rattle.net.specs.Numbers.{any}
-use Rattle.net.specs.Net.{Net, replay_from, replay, tokens}
+use Rattle.net.specs.Net.{replay_from, replay, tokens}
 use Rattle.net.proofs.Markings.{length-tokens}
 use Rattle.file_words.specs.Word.{byte_at, Bytes}
-use Rattle.file_words.specs.Refusal.{refuse, or_else}
 use Rattle.file_header.specs.declared.Due.TheVariants as due
 use Rattle.file.specs.Layout.{net_of}
 use Rattle.file.specs.Refusal.{file_refusal}
-use Rattle.promise.specs.Calls.{CutAnswer, Checked, safety_answer, safety_buffer, branching_answer, branching_buffer, cut_refusal, write_refusal, check_refusal, checked, written}
+use Rattle.promise.specs.Calls.{CutAnswer, Checked, safety_answer, safety_buffer, branching_answer, branching_buffer, cut_refusal, write_refusal, check_refusal, checked}
 use Rattle.promise.specs.Firing.{ReplayAnswer, list_refusal, replay_refusal, replay_answer, replay_marking}
-use Rattle.promise.specs.Starts.{start_refusal, from_refusal, replay_from_answer, replay_from_marking, safety_from_answer, safety_from_buffer, branching_from_answer, branching_from_buffer, check_from_refusal, checked_from, own_start}
+use Rattle.promise.specs.Starts.{from_refusal, replay_from_answer, replay_from_marking, safety_from_answer, safety_from_buffer, branching_from_answer, branching_from_buffer, check_from_refusal, checked_from, own_start}
 use Rattle.promise.proofs.Starts.{own_start_row}
 use Rattle.clients_starts.proofs.Reading.{plan_either}
 

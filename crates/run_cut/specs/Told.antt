@@ -1,5 +1,5 @@
 -- What a run cut answers in numbers, and what it leaves in the two lent buffers, once its plan was read and its criterion passed.
-use Rattle.std.specs.Prelude.{ℕ, true, false, List, ◌≡◌, length}
+use Rattle.std.specs.Prelude.{ℕ, true, false, List, ◌≡◌}
 use Rattle.net.specs.Run.{fed, run_cut}
 use Rattle.file.specs.Layout.{net_from}
 use Rattle.file_writing.specs.Writing.{slice_bytes}

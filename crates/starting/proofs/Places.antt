@@ -2,7 +2,7 @@
 use Prim.Native.Nat.{ℕ, zero, suc, ◌+◌, ◌-◌, ◌*◌, ◌/◌, ◌%◌, ◌≤◌, ◌<◌}
 use mathlib.Core.Bool.{Bool, true, false}
 use mathlib.Core.List.{List, [], ◌∷◌, ◌++◌, append_assoc}
-use mathlib.Core.Path.{◌≡◌, refl, sym, ap, subst, subst⁻¹, ◌∙◌}
+use mathlib.Core.Path.{◌≡◌, refl, sym, ap, ◌∙◌}
 use native.Mathlib.Numerals.{add-one}
 use native.Mathlib.Omega.{arith}
 use lib.Dec.{eqb, ltb}
@@ -19,7 +19,7 @@ use Rattle.file.specs.Layout.{net_from}
 use Rattle.file_words.specs.Word.{bytes32}
 use Rattle.file_words.proofs.Bytes.{length-32}
 use Rattle.file_writing.specs.Writing.{place_bytes, places_bytes, arcs_bytes, origins_bytes, trailer_bytes, slice_body, slice_bytes}
-use Rattle.file_writing.proofs.Bytes.{length-place, length-places}
+use Rattle.file_writing.proofs.Bytes.{length-places}
 use Rattle.file_words.specs.Refusal.{refuse}
 use Rattle.promise.specs.Calls.{CutAnswer, cut_answer, written}
 use Rattle.promise.specs.Starts.{starting_at}

@@ -1,16 +1,15 @@
 -- Replay of a list from a start: what the steps ask, and the answer for the file in which the start stands.
-use Prim.Native.Nat.{ℕ, suc, ◌^◌, ◌≤◌, ◌<◌}
+use Prim.Native.Nat.{ℕ, suc, ◌<◌}
 use mathlib.Core.List.{List, [], ◌∷◌}
 use mathlib.Core.Path.{◌≡◌, refl, sym, ap, subst⁻¹, ◌∙◌}
 use native.Mathlib.Decide.{dec_lt}
 use native.Mathlib.Omega.{arith}
-use lib.Dec.{T, ltb}
-use lib.ListN.{length, get_or}
+use lib.ListN.{get_or}
 use borrow.Author.Tests.{ltb-true}
 use Rattle.net.specs.Net.{Net, Marking, Test, passes, short, full, Replay, WithinCaps, capped, fire, input, output, short_place, full_place, test_inputs, test_caps, test_firing, replay_from, replay, tokens}
 use Rattle.net.proofs.Numbers.{is_true}
 use Rattle.net.proofs.Markings.{tokens-are}
-use Rattle.file_words.specs.Word.{byte_at, Bytes}
+use Rattle.file_words.specs.Word.{byte_at}
 use Rattle.file_header.specs.declared.Header.{Header}
 use Rattle.file_header.specs.declared.Due.{Due}
 use Rattle.file.specs.Layout.{net_from}

@@ -1,6 +1,6 @@
 use mathlib.Core.Path.{◌≡◌, sym, ◌∙◌}
 use native.Mathlib.Omega.{arith}
-use lib.ListN.{length, length-take}
+use lib.ListN.{length-take}
 use Rattle.plan_put.specs.Told.{file_numbers}
 use Rattle.clients_normal.proofs.Forms.{fits, same_answer, same_marking}
 use Rattle.clients_normal.proofs.replay.Goals as goal

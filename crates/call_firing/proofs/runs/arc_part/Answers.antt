@@ -41,8 +41,7 @@ returns-then-inslice c =
     let p = plan_at (plan_of (goal.at.returns-then-inslice second).In-Whole-second) in
     let q = slice_at (goal.at.returns-then-inslice second).In-Whole-second in
     let r = c.run_part-r.ensures in
-    let told = rw c.if-inslice.true (r.start ∙ sym (start_of_slice _ _ _ _ p q _), r.long ∙ sym (ap length (of_slice _ _ _ _ p q _))) in
-    record { start = told.0; length = told.1 }
+    record { start = rw c.if-inslice.true (r.start ∙ sym (start_of_slice _ _ _ _ p q _)); length = rw c.if-inslice.true (r.long ∙ sym (ap length (of_slice _ _ _ _ p q _))) }
 
 pub run_part-r-requires-2 : goal.run_part-r-requires-2
 run_part-r-requires-2 c = (plan_at (plan_of (goal.at.run_part-r-requires-2 c).In-Whole-second)).good
@@ -53,5 +52,4 @@ returns c =
     let p = plan_at (plan_of (goal.at.returns second).In-Whole-second) in
     let q = slice_at (goal.at.returns second).In-Whole-second in
     let r = c.run_part-r-2.ensures in
-    let told = rw c.if-inslice.false (r.start ∙ sym (start_of_plan _ _ _ _ p q _), r.long ∙ sym (ap length (of_plan _ _ _ _ p q _))) in
-    record { start = told.0; length = told.1 }
+    record { start = rw c.if-inslice.false (r.start ∙ sym (start_of_plan _ _ _ _ p q _)); length = rw c.if-inslice.false (r.long ∙ sym (ap length (of_plan _ _ _ _ p q _))) }

@@ -39,7 +39,7 @@ returns-in_default-second c =
 pub carry-requires : goal.carry-requires
 carry-requires c =
     let second = c in
-    record { bound = (old_at (old_of (goal.at.carry-requires second).In-Whole-second)).good.placed.places; sound = (new_at (goal.at.carry-requires second).In-Whole-second).well_formed }
+    record { bound = (old_at (old_of (goal.at.carry-requires second).In-Whole-second)).good.placed.places; sound = (new_at (goal.at.carry-requires second).In-Whole-second).good }
 
 pub returns : goal.returns
 returns c =

@@ -6,7 +6,7 @@ use Rattle.call_firing.specs.declared.effects.Change.{Change}
 use Rattle.nesfoal.proofs.effects.value.Goals as goal
 
 pub returns-in-By : goal.returns-in-By
-returns-in-By c = to_z-of_z {w = w32} (record { sfits = c.known_told-1.given.0.1 }) ∙ sym (ap (λ (x : Change). (change_numbers x).effect) c.in-By.is)
+returns-in-By c = to_z-of_z {w = w32} (record { sfits = c.in-By.known_told-1-own.given.0.1 }) ∙ sym (ap (λ (x : Change). (change_numbers x).effect) c.in-By.is)
 
 pub returns-in-Refused : goal.returns-in-Refused
 returns-in-Refused c = sym (ap (λ (x : Change). (change_numbers x).effect) c.in-Refused.is)
