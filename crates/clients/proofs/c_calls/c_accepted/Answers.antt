@@ -11,7 +11,7 @@ abbrev cut_of : Else-refusal-ne0 → After-nesfoal_safety-refusal
 cut_of c = (goal.at.Else-refusal-ne0 c).After-nesfoal_safety-refusal
 
 abbrev bytes_of : After-nesfoal_safety-refusal → After-shared_slice_known-1
-bytes_of c = let known = c in known
+bytes_of c = (goal.at.After-nesfoal_safety-refusal c).After-shared_slice_known-1
 
 pub returns-then-refusal-ne0 : goal.returns-then-refusal-ne0
 returns-then-refusal-ne0 c = λ even same p t. says_0 c.nesfoal_check.ensures.answer (λ a. a, λ a. a)

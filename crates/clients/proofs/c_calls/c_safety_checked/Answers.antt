@@ -15,7 +15,7 @@ abbrev cut_of : Else-refusal-ne0 → After-nesfoal_safety-refusal
 cut_of c = (goal.at.Else-refusal-ne0 c).After-nesfoal_safety-refusal
 
 abbrev bytes_of : After-nesfoal_safety-refusal → After-shared_slice_known-1
-bytes_of c = let known = c in known
+bytes_of c = (goal.at.After-nesfoal_safety-refusal c).After-shared_slice_known-1
 
 -- what was written fits into the buffer
 fits : (c : Else-refusal-ne0) → (safety_answer (bytes_of (cut_of c)).args.plan.now (bytes_of (cut_of c)).args.criterion.now (length (bytes_of (cut_of c)).args.buffer.now)).length

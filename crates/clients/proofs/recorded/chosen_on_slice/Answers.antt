@@ -14,7 +14,7 @@ abbrev cut_of : After-length_of-end → After-run_cut-c
 cut_of c = (goal.at.After-length_of-end c).After-run_cut-c
 
 abbrev call : After-run_cut-c → Start
-call c = let known = c in known
+call c = (goal.at.After-run_cut-c c).Start
 
 -- what was written fits into the buffer
 fits : (c : After-length_of-end) → c.length_of-end.result ≤ length (call (cut_of c)).args.buffer.now

@@ -14,7 +14,7 @@ abbrev shadowed : After-count_of-end → After-shadow-s
 shadowed c = (goal.at.After-count_of-end c).After-shadow-s
 
 abbrev call : After-shadow-s → Start
-call c = let known = c in known
+call c = (goal.at.After-shadow-s c).Start
 
 -- what was written fits into the output list
 fits : (c : After-count_of-end) → c.count_of-end.result ≤ length (call (shadowed c)).args.out.now
