@@ -1,5 +1,5 @@
 -- What a box knows once it has made its calls.
-use Rattle.std.specs.Prelude.{ℕ, suc, ◌+◌, ◌*◌, ◌≤◌, ◌<◌, Bool, true, false, not, ◌&&◌, List, ◌++◌, ◌≡◌, ◌↔◌, drop, get_or, T}
+use Rattle.std.specs.Prelude.{ℕ, suc, ◌+◌, ◌*◌, ◌≤◌, ◌<◌, Bool, true, not, ◌&&◌, List, ◌++◌, ◌≡◌, ◌↔◌, drop, get_or, T}
 use Rattle.net.specs.Numbers.{among}
 use Rattle.net.specs.Net.{Marking, fired, input, Leads, tokens}
 use Rattle.net.specs.Slice.{own_place}
