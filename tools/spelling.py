@@ -62,6 +62,8 @@ def main():
             definitions.add(m.group(1))
     for p in antt + rust:
         for m in (USE if p in antt else GHOST_USE).finditer(text[p]):
+            other = [w.strip().split(" as ")[1] for w in m.group(2).split(",") if " as " in w]
+            declared |= {w for w in other if re.search(r"[a-z0-9][A-Z]", w)}
             if not m.group(1).startswith("Rattle.") or m.group(1).startswith("Rattle.std."):
                 lent |= {w.strip().split(" as ")[0] for w in m.group(2).split(",")}
         if p in antt:

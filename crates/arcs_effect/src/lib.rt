@@ -2,7 +2,7 @@
 
 // What one transition does: its effect on a place, and where its arcs stand in a file.
 ghost use Rattle.std.specs.Prelude.{◌≡◌, ◌+◌, ◌*◌, ◌<◌, ◌≤◌, ◌^◌, length, pos, ◌-ℤ◌};
-ghost use Rattle.net.specs.Net.{effect as effectOn};
+ghost use Rattle.net.specs.Net.{effect as effect_on};
 ghost use Rattle.arcs_column.specs.Gain.{sum_to};
 ghost use Rattle.file.specs.Facts.{Sound};
 ghost use Rattle.file.specs.Layout.{net_from};
@@ -59,7 +59,7 @@ fn difference(a: usize, b: usize) -> i32
 // The effect of a transition on a place.
 pub fn effect(file: &[u8], h: Header, place: usize, transition: usize) -> i32
     requires { Sound file.now h × (transition < h.transitions) }
-    ensures { result ≡ effectOn (net_from file.now h) place transition }
+    ensures { result ≡ effect_on (net_from file.now h) place transition }
 {
     let start = h.arcstart;
     let a = first_from(file, start, h.arcs, 2 * transition);

@@ -3,12 +3,12 @@
 // Lists of transitions: refusals 11 and 12.
 ghost use Rattle.std.specs.Prelude.{◌≡◌, ◌≤◌, leb};
 ghost use Rattle.net.specs.Numbers.{any};
-ghost use Rattle.file_words.specs.Refusal.{refuse as refuseOf};
+ghost use Rattle.file_words.specs.Refusal.{refuse as refuse_of};
 ghost use Rattle.promise.specs.Firing.{list_refusal};
 
 // The number where the rule is broken, or what the rules after it say.
 pub fn refuse(broken: bool, number: u32, rest: u32) -> u32
-    ensures { result ≡ refuseOf broken number rest }
+    ensures { result ≡ refuse_of broken number rest }
 {
     if broken {
         return number;

@@ -5,7 +5,7 @@ ghost use Rattle.std.specs.Prelude.{◌≡◌, ℕ, ◌<◌, ◌≤◌, ltb, len
 ghost use Rattle.file_header.specs.Facts.{Placed};
 ghost use Rattle.file.specs.Layout.{net_from};
 ghost use Rattle.promise.specs.Together.{standing};
-ghost use Rattle.promise.specs.Starts.{too_many, overfull as overfullOf, start_refusal};
+ghost use Rattle.promise.specs.Starts.{too_many, overfull as overfull_of, start_refusal};
 
 use file_header::Header;
 
@@ -21,7 +21,7 @@ fn limit(cap: usize) -> u64
 pub fn overfull(file: &[u8], h: Header, marking: &[u64]) -> bool
     requires placed { Placed (length file.now) h }
     requires places_in_bounds { h.places ≤ length marking.now }
-    ensures { result ≡ overfullOf (net_from file.now h) (standing marking.now) }
+    ensures { result ≡ overfull_of (net_from file.now h) (standing marking.now) }
 {
     let mut p: usize = 0;
     while p < h.places {

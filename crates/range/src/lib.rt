@@ -3,7 +3,7 @@
 // The marking that a list of firings needs, and from which markings of a range the list fires.
 ghost use Rattle.std.specs.Prelude.{◌≡◌, ℕ, ◌+◌, ◌-◌, ◌*◌, ◌^◌, ◌<◌, length, get_or};
 ghost use Rattle.net.specs.Net.{tokens};
-ghost use Rattle.net.specs.Range.{need as need_of, covers, extent as extentOf};
+ghost use Rattle.net.specs.Range.{need as need_of, covers, extent as extent_of};
 ghost use Rattle.file_header.specs.Facts.{Placed};
 ghost use Rattle.file.specs.Layout.{net_from};
 ghost use Rattle.file.specs.Facts.{Sound};
@@ -161,7 +161,7 @@ fn extent_by(
 ) -> Range
     requires passed { Passed file.now h list.now upper.now need.old }
     requires transitions_in_bounds { 2 * h.transitions < length table.old }
-    ensures result_value { range_numbers result ≡ range_told (extentOf (net_from file.now h) (standing upper.now) list.now) }
+    ensures result_value { range_numbers result ≡ range_told (extent_of (net_from file.now h) (standing upper.now) list.now) }
     ensures need_after { need.new ≡ tokens (net_from file.now h) (need_of (net_from file.now h) list.now) }
 {
     arcs_starts::starts(file, h.arcstart, h.arcs, h.transitions, table);
@@ -173,7 +173,7 @@ fn extent_by(
 // The same, with a table that is as large as the net needs it.
 fn extent_all(file: &[u8], h: Header, list: &[u16], upper: &[u32], need: &mut [u64]) -> Range
     requires { Passed file.now h list.now upper.now need.old }
-    ensures result_value { range_numbers result ≡ range_told (extentOf (net_from file.now h) (standing upper.now) list.now) }
+    ensures result_value { range_numbers result ≡ range_told (extent_of (net_from file.now h) (standing upper.now) list.now) }
     ensures need_after { need.new ≡ tokens (net_from file.now h) (need_of (net_from file.now h) list.now) }
 {
     if h.transitions <= SMALL {
@@ -215,7 +215,7 @@ fn held_back(file: &[u8], h: Header, list: &[u16], upper: &[u32], room: usize) -
 // From which markings between the initial one and the upper list the list fires. The first entries of `need` get what it needs, and the others are kept.
 pub fn extent(file: &[u8], h: Header, list: &[u16], upper: &[u32], need: &mut [u64]) -> Range
     requires { Sound file.now h }
-    ensures answer { range_numbers result ≡ range_or (held_back file.now h list.now upper.now (length need.old)) (extentOf (net_from file.now h) (standing upper.now) list.now) }
+    ensures answer { range_numbers result ≡ range_or (held_back file.now h list.now upper.now (length need.old)) (extent_of (net_from file.now h) (standing upper.now) list.now) }
     ensures need { need.new ≡ written (held_back file.now h list.now upper.now (length need.old)) (tokens (net_from file.now h) (need_of (net_from file.now h) list.now)) need.old }
 {
     let refused = held_back(file, h, list, upper, need.len());

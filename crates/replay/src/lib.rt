@@ -4,7 +4,7 @@
 mod capped;
 
 ghost use Rattle.std.specs.Prelude.{◌≡◌, ◌*◌, ◌<◌, ◌≤◌, length};
-ghost use Rattle.net.specs.Net.{replay as replayOf, tokens};
+ghost use Rattle.net.specs.Net.{replay as replay_of, tokens};
 ghost use Rattle.file.specs.Layout.{net_from};
 ghost use Rattle.file.specs.Facts.{Sound};
 ghost use Rattle.promise.specs.Calls.{written};
@@ -186,8 +186,8 @@ pub fn replay_rest(
 // Replays a list that is not refused, with one entry of the marking for each place.
 fn replay_all(file: &[u8], h: Header, list: &[u16], marking: &mut [u64]) -> Outcome
     requires { Passed file.now h list.now marking.old }
-    ensures result_value { outcome_numbers result ≡ replay_told (replayOf (net_from file.now h) list.now).answer }
-    ensures marking_after { marking.new ≡ tokens (net_from file.now h) (replayOf (net_from file.now h) list.now).marking }
+    ensures result_value { outcome_numbers result ≡ replay_told (replay_of (net_from file.now h) list.now).answer }
+    ensures marking_after { marking.new ≡ tokens (net_from file.now h) (replay_of (net_from file.now h) list.now).marking }
 {
     let done = begin(file, h, list, marking);
     if list.len() <= done {
@@ -211,8 +211,8 @@ pub fn held_back(h: Header, list: &[u16], room: usize) -> u32
 // Replays the list from the initial marking. The first entries of `marking` get the marking that it ends with, and the others are kept.
 pub fn replay(file: &[u8], h: Header, list: &[u16], marking: &mut [u64]) -> Outcome
     requires { Sound file.now h }
-    ensures answer { outcome_numbers result ≡ replay_or (held_back h list.now (length marking.old)) (replayOf (net_from file.now h) list.now).answer }
-    ensures marking { marking.new ≡ written (held_back h list.now (length marking.old)) (tokens (net_from file.now h) (replayOf (net_from file.now h) list.now).marking) marking.old }
+    ensures answer { outcome_numbers result ≡ replay_or (held_back h list.now (length marking.old)) (replay_of (net_from file.now h) list.now).answer }
+    ensures marking { marking.new ≡ written (held_back h list.now (length marking.old)) (tokens (net_from file.now h) (replay_of (net_from file.now h) list.now).marking) marking.old }
 {
     let refused = held_back(h, list, marking.len());
     if refused != 0 {

@@ -2,7 +2,7 @@
 
 // One firing of a marking: what its inputs take, the firing itself, and which place it leaves above its cap.
 ghost use Rattle.std.specs.Prelude.{◌≡◌, ℕ, ◌+◌, ◌-◌, ◌^◌, ◌<◌, ◌≤◌, eqb, length, get_or};
-ghost use Rattle.net.specs.Net.{fire as fireOf};
+ghost use Rattle.net.specs.Net.{fire as fire_of};
 ghost use Rattle.file.specs.Layout.{net_from};
 ghost use Rattle.arcs_column.specs.Gain.{sum_to, Run, Takes, Gives};
 ghost use Rattle.replay_steps.specs.Steps.{held, Ready, Holds};
@@ -78,7 +78,7 @@ pub fn give(file: &[u8], start: usize, from: usize, to: usize, marking: &mut [u6
 pub fn fire(file: &[u8], h: Header, table: &[u16], t: usize, marking: &mut [u64])
     requires ready { Ready file.now h table.now marking.old }
     requires firable { Firable file.now h t marking.old }
-    ensures { Holds marking.old marking.new (fireOf (net_from file.now h) t (held marking.old)) }
+    ensures { Holds marking.old marking.new (fire_of (net_from file.now h) t (held marking.old)) }
 {
     let from = entry(table, 2 * t);
     let middle = entry(table, 2 * t + 1);

@@ -2,7 +2,7 @@
 
 // The cut for one recorded run (document 02, A1): the slice of what fed the places of the criterion, and the positions of the firings that did.
 ghost use Rattle.std.specs.Prelude.{◌≡◌, ◌++◌, ◌≤◌, ◌<◌, ltb, length, drop};
-ghost use Rattle.net.specs.Net.{replay as replayOf};
+ghost use Rattle.net.specs.Net.{replay as replay_of};
 ghost use Rattle.file.specs.Facts.{Sound};
 ghost use Rattle.file.specs.Layout.{net_from};
 ghost use Rattle.file.specs.Criterion.{criterion_refusal};
@@ -273,7 +273,7 @@ fn write_fed(
 // How the list fares from the plan's marking. The marking that it ends with is not asked for.
 fn fares(plan: &[u8], h: Header, list: &[u16]) -> Outcome
     requires { Sound plan.now h }
-    ensures { outcome_numbers result ≡ replay_or (list_refusal h.transitions list.now) (replayOf (net_from plan.now h) list.now).answer }
+    ensures { outcome_numbers result ≡ replay_or (list_refusal h.transitions list.now) (replay_of (net_from plan.now h) list.now).answer }
 {
     if h.places <= SMALL {
         let mut marking = [0u64; SMALL];

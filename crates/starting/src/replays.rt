@@ -1,6 +1,6 @@
 // Replay on the net of a file that was read, from a start that is not refused: the start is loaded instead of the file's markings, the rest is the plain replay.
 ghost use Rattle.std.specs.Prelude.{◌≡◌, length};
-ghost use Rattle.net.specs.Net.{replay as replayOf, tokens};
+ghost use Rattle.net.specs.Net.{replay as replay_of, tokens};
 ghost use Rattle.file.specs.Layout.{net_from};
 ghost use Rattle.file_header.specs.declared.Due.TheVariants.{Either};
 ghost use Rattle.promise.specs.Calls.{written};
@@ -38,8 +38,8 @@ fn begin(file: &[u8], h: Header, start: &[u64], list: &[u16], marking: &mut [u64
 // Replays a list that is not refused, with one entry of the marking for each place.
 fn replay_all(file: &[u8], h: Header, start: &[u64], list: &[u16], marking: &mut [u64]) -> Outcome
     requires { Replayable file.now h start.now list.now marking.old }
-    ensures result_value { outcome_numbers result ≡ replay_told (replayOf (net_from (started_from file.now h start.now) h) list.now).answer }
-    ensures marking_after { marking.new ≡ tokens (net_from (started_from file.now h start.now) h) (replayOf (net_from (started_from file.now h start.now) h) list.now).marking }
+    ensures result_value { outcome_numbers result ≡ replay_told (replay_of (net_from (started_from file.now h start.now) h) list.now).answer }
+    ensures marking_after { marking.new ≡ tokens (net_from (started_from file.now h start.now) h) (replay_of (net_from (started_from file.now h start.now) h) list.now).marking }
 {
     let done = begin(file, h, start, list, marking);
     if list.len() <= done {
@@ -51,8 +51,8 @@ fn replay_all(file: &[u8], h: Header, start: &[u64], list: &[u16], marking: &mut
 // Replays the list from the start. The first entries of `marking` get the marking that it ends with, and the others are kept.
 pub fn replay(file: &[u8], h: Header, start: &[u64], list: &[u16], marking: &mut [u64]) -> Outcome
     requires { Startable Either file.now h start.now }
-    ensures answer { outcome_numbers result ≡ replay_or (held_back h list.now (length marking.old)) (replayOf (net_from (started_from file.now h start.now) h) list.now).answer }
-    ensures marking { marking.new ≡ written (held_back h list.now (length marking.old)) (tokens (net_from (started_from file.now h start.now) h) (replayOf (net_from (started_from file.now h start.now) h) list.now).marking) marking.old }
+    ensures answer { outcome_numbers result ≡ replay_or (held_back h list.now (length marking.old)) (replay_of (net_from (started_from file.now h start.now) h) list.now).answer }
+    ensures marking { marking.new ≡ written (held_back h list.now (length marking.old)) (tokens (net_from (started_from file.now h start.now) h) (replay_of (net_from (started_from file.now h start.now) h) list.now).marking) marking.old }
 {
     let refused = replay::held_back(h, list, marking.len());
     if refused != 0 {

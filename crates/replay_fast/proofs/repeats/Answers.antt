@@ -5,16 +5,16 @@ use Rattle.replay_fast.proofs.repeats.Goals as goal
 use Rattle.replay_fast.proofs.repeats.Goals.{After-same-n}
 
 -- 1 where entry j is as the one before
-abbrev asBefore : List ℕ → ℕ → ℕ
-asBefore table j = counted (eqb (get_or table j 0) (get_or table (j - 1) 0)) 1
+abbrev as_before : List ℕ → ℕ → ℕ
+as_before table j = counted (eqb (get_or table j 0) (get_or table (j - 1) 0)) 1
 
-repeats_next : (table : List ℕ) (j : ℕ) → 1 ≤ j → repeats_to table j ≡ repeats_to table (j - 1) + asBefore table j
+repeats_next : (table : List ℕ) (j : ℕ) → 1 ≤ j → repeats_to table j ≡ repeats_to table (j - 1) + as_before table j
 unfolding repeats_to
 repeats_next table zero l = absurd (omega arith)
 repeats_next table (suc j) l = let e : suc j - 1 ≡ j = omega arith in rw e
 
 -- what the turn adds
-added : (c : After-same-n) → let x = c in c.same-n.result ≡ asBefore x.args.places.now x.loop-j.j
+added : (c : After-same-n) → let x = c in c.same-n.result ≡ as_before x.args.places.now x.loop-j.j
 added c = rw (← c.entry.ensures.0, ← c.entry-in-loop-j.ensures.0) c.same-n.ensures.0
 
 pub loop-j-init : goal.loop-j-init
