@@ -13,24 +13,6 @@ use Rattle.file_arcs.proofs.Laws.{arcs_on, arcs_end}
 use Rattle.file_arcs.proofs.Words.{unfit-wrong}
 use Rattle.file_arcs.specs.Sweep.{room_of, marks_of, both_fit, FitIn, Narrow, sweep_key}
 
--- ---- the key
-
-module _ (x : ℕ) (h : Narrow x) where
-  pub shift_transition : x * 2 ^ 52 % 2 ^ 64 ≡ 4503599627370496 * (x % 65536)
-  shift_transition = omega (arith, h.transition, h.middle, h.place)
-
-  pub shift_direction : x * 2 ^ 35 % 2 ^ 64 ≡ 34359738368 * (x % 65536) + 2251799813685248 * (x / 65536 % 65536)
-  shift_direction = omega (arith, h.transition, h.middle, h.place)
-
-  pub shift_place : x * 2 ^ 9 % 2 ^ 64 ≡ 512 * (x % 65536) + 33554432 * (x / 65536 % 65536) + 2199023255552 * (x / 4294967296)
-  shift_place = omega (arith, h.transition, h.middle, h.place)
-
-  pub key-sum : x * 2 ^ 52 % 2 ^ 64 + x * 2 ^ 35 % 2 ^ 64 + x * 2 ^ 9 % 2 ^ 64 ≡ sweep_key x
-  key-sum = omega (arith, shift_transition, shift_direction, shift_place)
-
-  pub key_fits : sweep_key x < 9223372036854775808
-  key_fits = omega (arith, h.transition, h.middle, h.place)
-
 -- ---- the marks
 
 or_zero : (u v : ℕ) → bit_or u v ≡ 0 → (u ≡ 0) × (v ≡ 0)

@@ -4,6 +4,7 @@
 mod sweep;
 
 ghost use Rattle.std.specs.Prelude.{◌≡◌, ◌+◌, ◌*◌, ◌^◌, ◌<◌, ◌≤◌, length};
+ghost use Rattle.refusals.specs.Numbers.{refusal_number};
 ghost use Rattle.file_arcs.specs.Facts.{ArcSmall, ArcWord, arc_of, arc_unfit};
 ghost use Rattle.file_arcs.specs.Layout.{arc_at};
 ghost use Rattle.file_arcs.specs.Refusal.{arcs_refusal, key};
@@ -11,6 +12,7 @@ ghost use Rattle.file_arcs.specs.Refusal.{arcs_refusal, key};
 use crate::sweep::all_good;
 use file_words::get32;
 use net::Arc;
+use refusals::Refusal;
 
 // An arc's number: the transition, and from these units on the direction, the place and the weight.
 pub const DIRECTION: usize = 65536;
@@ -62,45 +64,47 @@ fn order(a: Arc) -> usize
     131072 * a.transition + 65536 * a.direction + a.place
 }
 
-// Checks `count` arcs from `start` on, one by one: 0, or the number of the first rule broken.
-pub fn first_refusal(
+// Checks `count` arcs from `start` on, one by one.
+pub fn check_each(
     file: &[u8],
     places: usize,
     transitions: usize,
     start: usize,
     count: usize,
-) -> u32
+) -> Result<(), Refusal>
     requires { start + 8 * count ≤ length file.now }
-    ensures { result ≡ arcs_refusal file.now places transitions start 0 count }
+    ensures { refusal_number result ≡ arcs_refusal file.now places transitions start 0 count }
 {
-    let mut at = start;
     let mut least: usize = 0;
-    let mut left = count;
-    while 0 < left {
-        let w = word(file, at);
+    for i in 0..count {
+        let w = word(file, start + 8 * i);
         let a = arc_of(w);
         if unfit(a, w / DIRECTION % 65536, places, transitions) {
-            return 6;
+            return Err(Refusal::Arc);
         }
         let key = order(a);
         if key < least {
-            return 7;
+            return Err(Refusal::Order);
         }
         least = key;
-        at += 8;
-        left -= 1;
     }
-    0
+    Ok(())
 }
 
 // The same; good arcs are gone through in pairs, and one by one only where there is a bad one.
-pub fn refusal(file: &[u8], places: usize, transitions: usize, start: usize, count: usize) -> u32
+pub fn check(
+    file: &[u8],
+    places: usize,
+    transitions: usize,
+    start: usize,
+    count: usize,
+) -> Result<(), Refusal>
     requires count_in_bounds { start + 8 * count ≤ length file.now }
     requires places_bound { (places ≤ 1024) × (transitions ≤ 1024) }
-    ensures { result ≡ arcs_refusal file.now places transitions start 0 count }
+    ensures { refusal_number result ≡ arcs_refusal file.now places transitions start 0 count }
 {
     if all_good(file, places, transitions, start, count) {
-        return 0;
+        return Ok(());
     }
-    first_refusal(file, places, transitions, start, count)
+    check_each(file, places, transitions, start, count)
 }

@@ -29,7 +29,7 @@ fn room(places: usize, transitions: usize) -> usize
 fn marks(w: usize, room: usize) -> usize
     ensures { result ≡ marks_of room w }
 {
-    std::num::wrapping_add_usize(w, room) | w
+    w.wrapping_add(room) | w
 }
 
 // Are both arcs in range?
@@ -62,10 +62,9 @@ pub(crate) fn all_good(
     ensures { result ≡ true → arcs_refusal file.now places transitions start 0 count ≡ 0 }
 {
     let room = room(places, transitions);
-    let stop = start + 16 * (count / 2);
-    let mut at = start;
     let mut least: usize = 0;
-    while at < stop {
+    for k in 0..count / 2 {
+        let at = start + 16 * k;
         let w = word(file, at);
         let v = word(file, at + 8);
         if !fit(w, v, room) {
@@ -77,12 +76,11 @@ pub(crate) fn all_good(
             return false;
         }
         least = second;
-        at += 16;
     }
     if count % 2 == 0 {
         return true;
     }
-    let w = word(file, at);
+    let w = word(file, start + 8 * (count - 1));
     if !fit(w, w, room) {
         return false;
     }

@@ -7,15 +7,15 @@ ghost use Rattle.std.specs.Prelude.{◌≡◌, ◌≤◌};
 ghost use Rattle.file_header.specs.Layout.{places_length};
 
 // The kind of file that a call asks for.
-#[derive(Clone, Copy)]
+#[derive(Clone, Copy, Debug, PartialEq, Eq)]
 pub enum Due {
     Plan,
     Slice,
     Either,
 }
 
-// The counts of a file, its kind (0 plan, 1 slice), its edition and where its parts start.
-#[derive(Clone, Copy)]
+// The counts of a file, its kind (0 plan, 1 slice), its edition and where its parts start. Kind and edition are the numbers in the file: the definition `header_from` has them so.
+#[derive(Clone, Copy, Debug, PartialEq, Eq)]
 pub struct Header {
     pub places: usize,
     pub transitions: usize,
@@ -27,8 +27,8 @@ pub struct Header {
     pub originstart: usize,
 }
 
-// The trailer's fields. letters has the four letters, low byte first.
-#[derive(Clone, Copy)]
+// The trailer's fields, as they stand in the file, good or not. letters has the four letters, low byte first.
+#[derive(Clone, Copy, Debug, PartialEq, Eq)]
 pub struct Trailer {
     pub body: usize,
     pub places: usize,

@@ -1,11 +1,13 @@
 // The trailer: refusals 2 to 5, and the header.
 ghost use Rattle.std.specs.Prelude.{◌≡◌, ◌+◌, ◌*◌, ◌<◌, ◌≤◌, length};
+ghost use Rattle.refusals.specs.Numbers.{refusal_number};
 ghost use Rattle.file_header.specs.Facts.{Counts};
 ghost use Rattle.file_header.specs.Layout.{body_length, header_from, in_slice, trailer_of};
 ghost use Rattle.file_header.specs.Refusal.{body_wrong, counts_wrong, kind_wrong, letters_wrong, trailer_refusal};
 
 use crate::{Due, Header, Trailer, places_length};
 use file_words::{get8, get16, get32};
+use refusals::Refusal;
 
 // The last 16 bytes.
 pub fn fields(file: &[u8]) -> Trailer
@@ -87,24 +89,24 @@ fn body_wrong(t: Trailer, n: usize) -> bool
     (t.body != body_length(t)) | (n - 16 < t.body)
 }
 
-// Checks the trailer of a file of n bytes: 0, or the number of the first rule broken.
-pub fn refusal(t: Trailer, n: usize, due: Due) -> u32
+// Checks the trailer of a file of n bytes.
+pub fn check(t: Trailer, n: usize, due: Due) -> Result<(), Refusal>
     requires { 16 ≤ n }
-    ensures { result ≡ trailer_refusal due n t }
+    ensures { refusal_number result ≡ trailer_refusal due n t }
 {
     if letters_wrong(t) {
-        return 2;
+        return Err(Refusal::Letters);
     }
     if kind_wrong(due, t.kind) {
-        return 3;
+        return Err(Refusal::Kind);
     }
     if counts_wrong(t) {
-        return 4;
+        return Err(Refusal::Counts);
     }
     if body_wrong(t, n) {
-        return 5;
+        return Err(Refusal::Body);
     }
-    0
+    Ok(())
 }
 
 // The header of a file of n bytes with a good trailer.

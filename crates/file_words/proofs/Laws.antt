@@ -1,6 +1,6 @@
 -- Laws of refusals: a rule that was passed, one of two that was not, and one turn of a loop over places or origins.
 use Prim.Native.Nat.{ℕ, zero, suc, ◌+◌, ◌-◌, ◌≤◌, ◌<◌}
-use mathlib.Core.Path.{◌≡◌, refl, ◌∙◌}
+use mathlib.Core.Path.{◌≡◌, refl, sym, ◌∙◌}
 use mathlib.Core.Bool.{Bool, true, false, ◌||◌}
 use mathlib.Core.List.{List}
 use native.Mathlib.Omega.{arith}
@@ -8,6 +8,9 @@ use native.Mathlib.Numerals.{sub-one}
 use native.Mathlib.Nat.{lt_irrefl}
 use lib.Dec.{eqb, ltb}
 use lib.Arith.{le-zero}
+use Rattle.refusals.specs.Numbers.{number}
+use Rattle.refusals.specs.declared.Refusal.{Refusal}
+use Rattle.refusals.proofs.Numbers.{number_some}
 use Rattle.file_words.specs.Word.{le16, le32}
 use Rattle.file_words.specs.Refusal.{refuse, or_else, table_refusal, over_cap, caps_refusal}
 
@@ -59,3 +62,10 @@ table_step s at least (suc n) h = rw sub-one
 pub table_end : (s : List ℕ) (at least n : ℕ) → n ≤ 0 → table_refusal s at least n ≡ 0
 unfolding table_refusal
 table_end s at least n h = rw (le-zero h)
+
+-- a refusal by its number, and none, before what the rules after it say
+pub or_else_err : (e : Refusal) {a : ℕ} (b : ℕ) → number e ≡ a → number e ≡ or_else a b
+or_else_err e b h = sym (or_else_stop _ b (λ z. number_some e (h ∙ z)) ∙ sym h)
+
+pub or_else_ok : {a n b : ℕ} → 0 ≡ a → n ≡ b → n ≡ or_else a b
+or_else_ok h e = rw (← h) e

@@ -2,13 +2,17 @@
 use Prim.Native.Nat.{ℕ, zero, suc, ◌+◌, ◌≤◌, ◌<◌}
 use mathlib.Core.Bool.{Bool, true, false, ◌||◌}
 use mathlib.Core.List.{List, [], ◌∷◌}
-use mathlib.Core.Path.{◌≡◌, refl, ap, ◌∙◌}
+use mathlib.Core.Path.{◌≡◌, refl, sym, ap, ◌∙◌}
 use native.Mathlib.Nat.{le_of_suc-le-suc, not-suc-le-zero}
 use native.Mathlib.Numerals.{add-one}
 use lib.ListN.{length, get_or, take}
+use native.Mathlib.Omega.{arith}
+use borrow.Author.Tests.{le-leb, leb-true}
+use lib.Dec.{leb}
+use Rattle.std.specs.Prelude.{IsTrue, SomeIndex, slice_index, ◌↔◌}
 use lib.Seq.{take_all}
 use Rattle.net.specs.Numbers.{any}
-use Rattle.net.proofs.Numbers.{holds, is_true, any-has, among-at}
+use Rattle.net.proofs.Numbers.{by_cases, holds, is_true, any-has, among-at}
 
 or_assoc : (a b c : Bool) → (a || (b || c)) ≡ (a || b || c)
 or_assoc true b c = refl
@@ -40,3 +44,18 @@ module _ (f : ℕ → Bool) where
 
   pub any-not_yet : (l : List ℕ) (i : ℕ) → i < length l → any f (take i l) ≡ false → f (get_or l i 0) ≡ false → any f (take (i + 1) l) ≡ false
   any-not_yet l i h e g = rw (any_next l i h, e, g)
+
+-- a test whether some entry reaches the limit
+module _ (limit : ℕ) where
+  reached : (l : List ℕ) → any (leb limit) l ≡ true → SomeIndex l (λ k. limit ≤ slice_index l k)
+  unfolding any
+  reached [] e = let z : ◌≡◌ {A = ℕ} 0 1 = cc in absurd (omega (arith, z))
+  reached (x ∷ l) e = by_cases (leb limit x)
+      (λ y. (0, omega arith, leb-true limit x y))
+      (λ n. let r = reached l (rw n at e) in (suc r.0, omega (arith, r.1), r.2))
+
+  pub any_is : (l : List ℕ) (b : Bool) → (IsTrue b ↔ SomeIndex l (λ k. limit ≤ slice_index l k)) → b ≡ any (leb limit) l
+  any_is l true h = let r = h.0 refl in sym (any_met (leb limit) l r.0 r.1 (le-leb limit (get_or l r.0 0) r.2))
+  any_is l false h = by_cases (any (leb limit) l)
+      (λ y. let f = h.1 (reached l y) in let z : ◌≡◌ {A = ℕ} 0 1 = cc in absurd (omega (arith, z)))
+      (λ n. sym n)

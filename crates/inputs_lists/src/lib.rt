@@ -2,29 +2,19 @@
 
 // Lists of transitions: refusals 11 and 12.
 ghost use Rattle.std.specs.Prelude.{◌≡◌, ◌≤◌, leb};
+ghost use Rattle.refusals.specs.Numbers.{refusal_number};
 ghost use Rattle.net.specs.Numbers.{any};
-ghost use Rattle.file_words.specs.Refusal.{refuse as refuse_of};
 ghost use Rattle.promise.specs.Firing.{list_refusal};
 
-// The number where the rule is broken, or what the rules after it say.
-pub fn refuse(broken: bool, number: u32, rest: u32) -> u32
-    ensures { result ≡ refuse_of broken number rest }
-{
-    if broken {
-        return number;
-    }
-    rest
-}
+use refusals::Refusal;
 
 // Is a number of the list not below the limit? All are gone through, so that the loop can be done by vectors.
 fn above(list: &[u16], limit: u16) -> bool
     ensures { result ≡ any (leb limit) list.now }
 {
     let mut bad = false;
-    let mut i = 0;
-    while i < list.len() {
-        bad = bad | (limit <= list[i]);
-        i += 1;
+    for x in list {
+        bad = bad | (limit <= *x);
     }
     bad
 }
@@ -33,14 +23,7 @@ fn above(list: &[u16], limit: u16) -> bool
 fn above_soon(list: &[u16], limit: u16) -> bool
     ensures { result ≡ any (leb limit) list.now }
 {
-    let mut i = 0;
-    while i < list.len() {
-        if limit <= list[i] {
-            return true;
-        }
-        i += 1;
-    }
-    false
+    list.iter().any(|x| limit <= *x)
 }
 
 // The same by the quicker of the two.
@@ -53,12 +36,16 @@ fn has_unknown(list: &[u16], limit: u16) -> bool
     above(list, limit)
 }
 
-// Checks a list against the number of transitions: 0, 11 or 12.
-pub fn refusal(transitions: usize, list: &[u16]) -> u32
+// Checks a list against the number of transitions.
+pub fn check(transitions: usize, list: &[u16]) -> Result<(), Refusal>
     requires { transitions ≤ 1024 }
-    ensures { result ≡ list_refusal transitions list.now }
+    ensures { refusal_number result ≡ list_refusal transitions list.now }
 {
-    let long = 65535 < list.len();
-    let unknown = has_unknown(list, transitions as u16);
-    refuse(long, 11, refuse(unknown, 12, 0))
+    if 65535 < list.len() {
+        return Err(Refusal::List);
+    }
+    if has_unknown(list, transitions as u16) {
+        return Err(Refusal::Transition);
+    }
+    Ok(())
 }

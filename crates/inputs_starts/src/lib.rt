@@ -2,12 +2,14 @@
 
 // Markings to start from: refusals 22 and 24.
 ghost use Rattle.std.specs.Prelude.{◌≡◌, ℕ, ◌<◌, ◌≤◌, ltb, length};
+ghost use Rattle.refusals.specs.Numbers.{refusal_number};
 ghost use Rattle.file_header.specs.Facts.{Placed};
 ghost use Rattle.file.specs.Layout.{net_from};
 ghost use Rattle.promise.specs.Together.{standing};
 ghost use Rattle.promise.specs.Starts.{too_many, overfull as overfull_of, start_refusal};
 
 use file_header::Header;
+use refusals::Refusal;
 
 // The most tokens that a place may have in a start: its cap, or where it has none what a file can hold. Both are at hand, so that there is no branch on which places have a cap.
 fn limit(cap: usize) -> u64
@@ -23,27 +25,25 @@ pub fn overfull(file: &[u8], h: Header, marking: &[u64]) -> bool
     requires places_in_bounds { h.places ≤ length marking.now }
     ensures { result ≡ overfull_of (net_from file.now h) (standing marking.now) }
 {
-    let mut p: usize = 0;
-    while p < h.places {
+    for p in 0..h.places {
         let most = limit(file::cap(file, h, p));
         if most < marking[p] {
             return true;
         }
-        p += 1;
     }
     false
 }
 
-// Checks a start for a file that was read: 0, 22 or 24.
-pub fn refusal(file: &[u8], h: Header, start: &[u64]) -> u32
+// Checks a start for a file that was read.
+pub fn check(file: &[u8], h: Header, start: &[u64]) -> Result<(), Refusal>
     requires { Placed (length file.now) h }
-    ensures { result ≡ start_refusal (net_from file.now h) start.now }
+    ensures { refusal_number result ≡ start_refusal (net_from file.now h) start.now }
 {
     if start.len() != h.places {
-        return 22;
+        return Err(Refusal::Entries);
     }
     if overfull(file, h, start) {
-        return 24;
+        return Err(Refusal::Tokens);
     }
-    0
+    Ok(())
 }

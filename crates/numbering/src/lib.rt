@@ -21,11 +21,9 @@ pub fn own_in(file: &[u8], start: usize, count: usize, table: &mut [u16])
     requires by_index { (k : ℕ) → get_or table.old k 0 ≡ 0 }
     ensures { (length table.new ≡ length table.old) × Own (words_from file.now start count) table.new }
 {
-    let mut i: usize = 0;
-    while i < count {
+    for i in 0..count {
         let origin = file_words::get16(file, start + 2 * i);
         put(table, origin, (i + 1) as u16);
-        i += 1;
     }
 }
 
@@ -34,6 +32,6 @@ pub fn own(file: &[u8], start: usize, count: usize, table: &mut [u16])
     requires { Origins file.now start count }
     ensures { (length table.new ≡ length table.old) × Own (words_from file.now start count) table.new }
 {
-    tables::clear(table);
+    table.fill(0);
     own_in(file, start, count, table);
 }

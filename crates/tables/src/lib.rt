@@ -17,10 +17,11 @@ pub const MIDDLE_ARCS: usize = 4 * MIDDLE;
 
 pub const LARGE_ARCS: usize = 4 * LARGE;
 
+// A public name of docs/MAP.md; new code writes usize::from.
 pub fn wide(x: u16) -> usize
     ensures { (result ≡ x) × (result < 65536) }
 {
-    x as usize
+    usize::from(x)
 }
 
 // Entry i of a table.
@@ -28,16 +29,12 @@ pub fn entry(table: &[u16], i: usize) -> usize
     requires { i < length table.now }
     ensures { (result ≡ get_or table.now i 0) × (result < 65536) }
 {
-    wide(table[i])
+    usize::from(table[i])
 }
 
 // Sets each entry to 0.
 pub fn clear(table: &mut [u16])
     ensures { (length table.new ≡ length table.old) × ((k : ℕ) → get_or table.new k 0 ≡ 0) }
 {
-    let mut k = 0;
-    while k < table.len() {
-        table[k] = 0;
-        k += 1;
-    }
+    table.fill(0);
 }

@@ -1,17 +1,8 @@
 use native.Mathlib.Omega.{arith}
-use Prim.Native.Nat.{◌*◌}
-use mathlib.Core.Path.{◌≡◌, sym, ◌∙◌}
+use mathlib.Core.Path.{sym, ◌∙◌}
 use borrow.Author.Tests.{eq-eqb, ne_eqb}
-use Rattle.file_header.specs.Layout.{places_length}
 use Rattle.file.proofs.Caps.{cap_at_lem, no_cap_by}
 use Rattle.file.proofs.cap.Goals as goal
-
-pub get32-requires : goal.get32-requires
-get32-requires c =
-    let two = c in
-    let h = two.args.h in
-    let q : places_length h.edition h.places ≡ 8 * h.places = rw (eq-eqb _ _ two.if-h-eq-CAPS.true) in
-    omega arith
 
 pub returns-then-h-eq-CAPS : goal.returns-then-h-eq-CAPS
 returns-then-h-eq-CAPS c =

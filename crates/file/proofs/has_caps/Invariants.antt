@@ -1,10 +1,6 @@
-use mathlib.Core.Path.{◌≡◌}
-use Prim.Native.Nat.{ℕ, ◌-◌, ◌<◌, ◌≤◌}
+use Rattle.std.proofs.Common.{◌≡◌, ℕ, ◌<◌}
 use Rattle.file.specs.Layout.{net_from}
 use Rattle.file.proofs.has_caps.Given as goal
 
 abbrev pub invariant-loop-p : goal.invariant-loop-p
-invariant-loop-p l = (l.p ≤ l.h.places) × ((q : ℕ) → q < l.p → (net_from l.file l.h).cap q ≡ 0)
-
-abbrev pub decreases-loop-p : goal.decreases-loop-p
-decreases-loop-p l = l.h.places - l.p
+invariant-loop-p l = (q : ℕ) → q < l.p → (net_from l.file l.h).cap q ≡ 0

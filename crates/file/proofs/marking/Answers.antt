@@ -1,16 +1,9 @@
-use native.Mathlib.Omega.{arith}
 use mathlib.Core.Path.{sym, ap, ◌∙◌}
 use Prim.Native.Nat.{ℕ, ◌+◌}
 use Rattle.net.proofs.Markings.{below_at}
 use Rattle.file_words.specs.Word.{le32}
 use Rattle.file.specs.Layout.{marking_at}
-use Rattle.file_header.proofs.Laws.{place-within}
 use Rattle.file.proofs.marking.Goals as goal
-
-pub get32-requires : goal.get32-requires
-get32-requires c =
-    let call = c in
-    omega (arith, place-within call.args.h.edition call.args.place call.args.h.places call.requires.place_lt_places)
 
 pub returns : goal.returns
 returns c =

@@ -1,22 +1,16 @@
-use mathlib.Core.Path.{◌≡◌, sym, ap, ◌∙◌}
-use mathlib.Core.Bool.{false}
-use lib.ListN.{length}
-use borrow.Author.Tests.{ltb-false}
+use Rattle.std.proofs.Common.{◌≡◌, length, sym, ap, ◌∙◌, ltb-false}
+use Rattle.refusals.proofs.Numbers.{passed_on}
 use Rattle.file_words.proofs.Laws.{or-false}
 use Rattle.file_header.specs.Layout.{trailer_of, header_of, header_from}
 use Rattle.file_header.specs.Refusal.{trailer_refusal}
-use Rattle.file.specs.Refusal.{length_wrong}
 use Rattle.file_header.specs.declared.Trailer.{Trailer}
 use Rattle.file_header.proofs.Opening.{trailer_counts, trailer_fits, trailer_placed}
 use Rattle.file.proofs.Opening.{by_length, by_trailer, by_body, by_all}
 use Rattle.file.proofs.read.Goals as goal
-use Rattle.file.proofs.read.Goals.{After-header-h, After-refusal-broken, Else-n}
+use Rattle.file.proofs.read.Goals.{After-header-h}
 
-length_right : (c : Else-n) → length_wrong (length c.args.file.now) ≡ false
-length_right c = c.if-n.false
-
-trailer_is : (c : After-refusal-broken) → c.refusal-broken.result ≡ trailer_refusal c.args.due (length c.args.file.now) (trailer_of c.args.file.now)
-trailer_is c = rw (← c.fields-t.ensures) c.refusal-broken.ensures
+none_broken : (c : After-header-h) → 0 ≡ trailer_refusal c.args.due (length c.args.file.now) (trailer_of c.args.file.now)
+none_broken c = c.in_ok-check.ensures ∙ ap (trailer_refusal c.args.due (length c.args.file.now)) c.fields-t.ensures
 
 header_is : (c : After-header-h) → c.header-h.result ≡ header_of c.args.file.now
 unfolding header_of
@@ -25,29 +19,29 @@ header_is c = c.header-h.ensures ∙ ap (λ (t : Trailer). header_from (length c
 pub returns-then-n : goal.returns-then-n
 returns-then-n c = by_length _ _ c.if-n.true
 
-pub fields-t-requires : goal.fields-t-requires
-fields-t-requires c = ltb-false _ _ (or-false _ _ c.if-n.false).0
-
-pub refusal-broken-requires : goal.refusal-broken-requires
-refusal-broken-requires c = ltb-false _ _ (or-false _ _ c.if-n.false).0
-
-pub returns-then-broken-ne0 : goal.returns-then-broken-ne0
-returns-then-broken-ne0 c = by_trailer _ _ (length_right (goal.at.returns-then-broken-ne0 c).Else-n) _ (trailer_is (goal.at.returns-then-broken-ne0 c).After-refusal-broken) c.if-broken-ne0.true
+pub returns-in_err-check : goal.returns-in_err-check
+returns-in_err-check c =
+    rw (passed_on _ c.from_residual.ensures.1)
+    (by_trailer _ _ c.if-n.false _ (c.in_err-check.ensures ∙ ap (trailer_refusal c.args.due (length c.args.file.now)) c.fields-t.ensures))
 
 pub header-h-requires : goal.header-h-requires
 header-h-requires c =
     let right = or-false _ _ c.if-n.false in
-    let e = sym c.refusal-broken.ensures ∙ c.if-broken-ne0.false in
+    let e = sym c.in_ok-check.ensures in
     (ltb-false _ _ right.1, trailer_fits _ _ _ e (ltb-false _ _ right.0), trailer_counts _ _ _ e)
 
-pub body_refusal-broken-requires : goal.body_refusal-broken-requires
-body_refusal-broken-requires c =
+pub check_body-requires : goal.check_body-requires
+check_body-requires c =
     let right = or-false _ _ c.if-n.false in
-    let e = sym c.refusal-broken.ensures ∙ c.if-broken-ne0.false in
-    rw c.header-h.ensures (trailer_placed _ _ _ e (ltb-false _ _ right.0) (ltb-false _ _ right.1))
+    rw c.header-h.ensures (trailer_placed _ _ _ (sym c.in_ok-check.ensures) (ltb-false _ _ right.0) (ltb-false _ _ right.1))
 
-pub returns-then-broken-ne0-2 : goal.returns-then-broken-ne0-2
-returns-then-broken-ne0-2 c = by_body _ _ (length_right (goal.at.returns-then-broken-ne0-2 c).Else-n) _ (trailer_is (goal.at.returns-then-broken-ne0-2 c).After-refusal-broken) c.if-broken-ne0.false _ (header_is (goal.at.returns-then-broken-ne0-2 c).After-header-h) _ c.body_refusal-broken.ensures c.if-broken-ne0-2.true
+pub returns-in_err-check_body : goal.returns-in_err-check_body
+returns-in_err-check_body c =
+    let h = (goal.at.returns-in_err-check_body c).After-header-h in
+    rw (passed_on _ c.from_residual-in_err-check_body.ensures.1)
+    (by_body _ _ c.if-n.false (none_broken h) _ (header_is h) _ c.in_err-check_body.ensures)
 
 pub returns : goal.returns
-returns c = by_all _ _ (length_right (goal.at.returns c).Else-n) _ (trailer_is (goal.at.returns c).After-refusal-broken) c.if-broken-ne0.false _ (header_is (goal.at.returns c).After-header-h) _ c.body_refusal-broken.ensures c.if-broken-ne0-2.false
+returns c =
+    let h = (goal.at.returns c).After-header-h in
+    by_all _ _ c.if-n.false (none_broken h) _ (header_is h) c.in_ok-check_body.ensures

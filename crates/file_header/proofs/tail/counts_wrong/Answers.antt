@@ -16,7 +16,3 @@ returns-then-t-lt1024 c =
     let all = or_most (bit_or t.places t.transitions) (t.arcs / 4) 1024 small.if-t-lt1024.true in
     let both = or_most t.places t.transitions 1024 all.0 in
     rw (le-ltb 1024 t.places (omega (arith, both.0)), le-ltb 1024 t.transitions (omega (arith, both.1)), le-ltb 4096 t.arcs (omega (arith, all.1))) refl
-
--- the rule and its test are the same expression
-pub returns : goal.returns
-returns c = refl
