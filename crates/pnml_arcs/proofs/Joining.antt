@@ -84,6 +84,15 @@ all-four i j m e t =
     let d = and-true (leb m j) (ltb j e) a.1 in
     (leb-true 2 i b.0, ltb-true i m b.1, leb-true m j d.0, ltb-true j e d.1)
 
+-- a number past the places and transitions is an end of no arc
+pub between_out : (P T i j n : ℕ) → ((i < 2 + P + T) × (j < 2 + P + T) → ⊥) → [] ≡ between_at P T i j n
+between_out P T i j n h =
+    by_cases (leb 2 i && ltb i (2 + P) && leb (2 + P) j && ltb j (2 + P + T))
+    (λ t. let q = all-four i j (2 + P) (2 + P + T) t in absurd (h (omega (arith, q.1), q.3)))
+    (λ f. by_cases (leb 2 j && ltb j (2 + P) && leb (2 + P) i && ltb i (2 + P + T))
+    (λ t. let q = all-four j i (2 + P) (2 + P + T) t in absurd (h (q.3, omega (arith, q.1))))
+    (λ g. rw (f, g)))
+
 module _ (s : List ℕ) {table : List ℕ} {P T : ℕ} (g : Listing s table P T) {head next : List ℕ} (h : Indexed s table head next) where
   abbrev hs : List (List ℕ)
   hs = Rest.id_of (Steps.net (more s)) ∷ Rest.id_of (Steps.page (more s)) ∷ []

@@ -1,12 +1,16 @@
 -- The loop over the arcs of a text.
 use Prim.Native.Nat.{ℕ, suc, ◌+◌, ◌-◌, ◌≤◌, ◌<◌}
 use mathlib.Core.Path.{◌≡◌, refl, sym, ap, subst, ◌∙◌}
-use mathlib.Core.Bool.{Bool, true, false, ◌||◌, true≢false}
+use mathlib.Core.Bool.{Bool, true, false, ◌||◌}
+use Rattle.std.proofs.Common.{Ok, Err}
+use Rattle.refusals.specs.declared.Refusal.TheVariants.{Id}
+use Rattle.file_words.specs.Refusal.{refuse}
 use mathlib.Core.List.{List, [], ◌∷◌, ◌++◌, map, append-nil, append_assoc}
 use native.Mathlib.Omega.{arith}
 use lib.Dec.{ltb}
 use lib.ListN.{length, get_or, set, take, drop, length-set, length-map, length-drop}
-use lib.Seq.{take-suc-set}
+use lib.Seq.{take-suc-set, get_or-drop}
+use Rattle.std.proofs.lemmas.List.{take_rest}
 use Rattle.net.specs.declared.Arc.{Arc}
 use Rattle.pnml_names.specs.Tables.{wanted_read, entries_in}
 use Rattle.pnml_names.specs.declared.Which.TheVariants.{Places, Transitions, Arcs}
@@ -17,10 +21,7 @@ use Rattle.pnml_net.specs.Read.{id_of, entries, ids, any_apart, end_wrong, numbe
 use Rattle.pnml_net.specs.Named.{joined, arcs_of, any_off}
 use Rattle.pnml_list.specs.Listing.{Listing}
 use Rattle.pnml_sort.specs.Words.{word_of}
-use Rattle.pnml_arcs.specs.Ends.{arc_in, Lowest, Weighed}
-use Rattle.pnml_arcs.specs.declared.Joined.{Joined}
-use Rattle.pnml_arcs.specs.declared.Joined.TheVariants.{Apart}
-use Rattle.pnml_arcs.specs.declared.Ends.{Ends}
+use Rattle.pnml_arcs.specs.Ends.{Lowest, Weighed}
 
 -- the arcs before number k of the table of ids are done
 pub record Packing (s names : List ℕ) (P T size : ℕ) (words : List ℕ) (off : Bool) (k : ℕ) : Type 0 where
@@ -35,11 +36,18 @@ pub record Packing (s names : List ℕ) (P T size : ℕ) (words : List ℕ) (off
   pub room : length words ≡ size
   pub fits : length names ≤ 2 + P + T + size
 
+-- the arcs' part of the table
+pub part_long : (names : List ℕ) (a : ℕ) → length (take (length names - a) (drop a names)) ≡ length names - a
+part_long names a = ap (λ (l : List ℕ). length l) (take_rest names a) ∙ length-drop a names
+
+pub part_at : (names : List ℕ) (a k : ℕ) {x : ℕ} → x ≡ get_or (take (length names - a) (drop a names)) k 0 → x ≡ get_or names (a + k) 0
+part_at names a k e = e ∙ ap (λ (l : List ℕ). get_or l k 0) (take_rest names a) ∙ get_or-drop a names k 0
+
 abbrev first : ℕ → ℕ → ℕ
 first P T = 2 + P + T
 
 module _ {s names : List ℕ} {P T : ℕ} (g : Listing s names P T) where
-  pub packing_none : (words : List ℕ) → first P T ≤ length names → length names ≤ 2 + P + T + length words → Packing s names P T (length words) words false (2 + P + T)
+  packing_none : (words : List ℕ) → first P T ≤ length names → length names ≤ 2 + P + T + length words → Packing s names P T (length words) words false (2 + P + T)
   unfolding Named.arcs_named end_wrong
   packing_none words h f = record {
     done = [];
@@ -54,14 +62,19 @@ module _ {s names : List ℕ} {P T : ℕ} (g : Listing s names P T) where
     fits = f;
   }
 
+  pub packing_first : (words : List ℕ) → first P T ≤ length names → length names ≤ 2 + P + T + length words → Packing s names P T (length words) words false (2 + P + T + 0)
+  packing_first words h f =
+      let e : 2 + P + T ≡ 2 + P + T + 0 = omega arith in
+      subst (λ (n : ℕ). Packing s names P T (length words) words false n) e (packing_none words h f)
+
   module _ {size : ℕ} {words : List ℕ} {off : Bool} {k : ℕ} (inv : Packing s names P T size words off k) where
     rest : k < length names → entries_in Arcs s (drop k names) ≡ wanted_read Arcs s (get_or names k 0) ∷ entries_in Arcs s (drop (k + 1) names)
     rest h = map-cons (wanted_read Arcs s) names k h
 
-    pub pack_apart : k < length names → {a : ℕ} {r : Joined} → a ≡ get_or names k 0 → arc_in r ≡ joined (ids Places s) (ids Transitions s) (wanted_read Arcs s a) → r ≡ Apart → true ≡ end_wrong s
+    pub pack_apart : k < length names → {a : ℕ} → a ≡ get_or names k 0 → [] ≡ joined (ids Places s) (ids Transitions s) (wanted_read Arcs s a) → true ≡ end_wrong s
     unfolding any_apart
-    pack_apart h {a} e f q =
-        sym (rw (rest h, sym (ap (λ (y : ℕ). joined (ids Places s) (ids Transitions s) (wanted_read Arcs s y)) e) ∙ sym f ∙ ap arc_in q)) ∙ inv.apart
+    pack_apart h {a} e f =
+        sym (rw (rest h, sym (ap (λ (y : ℕ). joined (ids Places s) (ids Transitions s) (wanted_read Arcs s y)) e) ∙ sym f)) ∙ inv.apart
 
     module _ (h : k < length names) {at : ℕ} {a : Arc} (e : at ≡ get_or names k 0) (f : a ∷ [] ≡ joined (ids Places s) (ids Transitions s) (wanted_read Arcs s at)) where
       pub low : Lowest a
@@ -116,20 +129,26 @@ module _ {s names : List ℕ} {P T : ℕ} (g : Listing s names P T) where
           assoc true y z = refl
           assoc false y z = refl
 
-      pub pack_as : {first w : ℕ} {b : Bool} → first ≡ 2 + P + T → w ≡ word_of a → b ≡ (ltb a.weight 1 || ltb 65535 a.weight) → Packing s names P T size (set words (k - first) w) (off || b) (k + 1)
-      pack_as {first} {w} {b} d p q = subst (λ (y : ℕ). Packing s names P T size (set words (k - y) w) (off || b) (k + 1)) (sym d) (pack_on p q)
+      pub pack_as : (j : ℕ) {w : ℕ} {b : Bool} → k ≡ 2 + P + T + j → w ≡ word_of a → b ≡ (ltb a.weight 1 || ltb 65535 a.weight)
+          → Packing s names P T size (set words j w) (off || b) (2 + P + T + (j + 1))
+      pack_as j {w} {b} d p q =
+          let x : k - (2 + P + T) ≡ j = omega arith in
+          let y : k + 1 ≡ 2 + P + T + (j + 1) = omega arith in
+          subst (λ (n : ℕ). Packing s names P T size (set words j w) (off || b) n) y
+          (subst (λ (n : ℕ). Packing s names P T size (set words n w) (off || b) (k + 1)) x (pack_on p q))
 
-    pub pack_end : length names ≤ k → (entry : List ℕ) → length entry ≡ size → {r : Ends} → r.apart ≡ false → r.off ≡ off → Weighed s entry words r
+    pub pack_end : length names ≤ k → (entry : List ℕ) → length entry ≡ size → Weighed s entry words (Ok off)
     unfolding arcs_of any_apart any_off
-    pack_end h entry el {r} ea eo =
+    pack_end h entry el =
         let n = map-none (wanted_read Arcs s) names k h in
         let m = inv.most in
         let c = inv.count in
+        let joins : false ≡ end_wrong s = sym (rw n) ∙ inv.apart in
         let t : length (entries Arcs s) ≡ length inv.done = sym (ap length g.arcs) ∙ length-map (drop (2 + P + T) names) (wanted_read Arcs s) ∙ (let d = length-drop (2 + P + T) names in omega arith) in
         record {
-          apart = ea ∙ sym (rw n) ∙ inv.apart;
-          off = λ q. eo ∙ sym (or_none off) ∙ sym (rw n) ∙ inv.limits;
-          words = λ q. ap (λ (i : ℕ). take i words) t ∙ inv.packed ∙ ap (map word_of) (sym (append-nil inv.done) ∙ sym (rw n) ∙ inv.so);
+          apart = ap (λ (b : Bool). refuse b 19 0) joins;
+          off = sym (or_none off) ∙ sym (rw n) ∙ inv.limits;
+          words = ap (λ (i : ℕ). take i words) t ∙ inv.packed ∙ ap (map word_of) (sym (append-nil inv.done) ∙ sym (rw n) ∙ inv.so);
           room = inv.room ∙ sym el;
         }
       where
@@ -137,10 +156,10 @@ module _ {s names : List ℕ} {P T : ℕ} (g : Listing s names P T) where
         or_none true = refl
         or_none false = refl
 
-pub pack_told : {s entry words : List ℕ} {r : Ends} → length words ≡ length entry → r.apart ≡ true → true ≡ end_wrong s → Weighed s entry words r
-pack_told l e f = record {
+pub pack_told : {s entry words : List ℕ} → length words ≡ length entry → true ≡ end_wrong s → Weighed s entry words (Err Id)
+pack_told l e = record {
   room = l;
-  apart = e ∙ f;
-  off = λ q. absurd (true≢false (sym e ∙ q));
-  words = λ q. absurd (true≢false (sym e ∙ q));
+  apart = ap (λ (b : Bool). refuse b 19 0) e;
+  off = tt;
+  words = tt;
 }

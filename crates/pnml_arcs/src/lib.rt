@@ -14,24 +14,17 @@ ghost use Rattle.pnml_arcs.specs.Ends.{Lowest, Weighed, arc_in, between_at};
 use net::Arc;
 use pnml_index::find;
 use pnml_page::arc;
-use tables::wide;
+use refusals::Refusal;
 
-// An arc between a place and a transition, or one that joins no such two.
-#[derive(Clone, Copy)]
-pub enum Joined {
-    Between(Arc),
-    Apart,
-}
-
-// What an arc from the id of number i to that of number j joins, where P places and T transitions stand after two other ids.
-fn between(i: usize, j: usize, places: usize, transitions: usize, weight: usize) -> Joined
+// The arc from the id of number i to that of number j, where it joins a place and a transition. P places and T transitions stand after two other ids.
+fn between(i: usize, j: usize, places: usize, transitions: usize, weight: usize) -> Option<Arc>
     requires { places + transitions ≤ 4372 }
     ensures { arc_in result ≡ between_at places transitions i j weight }
 {
     let middle = 2 + places;
     let end = middle + transitions;
     if (2 <= i) & (i < middle) & (middle <= j) & (j < end) {
-        return Joined::Between(Arc {
+        return Some(Arc {
             transition: j - middle,
             direction: 0,
             place: i - 2,
@@ -39,17 +32,17 @@ fn between(i: usize, j: usize, places: usize, transitions: usize, weight: usize)
         });
     }
     if (2 <= j) & (j < middle) & (middle <= i) & (i < end) {
-        return Joined::Between(Arc {
+        return Some(Arc {
             transition: i - middle,
             direction: 1,
             place: j - 2,
             weight,
         });
     }
-    Joined::Apart
+    None
 }
 
-// What the arc whose id stands at a position joins.
+// The arc whose id stands at a position, where it joins a place and a transition.
 fn join(
     text: &[u8],
     at: usize,
@@ -58,14 +51,14 @@ fn join(
     next: &[u16],
     places: usize,
     transitions: usize,
-) -> Joined
+) -> Option<Arc>
     requires listing { Listing text.now names.now places transitions }
     requires indexed { Indexed text.now names.now head.now next.now }
     ensures { arc_in result ≡ joined (ids Places text.now) (ids Transitions text.now) (wanted_read Arcs text.now at) }
 {
     let ends = arc(text, at);
-    let i = find(text, ends.source, names, head, next);
-    let j = find(text, ends.target, names, head, next);
+    let i = find(text, ends.source, names, head, next)?;
+    let j = find(text, ends.target, names, head, next)?;
     between(i, j, places, transitions, ends.number)
 }
 
@@ -84,14 +77,7 @@ fn off(weight: usize) -> bool
     (weight < 1) | (65535 < weight)
 }
 
-// Whether an arc is apart; if not, whether a weight is off.
-#[derive(Clone, Copy)]
-pub struct Ends {
-    pub apart: bool,
-    pub off: bool,
-}
-
-// Puts the arcs of the text into a table, in order of appearance.
+// Puts the arcs of the text into a table, in order of appearance. Is a weight off? Refused: 19 where an arc joins no place and transition.
 pub fn pack(
     text: &[u8],
     names: &[u16],
@@ -100,7 +86,7 @@ pub fn pack(
     places: usize,
     transitions: usize,
     words: &mut [usize],
-) -> Ends
+) -> Result<bool, Refusal>
     requires listing { Listing text.now names.now places transitions }
     requires indexed { Indexed text.now names.now head.now next.now }
     requires names_len_bound { length names.now ≤ 2 + places + transitions + length words.old }
@@ -108,21 +94,21 @@ pub fn pack(
 {
     let first = 2 + places + transitions;
     let mut off_limits = false;
-    let mut k = first;
-    while k < names.len() {
-        let j = join(text, wide(names[k]), names, head, next, places, transitions);
-        let Joined::Between(a) = j else {
-            return Ends {
-                apart: true,
-                off: off_limits,
-            };
+    for (k, name) in names[first..].iter().enumerate() {
+        let joined = join(
+            text,
+            usize::from(*name),
+            names,
+            head,
+            next,
+            places,
+            transitions,
+        );
+        let Some(a) = joined else {
+            return Err(Refusal::Id);
         };
-        words[k - first] = packed(a);
-        off_limits = off_limits | off(a.weight);
-        k += 1;
+        words[k] = packed(a);
+        off_limits |= off(a.weight);
     }
-    Ends {
-        apart: false,
-        off: off_limits,
-    }
+    Ok(off_limits)
 }

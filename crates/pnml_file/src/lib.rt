@@ -5,6 +5,8 @@ ghost use Rattle.std.specs.Prelude.{◌≡◌, ◌+◌, ◌*◌, ◌≤◌, leng
 ghost use Rattle.std.proofs.lemmas.List.Edits.{sets};
 ghost use Rattle.file_writing.specs.Writing.{arcs_bytes, places_bytes};
 ghost use Rattle.plan_put.specs.Told.{Answers, room_refusal};
+ghost use Rattle.pnml_text.specs.Rest.{rest_at};
+ghost use Rattle.pnml_page.specs.Steps.{place};
 ghost use Rattle.pnml_list.specs.Listing.{Listing};
 ghost use Rattle.pnml_names.specs.Tables.{entries_in};
 ghost use Rattle.pnml_names.specs.declared.Which.TheVariants.{Places};
@@ -13,24 +15,27 @@ ghost use Rattle.pnml_net.specs.Named.{any_off};
 ghost use Rattle.pnml_file.specs.Ready.{Ready, Sorted, arc_of, arcs_in, marking_in, read_file, unfit_but};
 
 use net::Arc;
-use plan_put::File;
 use pnml_page::place;
-use tables::wide;
+use refusals::Refusal;
 
 // The edition of the file, in which places have no caps.
 const EDITION: usize = 1;
+
+// The marking of the place whose id stands at a position.
+fn marking(text: &[u8], at: u16) -> usize
+    ensures { result ≡ (place (rest_at text.now at)).number }
+{
+    place(text, usize::from(at)).number
+}
 
 // Is a marking past its limit?
 fn marking_off(text: &[u8], places: &[u16]) -> bool
     ensures { result ≡ any_off 0 4294967295 (entries_in Places text.now places.now) }
 {
-    let mut k = 0;
-    while k < places.len() {
-        let e = place(text, wide(places[k]));
-        if 4294967295 < e.number {
+    for at in places {
+        if 4294967295 < marking(text, *at) {
             return true;
         }
-        k += 1;
     }
     false
 }
@@ -59,11 +64,8 @@ fn write_places(text: &[u8], places: &[u16], buffer: &mut [u8])
     requires places_in_bounds { 4 * length places.now ≤ length buffer.old }
     ensures { buffer.new ≡ sets buffer.old 0 (places_bytes 1 (marking_in text.now places.now) (λ p. 0) 0 (length places.now)) }
 {
-    let mut p: usize = 0;
-    while p < places.len() {
-        let e = place(text, wide(places[p]));
-        slice_put::put_place(EDITION, p, e.number, 0, buffer);
-        p += 1;
+    for (p, at) in places.iter().enumerate() {
+        slice_put::put_place(EDITION, p, marking(text, *at), 0, buffer);
     }
 }
 
@@ -84,12 +86,8 @@ fn write_arcs(words: &[usize], start: usize, buffer: &mut [u8])
     requires { start + 8 * length words.now ≤ length buffer.old }
     ensures { buffer.new ≡ sets buffer.old start (arcs_bytes (arcs_in words.now)) }
 {
-    let mut at = start;
-    let mut k: usize = 0;
-    while k < words.len() {
-        slice_put::put_arc(buffer, at, unpacked(words[k]));
-        at += 8;
-        k += 1;
+    for (k, word) in words.iter().enumerate() {
+        slice_put::put_arc(buffer, start + 8 * k, unpacked(*word));
     }
 }
 
@@ -100,20 +98,19 @@ fn write(
     transitions: usize,
     words: &[usize],
     buffer: &mut [u8],
-) -> File
+) -> Result<u32, Refusal>
     requires { Ready text.now places.now transitions words.now }
     ensures { Answers (room_refusal (length buffer.old) (read_file text.now)) (read_file text.now) buffer.old buffer.new result }
 {
     let start = 4 * places.len();
     let arcs = words.len();
     if buffer.len() < start + 8 * arcs + 16 {
-        return File::Refused(13);
+        return Err(Refusal::Buffer);
     }
     write_places(text, places, buffer);
     write_arcs(words, start, buffer);
     let end = plan_put::put_end(EDITION, places.len(), transitions, arcs, buffer);
-    let bytes = end as u32;
-    File::Length(bytes)
+    Ok(end as u32)
 }
 
 // The same from the table of ids.
@@ -124,7 +121,7 @@ pub fn write_listed(
     transitions: usize,
     words: &[usize],
     buffer: &mut [u8],
-) -> File
+) -> Result<u32, Refusal>
     requires listing { Listing text.now names.now places transitions }
     requires sorted { Sorted text.now words.now }
     ensures { Answers (room_refusal (length buffer.old) (read_file text.now)) (read_file text.now) buffer.old buffer.new result }

@@ -1,7 +1,7 @@
 -- Rows of ids with one sum: for callers, not for a reader of the contracts.
-use Rattle.std.specs.Prelude.{ℕ, suc, ◌+◌, ◌*◌, ◌%◌, ◌≤◌, ◌<◌, ◌≡◌, true, false, List, [], ◌∷◌, length, get_or}
+use Rattle.std.specs.Prelude.{ℕ, suc, ◌+◌, ◌*◌, ◌%◌, ◌≤◌, ◌<◌, ◌≡◌, true, false, Option, Some, None, List, [], ◌∷◌, length, get_or}
 use Rattle.pnml_page.specs.Meant.{id_at}
-use Rattle.pnml_names.specs.Names.{same_id, repeats}
+use Rattle.pnml_names.specs.Names.{same_id, position, repeats}
 use Rattle.pnml_names.specs.Tables.{ids_in}
 
 -- the sum of an id's characters, after those that gave h
@@ -20,11 +20,15 @@ pub record Row (names next : List ℕ) (from : ℕ) : Type 0 where
   pub room : length names ≤ length next
   pub within : from ≤ length names
 
--- r is the number of the id at a position in a row, or the table's length
-pub record Sought (s : List ℕ) (a : ℕ) (names next : List ℕ) (from r : ℕ) : Type 0 where
-  pub below : r ≤ length names
-  pub found : r < length names → (r < from) × (same_id (id_at s a) (id_at s (get_or names r 0)) ≡ true)
-  pub none : length names ≤ r → (j : ℕ) → Has next from j → same_id (id_at s a) (id_at s (get_or names j 0)) ≡ false
+-- the number of the id at a position in a row, where it is there
+abbrev pub Sought : List ℕ → ℕ → List ℕ → List ℕ → ℕ → Option ℕ → Type 0
+Sought s a names next from (Some r) = (r < length names) × (r < from) × (same_id (id_at s a) (id_at s (get_or names r 0)) ≡ true)
+Sought s a names next from None = (j : ℕ) → Has next from j → same_id (id_at s a) (id_at s (get_or names j 0)) ≡ false
+
+-- the number of the id at a position in a table, where it is there
+abbrev pub Placed : List ℕ → ℕ → List ℕ → Option ℕ → Type 0
+Placed s a names (Some r) = (r ≡ position (id_at s a) (ids_in s names)) × (r < length names)
+Placed s a names None = length names ≡ position (id_at s a) (ids_in s names)
 
 -- tables with no rows yet
 pub record Blank (names head next : List ℕ) : Type 0 where

@@ -5,52 +5,42 @@
 // the one before it in its row; 0 ends a row.
 ghost use Rattle.std.specs.Prelude.{◌≡◌, false, ◌<◌, length};
 ghost use Rattle.pnml_page.specs.Meant.{id_at};
-ghost use Rattle.pnml_names.specs.Names.{position, repeats};
+ghost use Rattle.pnml_names.specs.Names.{repeats};
 ghost use Rattle.pnml_names.specs.Tables.{ids_in};
-ghost use Rattle.pnml_index.specs.Rows.{Blank, Indexed, Row, Sought, sum_of};
+ghost use Rattle.pnml_index.specs.Rows.{Blank, Indexed, Placed, Row, Sought, sum_of};
 
 use pnml_names::{character, same};
-use tables::wide;
 
 // How many sums there are.
 pub const SUMS: usize = 2048;
 
-fn widened(b: u8) -> usize
-    ensures { (result ≡ b) × (result < 256) }
-{
-    b as usize
-}
-
-// The sum of the characters of the id at a position.
+// The sum of the characters of the id at a position. No range bounds the loop: the id ends where no character of it stands.
 fn sum(text: &[u8], a: usize) -> usize
     ensures { (result ≡ sum_of 0 (id_at text.now a)) × (result < 2048) }
 {
     let mut h: usize = 0;
     let mut i = a;
-    loop {
-        let x = character(text, i);
-        if x == 0 {
-            return h;
-        }
-        h = (31 * h + widened(x)) % SUMS;
+    while let Some(x) = character(text, i) {
+        h = (31 * h + usize::from(x)) % SUMS;
         i += 1;
     }
+    h
 }
 
-// The number of the id at a position, along a row from an entry on; the table's length where it is not in the row.
-fn seek(text: &[u8], a: usize, names: &[u16], next: &[u16], from: usize) -> usize
+// The number of the id at a position, along a row from an entry on, where it is in the row. The loop follows the row's links.
+fn seek(text: &[u8], a: usize, names: &[u16], next: &[u16], from: usize) -> Option<usize>
     requires { Row names.now next.now from }
     ensures { Sought text.now a names.now next.now from result }
 {
     let mut m = from;
     while 0 < m {
         let i = m - 1;
-        if same(text, a, wide(names[i])) {
-            return i;
+        if same(text, a, usize::from(names[i])) {
+            return Some(i);
         }
-        m = wide(next[i]);
+        m = usize::from(next[i]);
     }
-    names.len()
+    None
 }
 
 // Puts each id into its row. Is one of them there twice?
@@ -59,26 +49,24 @@ pub fn index(text: &[u8], names: &[u16], head: &mut [u16], next: &mut [u16]) -> 
     ensures answer { result ≡ repeats (ids_in text.now names.now) }
     ensures index { result ≡ false → Indexed text.now names.now head.new next.new }
 {
-    let mut k: usize = 0;
-    while k < names.len() {
-        let a = wide(names[k]);
+    for (k, name) in names.iter().enumerate() {
+        let a = usize::from(*name);
         let h = sum(text, a);
         let last = head[h];
-        if seek(text, a, names, next, wide(last)) < names.len() {
+        if seek(text, a, names, next, usize::from(last)).is_some() {
             return true;
         }
         next[k] = last;
         head[h] = (k + 1) as u16;
-        k += 1;
     }
     false
 }
 
-// The number of the id at a position; the table's length where it is not there.
-pub fn find(text: &[u8], a: usize, names: &[u16], head: &[u16], next: &[u16]) -> usize
+// The number of the id at a position, where it is in the table.
+pub fn find(text: &[u8], a: usize, names: &[u16], head: &[u16], next: &[u16]) -> Option<usize>
     requires { Indexed text.now names.now head.now next.now }
-    ensures { result ≡ position (id_at text.now a) (ids_in text.now names.now) }
+    ensures { Placed text.now a names.now result }
 {
     let h = sum(text, a);
-    seek(text, a, names, next, wide(head[h]))
+    seek(text, a, names, next, usize::from(head[h]))
 }

@@ -1,5 +1,5 @@
 -- Tables of positions as they are filled.
-use Prim.Native.Nat.{ℕ, suc, ◌+◌, ◌-◌, ◌≤◌, ◌<◌}
+use Prim.Native.Nat.{ℕ, suc, ◌+◌, ◌≤◌, ◌<◌}
 use mathlib.Core.Path.{◌≡◌, refl, sym, ap, ◌∙◌}
 use mathlib.Core.Bool.{Bool, true, false}
 use mathlib.Core.List.{List, [], ◌∷◌, ◌++◌, map, append-nil, append_assoc}
@@ -8,7 +8,7 @@ use native.Mathlib.Numerals.{add-one}
 use lib.ListN.{length, take, set, length-set, length-append, length-map}
 use lib.Seq.{take-suc-set}
 use Rattle.net.proofs.Numbers.{by_cases}
-use Rattle.pnml_text.specs.Rest.{rest_at, spaces}
+use Rattle.pnml_text.specs.Rest.{rest_at, outside, spaces}
 use Rattle.pnml_page.specs.Meant.{meant, from_id, name_at, Reads}
 use Rattle.pnml_page.specs.Profile
 use Rattle.pnml_page.specs.Steps
@@ -78,41 +78,41 @@ module _ {s : List ℕ} {w : Which} {table₀ : List ℕ} {k : ℕ} {answer : Li
   unfolding entries_of
   done e = sym (append-nil (entries_in w s inv.found)) ∙ sym (ap (λ (l : List Profile.Element). entries_in w s inv.found ++ entries_of w l) e) ∙ inv.so
 
-  pub collected_stop : (f : Found) → 0 < left → Reads s f (Steps.element (rest_at s a)) → length s < f.next → entries_in w s inv.found ≡ answer
-  collected_stop f h g o = done (ap (λ (y : Steps.Content). y.elements) (content-stop s left a f h g o))
+  pub collected_stop : (m : ℕ) → left ≡ suc m → (Steps.element (rest_at s a)).rest ≡ outside → entries_in w s inv.found ≡ answer
+  collected_stop m h o = done (ap (λ (y : Steps.Content). y.elements) (content-stop s left m a h o))
 
   pub collected_end : left ≤ 0 → entries_in w s inv.found ≡ answer
   collected_end h = done (ap (λ (y : Steps.Content). y.elements) (content-end left (rest_at s a) h))
 
-  module _ (f : Found) (b : ℕ) (h : 0 < left) (g : Reads s f (Steps.element (rest_at s a))) (i : f.next ≤ length s) (e : rest_at s b ≡ spaces (rest_at s f.next)) where
+  module _ (f : Found) (b fewer : ℕ) (h : left ≡ suc fewer) (g : Reads s f (Steps.element (rest_at s a)) × (f.next ≤ length s)) (e : rest_at s b ≡ spaces (rest_at s f.next)) where
     -- what is left to be found: this element, where it is asked for, and those after it
     next : entries_of w (Steps.content left (rest_at s a)).elements
-        ≡ map (wanted_read w s) (kept_if (wanted_at w f.element) (name_at f.element)) ++ entries_of w (Steps.content (left - 1) (rest_at s b)).elements
+        ≡ map (wanted_read w s) (kept_if (wanted_at w f.element) (name_at f.element)) ++ entries_of w (Steps.content fewer (rest_at s b)).elements
     unfolding entries_of
     next =
-        ap (λ (y : Steps.Content). entries_of w y.elements) (content-on s left a f b h g i e)
-        ∙ ap (λ (y : List Profile.Element). y ++ entries_of w (Steps.content (left - 1) (rest_at s b)).elements) (kept_at s w f.element g.here)
+        ap (λ (y : Steps.Content). entries_of w y.elements) (content-on s left fewer a f b h g e)
+        ∙ ap (λ (y : List Profile.Element). y ++ entries_of w (Steps.content fewer (rest_at s b)).elements) (kept_at s w f.element g.0.here)
 
     pub room_for : {x : Bool} → x ≡ wanted_at w f.element → x ≡ true → n < length table
     room_for {x} p t =
         let l = ap length inv.so in
         let m = length-append (entries_in w s inv.found) (entries_of w (Steps.content left (rest_at s a)).elements) in
         let q = length-map inv.found (wanted_read w s) in
-        let o : length (entries_of w (Steps.content left (rest_at s a)).elements) ≡ suc (length (entries_of w (Steps.content (left - 1) (rest_at s b)).elements)) = ap length next ∙ rw (sym p ∙ t) in
+        let o : length (entries_of w (Steps.content left (rest_at s a)).elements) ≡ suc (length (entries_of w (Steps.content fewer (rest_at s b)).elements)) = ap length next ∙ rw (sym p ∙ t) in
         omega (arith, inv.count, inv.room, inv.fits)
 
     pub collected_on : {name : ℕ} {x : Bool} {later : List ℕ} {r : ℕ} → name ≡ name_at f.element → x ≡ wanted_at w f.element → Kept table n name x later r
-        → Collecting s w table₀ k answer later b r (left - 1)
+        → Collecting s w table₀ k answer later b r fewer
     collected_on {name} {x} {later} {r} p q m =
         let more = kept_if x name in
         record {
           found = inv.found ++ more;
           taken = m.taken ∙ ap (λ (y : List ℕ). y ++ more) inv.taken ∙ append_assoc (take k table₀) inv.found more;
           so =
-              ap (λ (y : List Profile.Element). y ++ entries_of w (Steps.content (left - 1) (rest_at s b)).elements) (map-append (wanted_read w s) inv.found more)
-              ∙ append_assoc (entries_in w s inv.found) (map (wanted_read w s) more) (entries_of w (Steps.content (left - 1) (rest_at s b)).elements)
+              ap (λ (y : List Profile.Element). y ++ entries_of w (Steps.content fewer (rest_at s b)).elements) (map-append (wanted_read w s) inv.found more)
+              ∙ append_assoc (entries_in w s inv.found) (map (wanted_read w s) more) (entries_of w (Steps.content fewer (rest_at s b)).elements)
               ∙ ap (λ (y : List Profile.Element). entries_in w s inv.found ++ y)
-              ((λ j. map (wanted_read w s) (kept_if (q j) (p j)) ++ entries_of w (Steps.content (left - 1) (rest_at s b)).elements) ∙ sym next)
+              ((λ j. map (wanted_read w s) (kept_if (q j) (p j)) ++ entries_of w (Steps.content fewer (rest_at s b)).elements) ∙ sym next)
               ∙ inv.so;
           count = omega (arith, m.count, inv.count, length-append inv.found more);
           room = m.room ∙ inv.room;

@@ -3,6 +3,7 @@ use Prim.Native.Nat.{ℕ, zero, suc, ◌+◌, ◌<◌, ◌≤◌}
 use mathlib.Core.Path.{◌≡◌, refl, sym, ap, ◌∙◌}
 use lib.Dec.{eqb, leb}
 use mathlib.Core.Bool.{true≢false, Bool, true, false, ◌||◌}
+use Rattle.std.proofs.Common.{Option, Some, None}
 use mathlib.Core.List.{List, [], ◌∷◌, ◌++◌, map}
 use native.Mathlib.Omega.{arith}
 use native.Mathlib.Numerals.{add-one}
@@ -15,30 +16,41 @@ use Rattle.pnml_text.specs.declared.Run.TheVariants.{Id}
 use Rattle.pnml_text.proofs.Runs.{front-on, front-stop, front-end}
 use Rattle.pnml_page.specs.Meant.{id_at}
 use Rattle.pnml_names.specs.Names.{same_id, position, among, repeats}
-use Rattle.pnml_names.specs.Tables.{first_of}
+use Rattle.pnml_names.specs.Tables.{head_of}
+
+-- a character, or none
+abbrev value : Option ℕ → ℕ
+value None = 0
+value (Some b) = b
+
+abbrev there : Option ℕ → Bool
+there None = false
+there (Some b) = true
+
+pub some_none : {b : ℕ} → ◌≡◌ {A = Option ℕ} (Some b) None → ⊥
+some_none e = true≢false (ap there e)
+
+pub same_some : {a b : ℕ} → ◌≡◌ {A = Option ℕ} (Some a) (Some b) → a ≡ b
+same_some e = ap value e
 
 -- the character of an id
 module _ (s : List ℕ) (i : ℕ) where
-  pub character_past : length s ≤ i → 0 ≡ first_of (id_at s i)
+  pub character_past : length s ≤ i → None ≡ head_of (id_at s i)
   unfolding id_at
   character_past h = rw (front-end Id s i h)
 
-  pub character_in : i < length s → goes_on Id (kind_of (get_or s i 0)) ≡ true → get_or s i 0 ≡ first_of (id_at s i)
+  pub character_in : i < length s → goes_on Id (kind_of (get_or s i 0)) ≡ true → Some (get_or s i 0) ≡ head_of (id_at s i)
   unfolding id_at
   character_in h g = rw (front-on Id s i h g)
 
-  pub character_not : i < length s → goes_on Id (kind_of (get_or s i 0)) ≡ false → 0 ≡ first_of (id_at s i)
+  pub character_not : i < length s → goes_on Id (kind_of (get_or s i 0)) ≡ false → None ≡ head_of (id_at s i)
   unfolding id_at
   character_not h g = rw (front-stop Id s i h g)
 
-  zero_not : (b : ℕ) → b ≡ 0 → goes_on Id (kind_of b) ≡ true → ⊥
-  unfolding kind_of
-  zero_not b e g = let z : false ≡ true = (rw e at g) in let w : ◌≡◌ {A = ℕ} 0 1 = cc in omega arith
-
-  -- an id is empty, or has a first character, which is not 0
+  -- an id is empty, or has a first character
   pub data Starts : Type 0 where
     empty : id_at s i ≡ [] → Starts
-    character : (b : ℕ) → i < length s → (b ≡ 0 → ⊥) → id_at s i ≡ b ∷ id_at s (i + 1) → Starts
+    character : (b : ℕ) → i < length s → id_at s i ≡ b ∷ id_at s (i + 1) → Starts
 
   pub starts : Starts
   unfolding id_at
@@ -48,51 +60,51 @@ module _ (s : List ℕ) (i : ℕ) where
       (λ f.
       let h : i < length s = leb-false (length s) i f in
       by_cases (goes_on Id (kind_of (get_or s i 0)))
-      (λ g. character (get_or s i 0) h (λ z. zero_not (get_or s i 0) z g) (front-on Id s i h g))
+      (λ g. character (get_or s i 0) h (front-on Id s i h g))
       (λ g. empty (front-stop Id s i h g)))
 
 pub record Comparing (s : List ℕ) (i j : ℕ) (answer : Bool) : Type 0 where
   pub so : same_id (id_at s i) (id_at s j) ≡ answer
 
 module _ {s : List ℕ} {i j : ℕ} {answer : Bool} (inv : Comparing s i j answer) where
-  pub unlike : {x y : ℕ} → x ≡ first_of (id_at s i) → y ≡ first_of (id_at s j) → (x ≡ y → ⊥) → false ≡ answer
+  pub unlike : {x y : Option ℕ} → x ≡ head_of (id_at s i) → y ≡ head_of (id_at s j) → (x ≡ y → ⊥) → false ≡ answer
   unfolding same_id
   unlike {x} {y} e f n = go (starts s i) (starts s j)
     where
       go : Starts s i → Starts s j → false ≡ answer
-      go (empty p) (empty q) = absurd (n (e ∙ ap first_of (p ∙ sym q) ∙ sym f))
-      go (empty p) (character b h z q) = sym (rw (p, q)) ∙ inv.so
-      go (character a g z p) (empty q) = sym (rw (p, q)) ∙ inv.so
-      go (character a g z p) (character b h w q) =
-          sym (rw (p, q, ne_eqb a b (λ t. n (e ∙ ap first_of p ∙ t ∙ sym (ap first_of q) ∙ sym f)))) ∙ inv.so
+      go (empty p) (empty q) = absurd (n (e ∙ ap head_of (p ∙ sym q) ∙ sym f))
+      go (empty p) (character b h q) = sym (rw (p, q)) ∙ inv.so
+      go (character a g p) (empty q) = sym (rw (p, q)) ∙ inv.so
+      go (character a g p) (character b h q) =
+          let d : a ≡ b → ⊥ = λ t. n (e ∙ ap head_of p ∙ (λ k. Some (t k)) ∙ sym (f ∙ ap head_of q)) in
+          sym (rw (p, q, ne_eqb a b d)) ∙ inv.so
 
-  pub over : {x y : ℕ} → x ≡ first_of (id_at s i) → y ≡ first_of (id_at s j) → x ≡ y → x ≡ 0 → true ≡ answer
+  pub over : None ≡ head_of (id_at s i) → None ≡ head_of (id_at s j) → true ≡ answer
   unfolding same_id
-  over {x} {y} e f t u = go (starts s i) (starts s j)
+  over e f = go (starts s i) (starts s j)
     where
       go : Starts s i → Starts s j → true ≡ answer
       go (empty p) (empty q) = sym (rw (p, q)) ∙ inv.so
-      go (empty p) (character b h z q) = absurd (z (sym (f ∙ ap first_of q) ∙ sym t ∙ u))
-      go (character a g z p) (empty q) = absurd (z (sym (e ∙ ap first_of p) ∙ u))
-      go (character a g z p) (character b h w q) = absurd (z (sym (e ∙ ap first_of p) ∙ u))
+      go (empty p) (character b h q) = absurd (some_none (sym (f ∙ ap head_of q)))
+      go (character a g p) (empty q) = absurd (some_none (sym (e ∙ ap head_of p)))
+      go (character a g p) (character b h q) = absurd (some_none (sym (e ∙ ap head_of p)))
 
-  pub on : {x y : ℕ} → x ≡ first_of (id_at s i) → y ≡ first_of (id_at s j) → x ≡ y → (x ≡ 0 → ⊥) → Comparing s (i + 1) (j + 1) answer
+  pub on : {x y : ℕ} → Some x ≡ head_of (id_at s i) → Some y ≡ head_of (id_at s j) → x ≡ y → Comparing s (i + 1) (j + 1) answer
   unfolding same_id
-  on {x} {y} e f t u = go (starts s i) (starts s j)
+  on {x} {y} e f t = go (starts s i) (starts s j)
     where
       go : Starts s i → Starts s j → Comparing s (i + 1) (j + 1) answer
-      go (empty p) (empty q) = absurd (u (e ∙ ap first_of p))
-      go (empty p) (character b h z q) = absurd (u (e ∙ ap first_of p))
-      go (character a g z p) (empty q) = absurd (u (t ∙ f ∙ ap first_of q))
-      go (character a g z p) (character b h w q) =
-          record { so = sym (rw (p, q, eq-eqb a b (sym (e ∙ ap first_of p) ∙ t ∙ f ∙ ap first_of q))) ∙ inv.so }
+      go (empty p) q = absurd (some_none (e ∙ ap head_of p))
+      go (character a g p) (empty q) = absurd (some_none (f ∙ ap head_of q))
+      go (character a g p) (character b h q) =
+          record { so = sym (rw (p, q, eq-eqb a b (sym (same_some (e ∙ ap head_of p)) ∙ t ∙ same_some (f ∙ ap head_of q)))) ∙ inv.so }
 
-pub within : (s : List ℕ) (i : ℕ) {x : ℕ} → x ≡ first_of (id_at s i) → (x ≡ 0 → ⊥) → i < length s
-within s i {x} e u = go (starts s i)
+pub within : (s : List ℕ) (i : ℕ) {x : ℕ} → Some x ≡ head_of (id_at s i) → i < length s
+within s i {x} e = go (starts s i)
   where
     go : Starts s i → i < length s
-    go (empty p) = absurd (u (e ∙ ap first_of p))
-    go (character a g z p) = g
+    go (empty p) = absurd (some_none (e ∙ ap head_of p))
+    go (character a g p) = g
 
 -- two ids are the same where they are equal
 pub same_refl : (x : List ℕ) → same_id x x ≡ true

@@ -1,5 +1,5 @@
 -- The code's tables of positions: for callers, not for a reader of the contracts.
-use Rattle.std.specs.Prelude.{ℕ, ◌+◌, ◌≡◌, Bool, true, false, List, [], ◌∷◌, ◌++◌, map, eqb, length, take}
+use Rattle.std.specs.Prelude.{ℕ, ◌+◌, ◌≡◌, Bool, true, false, Option, Some, None, List, [], ◌∷◌, ◌++◌, map, eqb, length, take}
 use Rattle.pnml_text.specs.Rest.{rest_at}
 use Rattle.pnml_page.specs.Meant.{id_at}
 use Rattle.pnml_page.specs.Profile
@@ -14,10 +14,10 @@ use Rattle.pnml_names.specs.declared.Which.TheVariants.{Places, Transitions, Arc
 abbrev pub kept_if : {A : Type 0} → Bool → A → List A
 kept_if b x = pick b (x ∷ []) []
 
--- the first character of an id; 0 where there is none
-abbrev pub first_of : List ℕ → ℕ
-first_of [] = 0
-first_of (b ∷ x) = b
+-- the first character of an id, where there is one
+abbrev pub head_of : List ℕ → Option ℕ
+head_of [] = None
+head_of (b ∷ x) = Some b
 
 -- whether an element is one of those that are asked for: as the text has it, and as the code holds it
 abbrev pub is_wanted : Which → Profile.Element → Bool

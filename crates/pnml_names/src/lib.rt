@@ -6,13 +6,13 @@ ghost use Rattle.pnml_text.specs.Rest.{rest_at};
 ghost use Rattle.pnml_page.specs.Meant.{id_at, name_at};
 ghost use Rattle.pnml_page.specs.Steps.{content, most};
 ghost use Rattle.pnml_names.specs.Names.{entries_of, same_id};
-ghost use Rattle.pnml_names.specs.Tables.{Collected, Kept, first_of, wanted_at};
+ghost use Rattle.pnml_names.specs.Tables.{Collected, Kept, head_of, wanted_at};
 
-use pnml_page::{Element, element_at};
+use pnml_page::{Element, MOST, element_at};
 use pnml_text::{Run, classify, goes_on, spaces};
 
 // Which elements are asked for.
-#[derive(Clone, Copy)]
+#[derive(Clone, Copy, Debug, PartialEq, Eq)]
 pub enum Which {
     Places,
     Transitions,
@@ -24,21 +24,9 @@ pub fn wanted(e: Element, which: Which) -> bool
     ensures { result ≡ wanted_at which e }
 {
     match which {
-        Which::Places => match e {
-            Element::Place(_, _) => true,
-            Element::Transition(_) => false,
-            Element::Arc(_, _, _, _) => false,
-        },
-        Which::Transitions => match e {
-            Element::Place(_, _) => false,
-            Element::Transition(_) => true,
-            Element::Arc(_, _, _, _) => false,
-        },
-        Which::Arcs => match e {
-            Element::Place(_, _) => false,
-            Element::Transition(_) => false,
-            Element::Arc(_, _, _, _) => true,
-        },
+        Which::Places => matches!(e, Element::Place(_, _)),
+        Which::Transitions => matches!(e, Element::Transition(_)),
+        Which::Arcs => matches!(e, Element::Arc(_, _, _, _)),
     }
 }
 
@@ -47,9 +35,7 @@ pub fn name_of(e: Element) -> usize
     ensures { result ≡ name_at e }
 {
     match e {
-        Element::Place(a, _) => a,
-        Element::Transition(a) => a,
-        Element::Arc(a, _, _, _) => a,
+        Element::Place(a, _) | Element::Transition(a) | Element::Arc(a, _, _, _) => a,
     }
 }
 
@@ -73,48 +59,42 @@ pub fn collect(text: &[u8], at: usize, which: Which, table: &mut [u16], k: usize
 {
     let mut a = at;
     let mut n = k;
-    let mut left: usize = 4370;
-    while 0 < left {
-        let found = element_at(text, a);
-        if text.len() < found.next {
+    for _ in 0..MOST {
+        let Some(found) = element_at(text, a) else {
             return n;
-        }
+        };
         a = spaces(text, found.next);
         let e = found.element;
         n = keep(table, n, name_of(e), wanted(e, which));
-        left -= 1;
     }
     n
 }
 
-// The character of an id at a position, or 0 where there is none.
-pub fn character(text: &[u8], at: usize) -> u8
-    ensures { result ≡ first_of (id_at text.now at) }
+// The character of an id at a position, where one stands there.
+pub fn character(text: &[u8], at: usize) -> Option<u8>
+    ensures { result ≡ head_of (id_at text.now at) }
 {
     if text.len() <= at {
-        return 0;
+        return None;
     }
     let b = text[at];
     if goes_on(Run::Id, classify(b)) {
-        return b;
+        return Some(b);
     }
-    0
+    None
 }
 
-// Are the ids at two positions the same?
+// Are the ids at two positions the same? No range bounds the loop: an id ends where no character of it stands.
 pub fn same(text: &[u8], a: usize, b: usize) -> bool
     ensures { result ≡ same_id (id_at text.now a) (id_at text.now b) }
 {
     let mut i = a;
     let mut j = b;
     loop {
-        let x = character(text, i);
-        let y = character(text, j);
-        if x != y {
-            return false;
-        }
-        if x == 0 {
-            return true;
+        match (character(text, i), character(text, j)) {
+            (None, None) => return true,
+            (Some(x), Some(y)) if x == y => {}
+            _ => return false,
         }
         i += 1;
         j += 1;

@@ -1,5 +1,5 @@
 -- Laws of the profile's steps. Assumes nothing.
-use Prim.Native.Nat.{ℕ, zero, suc, ◌-◌, ◌≤◌, ◌<◌}
+use Prim.Native.Nat.{ℕ, suc, ◌≤◌, ◌<◌}
 use mathlib.Core.Path.{◌≡◌, refl, sym, ap, ◌∙◌}
 use mathlib.Core.Bool.{Bool, true, false}
 use mathlib.Core.List.{List, []}
@@ -13,8 +13,6 @@ use Rattle.pnml_page.specs.Meant.{Reads, HasEnds, id_at, meant}
 use Rattle.pnml_page.specs.declared.Found.{Found}
 use Rattle.pnml_page.specs.declared.Ends.{Ends}
 use Rattle.pnml_page.specs.declared.Element.TheVariants.{Place, Transition, Arc}
-use native.Mathlib.Numerals.{sub-one}
-use native.Mathlib.Nat.{lt_irrefl}
 use lib.Arith.{le-zero}
 use borrow.Author.Tests.{eqb-true, eqb-false, eq-eqb, ne_eqb, leb-true, leb-false}
 use lib.Seq.{drop-length, drop-cons}
@@ -105,9 +103,6 @@ module _ (s : List ℕ) (p : ℕ) {x : Rest} (e : rest_at s p ≡ x) where
   pub is_read : (none some : Steps.Content) → p ≤ length s → Steps.if_read x none some ≡ some
   is_read none some i = rw (← e, rest_in s p i)
 
-  pub not-read : (none some : Steps.Content) → length s < p → Steps.if_read x none some ≡ none
-  not-read none some o = rw (← e, rest_out s p o)
-
 module _ (s : List ℕ) (a named closed : ℕ) (e1 : rest_at s named ≡ id (rest_at s a)) (e2 : rest_at s closed ≡ word (bytes "\"/>") (rest_at s named)) where
   pub transition-closed : closed ≤ length s → rest_at s closed ≡ Steps.transition (rest_at s a)
   unfolding Steps.transition
@@ -166,25 +161,28 @@ module _ (s : List ℕ) (a p : ℕ) (e1 : rest_at s p ≡ word (bytes "<place id
           within = λ k. omega (arith, before-within s r h.next 25 (omega (arith, ap size g.rest, arc-size (rest_at s r))) k);
         }
 
+-- where an element stands, and where none does
+pub element-none : (s : List ℕ) (f : Found) (r : Steps.Read) → Reads s f r → length s < f.next → r.rest ≡ outside
+element-none s f r g o = sym g.rest ∙ rest_out s f.next o
+
 -- the elements, one at a time
-content-step : (n : ℕ) (r : Rest) → 0 < n
+content-step : (n m : ℕ) (r : Rest) → n ≡ suc m
     → Steps.content n r
     ≡ Steps.if_read (Steps.element r).rest (record { elements = []; rest = r })
-    (Steps.before (Steps.element r).element (Steps.content (n - 1) (spaces (Steps.element r).rest)))
+    (Steps.before (Steps.element r).element (Steps.content m (spaces (Steps.element r).rest)))
 unfolding Steps.content
-content-step zero r h = absurd (lt_irrefl 0 h)
-content-step (suc n) r h = rw sub-one
+content-step n m r e = rw e
 
-pub content-stop : (s : List ℕ) (n a : ℕ) (f : Found) → 0 < n → Reads s f (Steps.element (rest_at s a)) → length s < f.next
+pub content-stop : (s : List ℕ) (n m a : ℕ) → n ≡ suc m → (Steps.element (rest_at s a)).rest ≡ outside
     → Steps.content n (rest_at s a) ≡ record { elements = []; rest = rest_at s a }
-content-stop s n a f h g o = content-step n (rest_at s a) h ∙ not-read s f.next g.rest _ _ o
+content-stop s n m a h o = content-step n m (rest_at s a) h ∙ rw o
 
-pub content-on : (s : List ℕ) (n a : ℕ) (f : Found) (b : ℕ) → 0 < n → Reads s f (Steps.element (rest_at s a)) → f.next ≤ length s
+pub content-on : (s : List ℕ) (n m a : ℕ) (f : Found) (b : ℕ) → n ≡ suc m → Reads s f (Steps.element (rest_at s a)) × (f.next ≤ length s)
     → rest_at s b ≡ spaces (rest_at s f.next)
-    → Steps.content n (rest_at s a) ≡ Steps.before (meant s f.element) (Steps.content (n - 1) (rest_at s b))
-content-on s n a f b h g i e =
-    content-step n (rest_at s a) h ∙ is_read s f.next g.rest _ _ i
-    ∙ sym (λ j. Steps.before (g.element j) (Steps.content (n - 1) ((e ∙ ap spaces g.rest) j)))
+    → Steps.content n (rest_at s a) ≡ Steps.before (meant s f.element) (Steps.content m (rest_at s b))
+content-on s n m a f b h g e =
+    content-step n m (rest_at s a) h ∙ is_read s f.next g.0.rest _ _ g.1
+    ∙ sym (λ j. Steps.before (g.0.element j) (Steps.content m ((e ∙ ap spaces g.0.rest) j)))
 
 pub content-end : (n : ℕ) (r : Rest) → n ≤ 0 → Steps.content n r ≡ record { elements = []; rest = r }
 unfolding Steps.content

@@ -1,6 +1,6 @@
 -- What the code holds of a text: positions for what stands there. For callers, not for a reader of the contracts.
-use Rattle.std.specs.Prelude.{◌≡◌, ℕ, ◌≤◌, ◌<◌, List, length, drop}
-use Rattle.pnml_text.specs.Rest.{Rest, front, rest_at}
+use Rattle.std.specs.Prelude.{◌≡◌, ℕ, ◌≤◌, ◌<◌, List, Option, Some, None, length, drop}
+use Rattle.pnml_text.specs.Rest.{Rest, outside, front, rest_at}
 use Rattle.pnml_page.specs.Profile
 use Rattle.pnml_page.specs.Steps
 use Rattle.pnml_page.specs.Steps.{a_place, a_transition, an_arc}
@@ -38,6 +38,11 @@ pub record Reads (s : List ℕ) (f : Found) (r : Steps.Read) : Type 0 where
   pub here : meant s f.element ≡ from_id s f.element
   pub rest : rest_at s f.next ≡ r.rest
   pub within : f.next ≤ length s → name_at f.element < length s
+
+-- the element that stands there is found, if one does
+abbrev pub MayRead : List ℕ → Option Found → Steps.Read → Type 0
+MayRead s (Some f) r = Reads s f r × (f.next ≤ length s)
+MayRead s None r = r.rest ≡ outside
 
 -- the ends and the number of an arc
 pub record HasEnds (s : List ℕ) (e : Ends) (r : Rest) : Type 0 where

@@ -4,12 +4,12 @@
 ghost use Rattle.std.specs.Prelude.{◌≡◌};
 ghost use Rattle.pnml_text.specs.Rest.{rest_at};
 ghost use Rattle.pnml_page.specs.Steps.{Holds, after, content, element, held, inside, label, most, net, read_whole, page, place, tail, transition};
-ghost use Rattle.pnml_page.specs.Meant.{HasEnds, Reads};
+ghost use Rattle.pnml_page.specs.Meant.{HasEnds, MayRead, Reads};
 
 use pnml_text::{digits, id, number, spaces, word};
 
 // A number, and the position after what holds it.
-#[derive(Clone, Copy)]
+#[derive(Clone, Copy, Debug, PartialEq, Eq)]
 pub struct Numbered {
     pub number: usize,
     pub next: usize,
@@ -104,7 +104,7 @@ fn transition(text: &[u8], at: usize) -> usize
 }
 
 // The positions of an arc's ends, its weight, and the position after it.
-#[derive(Clone, Copy)]
+#[derive(Clone, Copy, Debug, PartialEq, Eq)]
 pub struct Ends {
     pub source: usize,
     pub target: usize,
@@ -131,7 +131,7 @@ pub fn arc(text: &[u8], at: usize) -> Ends
 }
 
 // An element of the page: the positions of its id and of its ends, and its number.
-#[derive(Clone, Copy)]
+#[derive(Clone, Copy, Debug, PartialEq, Eq)]
 pub enum Element {
     Place(usize, usize),
     Transition(usize),
@@ -139,14 +139,14 @@ pub enum Element {
 }
 
 // An element, and the position after it.
-#[derive(Clone, Copy)]
+#[derive(Clone, Copy, Debug, PartialEq, Eq)]
 pub struct Found {
     pub element: Element,
     pub next: usize,
 }
 
-// The element at a position.
-pub fn element_at(text: &[u8], at: usize) -> Found
+// The element that starts at a position. The position after it is past the text where it is of no kind or does not end.
+pub fn found_at(text: &[u8], at: usize) -> Found
     ensures { Reads text.now result (element (rest_at text.now at)) }
 {
     let n = text.len();
@@ -174,19 +174,30 @@ pub fn element_at(text: &[u8], at: usize) -> Found
     }
 }
 
+// The element at a position, where one stands there.
+pub fn element_at(text: &[u8], at: usize) -> Option<Found>
+    ensures { MayRead text.now result (element (rest_at text.now at)) }
+{
+    let found = found_at(text, at);
+    if text.len() < found.next {
+        return None;
+    }
+    Some(found)
+}
+
+// How many elements are read at most: a text of 65,536 bytes has fewer.
+pub const MOST: usize = 4370;
+
 // The position after the elements of the page.
 fn elements_end(text: &[u8], at: usize) -> usize
     ensures { rest_at text.now result ≡ (content most (rest_at text.now at)).rest }
 {
     let mut a = at;
-    let mut left: usize = 4370;
-    while 0 < left {
-        let found = element_at(text, a);
-        if text.len() < found.next {
+    for _ in 0..MOST {
+        let Some(found) = element_at(text, a) else {
             return a;
-        }
+        };
         a = spaces(text, found.next);
-        left -= 1;
     }
     a
 }

@@ -1,7 +1,7 @@
 #![tactic(auto)]
 
 // The plan of a text in PNML, from the text: refusals 19, 20 and 13 in their order. Each function has the tables of its step in a frame of its own.
-ghost use Rattle.std.specs.Prelude.{◌≡◌, true, ◌≤◌, length};
+ghost use Rattle.std.specs.Prelude.{◌≡◌, true, ◌+◌, ◌/◌, ◌≤◌, length};
 ghost use Rattle.plan_put.specs.Told.{Answers};
 ghost use Rattle.pnml_index.specs.Rows.{Indexed};
 ghost use Rattle.pnml_list.specs.Listing.{Listing};
@@ -9,12 +9,12 @@ ghost use Rattle.pnml_page.specs.Steps.{read_whole};
 ghost use Rattle.pnml_file.specs.Ready.{read_file};
 ghost use Rattle.pnml_plan.specs.Chain.{Blanks, after_ids, after_profile};
 
-use plan_put::File;
 use pnml_arcs::pack;
 use pnml_file::{unfit, write_listed};
 use pnml_index::{SUMS, index};
 use pnml_list::list;
 use pnml_sort::sort;
+use refusals::Refusal;
 
 // The length of a small text, and how many ids one can have; the same for any text that is not refused. An element takes 15 bytes or more.
 const SMALL_TEXT: usize = 960;
@@ -35,7 +35,7 @@ fn write_joined(
     places: usize,
     transitions: usize,
     buffer: &mut [u8],
-) -> File
+) -> Result<u32, Refusal>
     requires text_len_bound { length text.now ≤ 65536 }
     requires listing { Listing text.now names.now places transitions }
     requires indexed { Indexed text.now names.now head.now next.now }
@@ -43,12 +43,9 @@ fn write_joined(
 {
     let count = names.len() - 2 - places - transitions;
     let mut words = [0usize; ARCS];
-    let ends = pack(text, names, head, next, places, transitions, &mut words);
-    if ends.apart {
-        return File::Refused(19);
-    }
-    if unfit(text, names, places, transitions, ends.off) {
-        return File::Refused(20);
+    let off = pack(text, names, head, next, places, transitions, &mut words)?;
+    if unfit(text, names, places, transitions, off) {
+        return Err(Refusal::Number);
     }
     sort(&mut words, count);
     write_listed(text, names, places, transitions, &words[..count], buffer)
@@ -62,7 +59,7 @@ fn write_named(
     transitions: usize,
     next: &mut [u16],
     buffer: &mut [u8],
-) -> File
+) -> Result<u32, Refusal>
     requires text_len_bound { length text.now ≤ 65536 }
     requires listing { Listing text.now names.now places transitions }
     requires blanks { Blanks names.now next.old }
@@ -70,39 +67,21 @@ fn write_named(
 {
     let mut head = [0u16; SUMS];
     if index(text, names, &mut head, next) {
-        return File::Refused(19);
+        return Err(Refusal::Id);
     }
     write_joined(text, names, &head, next, places, transitions, buffer)
 }
 
-// With tables for a small text.
-fn write_small(text: &[u8], buffer: &mut [u8]) -> File
-    requires text_len_bound { length text.now ≤ 960 }
-    requires text_value { read_whole text.now ≡ true }
-    ensures { Answers (after_profile text.now (length buffer.old)) (read_file text.now) buffer.old buffer.new result }
-{
-    let mut names = [0u16; SMALL_IDS];
-    let mut next = [0u16; SMALL_IDS];
-    let counts = list(text, &mut names);
-    let n = 2 + counts.places + counts.transitions + counts.arcs;
-    write_named(
-        text,
-        &names[..n],
-        counts.places,
-        counts.transitions,
-        &mut next,
-        buffer,
-    )
-}
-
-// With tables for any text.
-fn write_large(text: &[u8], buffer: &mut [u8]) -> File
+// With tables of N ids.
+fn write_sized<const N: usize>(text: &[u8], buffer: &mut [u8]) -> Result<u32, Refusal>
     requires text_len_bound { length text.now ≤ 65536 }
     requires text_value { read_whole text.now ≡ true }
+    requires ids_in_bounds { 2 + length text.now / 15 ≤ N }
+    requires size { N ≤ 4372 }
     ensures { Answers (after_profile text.now (length buffer.old)) (read_file text.now) buffer.old buffer.new result }
 {
-    let mut names = [0u16; LARGE_IDS];
-    let mut next = [0u16; LARGE_IDS];
+    let mut names = [0u16; N];
+    let mut next = [0u16; N];
     let counts = list(text, &mut names);
     let n = 2 + counts.places + counts.transitions + counts.arcs;
     write_named(
@@ -116,13 +95,13 @@ fn write_large(text: &[u8], buffer: &mut [u8]) -> File
 }
 
 // Writes the plan of a text of the profile. Refused: 19, 20, and 13 where the buffer is shorter than the file.
-pub fn write_plan(text: &[u8], buffer: &mut [u8]) -> File
+pub fn write_plan(text: &[u8], buffer: &mut [u8]) -> Result<u32, Refusal>
     requires text_len_bound { length text.now ≤ 65536 }
     requires text_value { read_whole text.now ≡ true }
     ensures { Answers (after_profile text.now (length buffer.old)) (read_file text.now) buffer.old buffer.new result }
 {
     if text.len() <= SMALL_TEXT {
-        return write_small(text, buffer);
+        return write_sized::<SMALL_IDS>(text, buffer);
     }
-    write_large(text, buffer)
+    write_sized::<LARGE_IDS>(text, buffer)
 }

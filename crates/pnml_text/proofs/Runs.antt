@@ -1,19 +1,23 @@
 -- Laws of runs, words and numbers in a text. Assumes nothing.
 use Prim.Native.Nat.{ℕ, ◌+◌, ◌-◌, ◌*◌, ◌≤◌, ◌<◌}
 use mathlib.Core.Path.{◌≡◌, refl, sym, ap, ◌∙◌}
-use mathlib.Core.Bool.{true, false}
+use mathlib.Core.Bool.{Bool, true≢false, true, false, cond}
 use mathlib.Core.List.{List, [], ◌∷◌}
 use native.Mathlib.Omega.{arith}
 use native.Mathlib.Numerals.{add-one}
 use lib.Dec.{eqb, leb}
-use lib.ListN.{length, get_or, drop, drop_of_length-le, length-drop}
+use lib.ListN.{length, get_or, take, drop, drop_of_length-le, length-drop}
 use lib.Seq.{drop-cons, drop-drop}
-use borrow.Author.Tests.{eq-eqb, ne_eqb, le-leb, lt-leb, leb-true, leb-false}
+use borrow.Author.Tests.{eqb-true, eqb-false, eq-eqb, ne_eqb, le-leb, lt-leb, leb-true, leb-false}
+use Rattle.std.specs.List.{take_while, starts_with}
+use Rattle.std.proofs.lemmas.List.{take_rest}
+use Rattle.std.proofs.lemmas.List.Sums.{take_while-cons}
+use Rattle.std.specs.Cmp.Lexicographic.{pointwise}
 use Rattle.pnml_text.specs.Characters.{kind_of, goes_on}
-use Rattle.pnml_text.specs.Rest.{Rest, outside, more, if_more, strip, front, past, left, spaces, id, id_wrong, digits, decimal, number_of, rest_at, capped}
+use Rattle.pnml_text.specs.Rest.{Rest, outside, more, if_more, if_bytes, strip, word, front, past, left, spaces, id, id_wrong, digits, decimal, number_of, rest_at, capped}
 use Rattle.pnml_text.specs.declared.Run.{Run}
 use Rattle.pnml_text.specs.declared.Run.TheVariants.{Spaces, Digits, Id}
-use Rattle.net.proofs.Numbers.{by_cases}
+use Rattle.net.proofs.Numbers.{by_cases, and-true}
 
 -- runs, a character at a time
 module _ (c : Run) (s : List ℕ) (a : ℕ) where
@@ -63,26 +67,51 @@ run-rest c s a r e h =
 pub run_out : (c : Run) (s : List ℕ) (a r : ℕ) → r ≡ a + length (front c (drop a s)) → length s < a → r ≡ a
 run_out c s a r e h = e ∙ (rw (front-end c s a (omega arith)) (omega arith))
 
+-- a run as std takes it
+one_more : (t : Bool) (b : ℕ) {l m : List ℕ} → l ≡ m → if_bytes t (b ∷ l) [] ≡ cond t (b ∷ m) []
+one_more true b e = ap (λ (r : List ℕ). b ∷ r) e
+one_more false b e = refl
+
+pub front-run : (c : Run) (l : List ℕ) → front c l ≡ take_while (λ b. goes_on c (kind_of b)) l
+unfolding front
+front-run c [] = refl
+front-run c (b ∷ l) = one_more (goes_on c (kind_of b)) b (front-run c l) ∙ sym (take_while-cons (λ (x : ℕ). goes_on c (kind_of x)) b l)
+
 -- words
-module _ (s w : List ℕ) (a i : ℕ) where
-  strip-step : a < length s → i < length w
-      → strip (drop i w) (drop a s) ≡ if_more (eqb (get_or s a 0) (get_or w i 0)) (strip (drop (i + 1) w) (drop (a + 1) s)) outside
-  unfolding strip
-  strip-step h g = rw (add-one a, add-one i, drop-cons s a 0 h, drop-cons w i 0 g)
+pub strip-whole : (w s : List ℕ) → pointwise eqb w (take (length w) s) ≡ true → strip w s ≡ more (drop (length w) s)
+unfolding strip
+strip-whole [] s e = refl
+strip-whole (a ∷ w) [] e = absurd (true≢false (sym e))
+strip-whole (a ∷ w) (b ∷ s) e =
+    let t = and-true (eqb a b) (pointwise eqb w (take (length w) s)) e in
+    rw (eq-eqb b a (sym (eqb-true a b t.0))) (strip-whole w s t.1)
 
-  pub strip-on : a < length s → i < length w → get_or s a 0 ≡ get_or w i 0 → strip (drop i w) (drop a s) ≡ strip (drop (i + 1) w) (drop (a + 1) s)
-  strip-on h g e = strip-step h g ∙ rw (eq-eqb (get_or s a 0) (get_or w i 0) e)
+pub strip-other : (w s : List ℕ) → pointwise eqb w (take (length w) s) ≡ false → strip w s ≡ outside
+unfolding strip
+strip-other [] s e = absurd (true≢false e)
+strip-other (a ∷ w) [] e = refl
+strip-other (a ∷ w) (b ∷ s) e =
+    by_cases (eqb a b)
+    (λ t. rw (eq-eqb b a (sym (eqb-true a b t))) (strip-other w s (rw t at e)))
+    (λ f. rw (ne_eqb b a (λ g. eqb-false a b f (sym g))))
 
-  pub strip-other : a < length s → i < length w → (get_or s a 0 ≡ get_or w i 0 → ⊥) → strip (drop i w) (drop a s) ≡ outside
-  strip-other h g e = strip-step h g ∙ rw (ne_eqb (get_or s a 0) (get_or w i 0) e)
+starts-within : (w s : List ℕ) → pointwise eqb w (take (length w) s) ≡ true → length w ≤ length s
+starts-within [] s e = omega arith
+starts-within (a ∷ w) [] e = absurd (true≢false (sym e))
+starts-within (a ∷ w) (b ∷ s) e = let i = starts-within w s (and-true (eqb a b) (pointwise eqb w (take (length w) s)) e).1 in omega arith
 
-  pub strip-short : length s ≤ a → i < length w → strip (drop i w) (drop a s) ≡ outside
-  unfolding strip
-  strip-short h g = rw (drop_of_length-le s h, drop-cons w i 0 g)
+module _ (s w : List ℕ) (a : ℕ) (h : a ≤ length s) where
+  pub word_in : starts_with eqb (take (length s - a) (drop a s)) w ≡ true → rest_at s (a + length w) ≡ word w (rest_at s a)
+  word_in f =
+      let e : starts_with eqb (drop a s) w ≡ true = ap (λ (l : List ℕ). starts_with eqb l w) (sym (take_rest s a)) ∙ f in
+      rest_in s (a + length w) (omega (arith, starts-within w (drop a s) e, length-drop a s))
+      ∙ ap more (sym (drop-drop (length w) a s))
+      ∙ sym (ap (word w) (rest_in s a h) ∙ strip-whole w (drop a s) e)
 
-  pub strip-all : length w ≤ i → strip (drop i w) (drop a s) ≡ more (drop a s)
-  unfolding strip
-  strip-all g = rw (drop_of_length-le w g)
+  pub word-out : starts_with eqb (take (length s - a) (drop a s)) w ≡ false → rest_at s (length s + 1) ≡ word w (rest_at s a)
+  word-out f =
+      let e : starts_with eqb (drop a s) w ≡ false = ap (λ (l : List ℕ). starts_with eqb l w) (sym (take_rest s a)) ∙ f in
+      rest_out s (length s + 1) (omega arith) ∙ sym (ap (word w) (rest_in s a h) ∙ strip-other w (drop a s) e)
 
 -- numbers
 pub cap_low : (n : ℕ) → n ≤ 4294967296 → capped n ≡ n
@@ -119,20 +148,6 @@ decimal-on n b l = refl
 pub decimal-end : (n : ℕ) → decimal n [] ≡ n
 unfolding decimal
 decimal-end n = refl
-
--- the loop over a run
-pub record Running (c : Run) (s : List ℕ) (a n : ℕ) : Type 0 where
-  pub so : a + length (front c (drop a s)) ≡ n
-
-module _ {c : Run} {s : List ℕ} {a n : ℕ} (inv : Running c s a n) where
-  pub run-stop : a < length s → goes_on c (kind_of (get_or s a 0)) ≡ false → a ≡ n
-  run-stop h g = let e = ap length (front-stop c s a h g) in omega arith
-
-  pub run_end : length s ≤ a → a ≡ n
-  run_end h = let e = ap length (front-end c s a h) in omega arith
-
-  pub run_on : a < length s → goes_on c (kind_of (get_or s a 0)) ≡ true → Running c s (a + 1) n
-  run_on h g = let e = ap length (front-on c s a h g) in record { so = omega arith }
 
 -- the loop over digits
 pub record Numbering (s : List ℕ) (a n m : ℕ) : Type 0 where

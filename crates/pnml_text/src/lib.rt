@@ -1,12 +1,13 @@
 #![tactic(auto)]
 
 // The characters of a text in PNML, and what is read of it at once: words, white space, ids, digits.
-ghost use Rattle.std.specs.Prelude.{◌≡◌, ◌+◌, ◌-◌, ◌*◌, ◌≤◌, ◌<◌, length, drop};
+ghost use Rattle.std.specs.Prelude.{◌≡◌, ◌+◌, ◌-◌, ◌*◌, ◌≤◌, length, drop};
+ghost use Rattle.std.specs.List.{take_while};
 ghost use Rattle.pnml_text.specs.Characters.{kind_of, goes_on};
 ghost use Rattle.pnml_text.specs.Rest.{capped, digits, front, id, number_of, rest_at, spaces, word};
 
 // The kinds of characters.
-#[derive(Clone, Copy)]
+#[derive(Clone, Copy, Debug, PartialEq, Eq)]
 pub enum Kind {
     Letter,
     Digit,
@@ -16,7 +17,7 @@ pub enum Kind {
 }
 
 // The runs of characters that are read.
-#[derive(Clone, Copy)]
+#[derive(Clone, Copy, Debug, PartialEq, Eq)]
 pub enum Run {
     Spaces,
     Digits,
@@ -41,43 +42,38 @@ pub fn goes_on(of: Run, k: Kind) -> bool
     ensures { result ≡ goes_on of k }
 {
     match of {
-        Run::Spaces => match k {
-            Kind::Letter => false,
-            Kind::Digit => false,
-            Kind::Mark => false,
-            Kind::Space => true,
-            Kind::Other => false,
-        },
-        Run::Digits => match k {
-            Kind::Letter => false,
-            Kind::Digit => true,
-            Kind::Mark => false,
-            Kind::Space => false,
-            Kind::Other => false,
-        },
-        Run::Id => match k {
-            Kind::Letter => true,
-            Kind::Digit => true,
-            Kind::Mark => true,
-            Kind::Space => false,
-            Kind::Other => false,
-        },
+        Run::Spaces => matches!(k, Kind::Space),
+        Run::Digits => matches!(k, Kind::Digit),
+        Run::Id => matches!(k, Kind::Letter | Kind::Digit | Kind::Mark),
     }
 }
 
-// The end of the longest run from a position on.
+// Does a run go on with this character?
+fn takes(of: Run, b: u8) -> bool
+    ensures { result ≡ goes_on of (kind_of b) }
+{
+    goes_on(of, classify(b))
+}
+
+// How long the run at the start is.
+fn run_len(text: &[u8], of: Run) -> usize
+    ensures { result ≡ length (take_while (λ b. goes_on of (kind_of b)) text.now) }
+{
+    text.iter().take_while(|b| takes(of, **b)).count()
+}
+
+// The end of the longest run from a position on. The part is cut off first: the library's skip passes over each byte before it.
 pub fn run_end(text: &[u8], at: usize, of: Run) -> usize
     ensures { result ≡ at + length (front of (drop at text.now)) }
 {
-    let mut a = at;
-    while a < text.len() {
-        if !goes_on(of, classify(text[a])) {
-            return a;
-        }
-        a += 1;
+    if text.len() < at {
+        return at;
     }
-    a
+    at + run_len(&text[at..], of)
 }
+
+// A position past the text stands for `outside the profile`, as rest_at has it. No Option: a label's number and an arc's ends are told outside the profile too
+// (Holds and HasEnds of pnml_page), so each step would take an Option and hand it on.
 
 // After a word that has to stand at a position; past the text where it does not.
 pub fn word(text: &[u8], at: usize, w: &[u8]) -> usize
@@ -87,19 +83,11 @@ pub fn word(text: &[u8], at: usize, w: &[u8]) -> usize
     if n < at {
         return at;
     }
-    let mut a = at;
-    let mut i = 0;
-    while i < w.len() {
-        if n <= a {
-            return n + 1;
-        }
-        if text[a] != w[i] {
-            return n + 1;
-        }
-        a += 1;
-        i += 1;
+    if text[at..].starts_with(w) {
+        at + w.len()
+    } else {
+        n + 1
     }
-    a
 }
 
 // After white space.
@@ -132,34 +120,24 @@ pub fn digits(text: &[u8], at: usize) -> usize
     end
 }
 
-// What a digit is worth.
-fn worth(digit: u8) -> usize
-    ensures { (result ≡ digit - 48) × (result < 256) }
-{
-    if digit < 48 { 0 } else { digit as usize - 48 }
-}
-
 // A number with one more digit; past every limit it stays where it is.
 fn push(n: usize, digit: u8) -> usize
     requires { n ≤ 4294967296 }
     ensures { (result ≡ capped (10 * n + (digit - 48))) × (result ≤ 4294967296) }
 {
-    let m = 10 * n + worth(digit);
-    if m <= 4294967296 { m } else { 4294967296 }
+    (10 * n + usize::from(digit.saturating_sub(b'0'))).min(4294967296)
 }
 
 // The number that the digits from a position on write.
 pub fn number(text: &[u8], at: usize) -> usize
     ensures { result ≡ number_of (rest_at text.now at) }
 {
-    let mut a = at;
     let mut n = 0;
-    while a < text.len() {
-        if !goes_on(Run::Digits, classify(text[a])) {
+    for a in at..text.len() {
+        if !takes(Run::Digits, text[a]) {
             return n;
         }
         n = push(n, text[a]);
-        a += 1;
     }
     n
 }

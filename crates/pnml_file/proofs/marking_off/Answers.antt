@@ -3,24 +3,14 @@ use mathlib.Core.Path.{refl}
 use Rattle.pnml_file.proofs.Laws as laws
 use Rattle.pnml_file.proofs.marking_off.Goals as goal
 
-pub loop-k-init : goal.loop-k-init
-loop-k-init c = record { below = omega arith; so = refl }
-
-pub returns-then-e-gt4294967295 : goal.returns-then-e-gt4294967295
-returns-then-e-gt4294967295 c =
-    let at_place = c in
-    let at_wide = at_place in
-    let test = at_wide in
-    let turn = test in
-    laws.look_off turn.loop-k.invariant test.loop-k-test.true at_wide.wide.ensures.0 at_place.place-e.ensures.number c.if-e-gt4294967295.true
-
-pub loop-k-preserved : goal.loop-k-preserved
-loop-k-preserved c =
-    let at_place = c in
-    let at_wide = at_place in
-    let test = at_wide in
-    let turn = test in
-    laws.look_on turn.loop-k.invariant test.loop-k-test.true at_wide.wide.ensures.0 at_place.place-e.ensures.number c.if-e-gt4294967295.false
+pub loop-at-init : goal.loop-at-init
+loop-at-init c = record { below = omega arith; so = refl }
 
 pub returns : goal.returns
-returns c = laws.look_end c.loop-k.invariant c.loop-k-test.false
+returns c = laws.look_end c.loop-at.invariant c.loop-at-test.false
+
+pub returns-then-marking-gt4294967295 : goal.returns-then-marking-gt4294967295
+returns-then-marking-gt4294967295 c = laws.look_off c.loop-at.invariant c.loop-at-test.true refl c.marking.ensures c.if-marking-gt4294967295.true
+
+pub loop-at-preserved : goal.loop-at-preserved
+loop-at-preserved c = laws.look_on c.loop-at.invariant c.loop-at-test.true refl c.marking.ensures c.if-marking-gt4294967295.false

@@ -23,6 +23,4 @@ slice_bounds-marking_off-end c = let g = c.requires in omega (arith, listing_lon
 
 pub returns : goal.returns
 returns c =
-    let at-counts-off = c in
-    let call = at-counts-off in
-    let g = call.requires in let a : length call.args.names.now - (2 + call.args.places) - call.args.transitions ≡ length (entries Arcs call.args.text.now) = omega (arith, listing_long g) in laws.unfit-is call.args.text.now call.args.off g.place_count g.transition_count a at-counts-off.counts_off-counts.ensures (c.marking_off-markings.ensures ∙ ap (any_off 0 4294967295) (laws.places_part g))
+    let g = c.requires in let a : length c.args.names.now - (2 + c.args.places) - c.args.transitions ≡ length (entries Arcs c.args.text.now) = omega (arith, listing_long g) in laws.unfit-is c.args.text.now c.args.off g.place_count g.transition_count a c.counts_off-counts.ensures (c.marking_off-markings.ensures ∙ ap (any_off 0 4294967295) (laws.places_part g))

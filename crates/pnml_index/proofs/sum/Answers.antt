@@ -1,20 +1,16 @@
-use native.Mathlib.Omega.{arith}
-use mathlib.Core.Path.{refl}
+use Rattle.std.proofs.Common.{arith, sym, ◌∙◌}
 use Rattle.pnml_names.proofs.Ids.{within}
 use Rattle.pnml_index.proofs.Searching as searching
 use Rattle.pnml_index.proofs.sum.Goals as goal
 
-pub loop-a-init : goal.loop-a-init
-loop-a-init c = record { small = omega arith; so = refl }
-
-pub returns-then-x-eq0 : goal.returns-then-x-eq0
-returns-then-x-eq0 c = (searching.sum-end c.loop-a.invariant c.character-x.ensures c.if-x-eq0.true, c.loop-a.invariant.small)
-
 pub overflow_add-i : goal.overflow_add-i
-overflow_add-i c = omega (arith, within c.args.text.now c.loop-a.i c.character-x.ensures c.if-x-eq0.false)
+overflow_add-i c = omega (arith, within c.args.text.now c.loop-x.i (sym c.in-Some.is ∙ c.character.ensures))
 
-pub loop-a-smaller : goal.loop-a-smaller
-loop-a-smaller c = omega (arith, within c.args.text.now c.loop-a.i c.character-x.ensures c.if-x-eq0.false)
+pub loop-x-smaller : goal.loop-x-smaller
+loop-x-smaller c = omega (arith, within c.args.text.now c.loop-x.i (sym c.in-Some.is ∙ c.character.ensures))
 
-pub loop-a-preserved : goal.loop-a-preserved
-loop-a-preserved c = searching.sum-on c.loop-a.invariant c.character-x.ensures c.if-x-eq0.false c.widened.ensures.0
+pub loop-x-preserved : goal.loop-x-preserved
+loop-x-preserved c = rw c.from.ensures (searching.sum-on c.loop-x.invariant (sym c.in-Some.is ∙ c.character.ensures))
+
+pub returns : goal.returns
+returns c = (searching.sum-end c.loop-x.invariant (sym c.in_default.is ∙ c.character.ensures), c.loop-x.invariant.small)

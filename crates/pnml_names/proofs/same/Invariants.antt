@@ -5,8 +5,8 @@ use Rattle.pnml_names.specs.Names.{same_id}
 use Rattle.pnml_names.proofs.Ids as ids
 use Rattle.pnml_names.proofs.same.Given as goal
 
-abbrev pub invariant-loop-a : goal.invariant-loop-a
-invariant-loop-a l = ids.Comparing l.text l.i l.j (same_id (id_at l.text l.a) (id_at l.text l.b))
+abbrev pub invariant-loop-x : goal.invariant-loop-x
+invariant-loop-x l = ids.Comparing l.text l.i l.j (same_id (id_at l.text l.a) (id_at l.text l.b))
 
-abbrev pub decreases-loop-a : goal.decreases-loop-a
-decreases-loop-a l = length l.text - l.i
+abbrev pub decreases-loop-x : goal.decreases-loop-x
+decreases-loop-x l = length l.text - l.i

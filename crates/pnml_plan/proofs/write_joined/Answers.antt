@@ -1,3 +1,5 @@
+use Rattle.refusals.proofs.Numbers.{passed_on}
+use Rattle.refusals.specs.declared.Refusal.TheVariants.{Number}
 use Rattle.pnml_names.specs.declared.Which.TheVariants.{Arcs}
 use Rattle.pnml_net.specs.Read.{entries}
 use native.Mathlib.Omega.{arith}
@@ -19,62 +21,37 @@ overflow_sub-count-2 c = omega (arith, listing_long c.requires.listing)
 pub overflow_sub-count-3 : goal.overflow_sub-count-3
 overflow_sub-count-3 c = omega (arith, listing_long c.requires.listing)
 
-pub pack-ends-requires : goal.pack-ends-requires
-pack-ends-requires c =
-    let call = c in
-    record { listing = call.requires.listing; indexed = call.requires.indexed; names_len_bound = omega (arith, listing_long call.requires.listing, few_arcs call.args.text.now call.requires.text_len_bound, length-replicate {A = ℕ} 2048 0) }
+pub pack-requires : goal.pack-requires
+pack-requires c = record { listing = c.requires.listing; indexed = c.requires.indexed; names_len_bound = omega (arith, listing_long c.requires.listing, few_arcs c.args.text.now c.requires.text_len_bound, length-replicate {A = ℕ} 2048 0) }
 
-pub returns-then-ends : goal.returns-then-ends
-returns-then-ends c =
-    let at-pack = c in
-    let call = at-pack in
-    laws.told call.args.text.now call.args.buffer.now 18 _ (sym at-pack.pack-ends.ensures.apart ∙ c.if-ends.true)
+pub returns-in_err-off : goal.returns-in_err-off
+returns-in_err-off c =
+    let w = c.in_err-off.ensures in
+    rw (passed_on _ c.from_residual.ensures.1) (laws.turned c.args.text.now c.args.buffer.now _ _ _ w.apart)
 
 pub returns-then-unfit : goal.returns-then-unfit
 returns-then-unfit c =
-    let at-unfit = c in
-    let at-if1 = at-unfit in
-    let at-pack = at-if1 in
-    let call = at-pack in
-    laws.passed call.args.text.now 19 _ (sym at-pack.pack-ends.ensures.apart ∙ at-if1.if-ends.false) (laws.told call.args.text.now call.args.buffer.now 19 _ (sym (at-unfit.unfit.ensures ∙ laws.unfit-by at-pack.pack-ends.ensures at-if1.if-ends.false) ∙ c.if-unfit.true))
+    let w = c.in_ok-off.ensures in
+    laws.passed c.args.text.now 19 _ (laws.joins _ w.apart) (laws.told c.args.text.now c.args.buffer.now Number _ (sym (c.unfit.ensures ∙ laws.unfit-by w) ∙ c.if-unfit.true))
 
 pub sort-requires : goal.sort-requires
-sort-requires c =
-    let at-pack = c in
-    let call = at-pack in
-    omega (arith, listing_long call.requires.listing, few_arcs call.args.text.now call.requires.text_len_bound, length-replicate {A = ℕ} 2048 0, at-pack.pack-ends.ensures.room)
+sort-requires c = let w = c.in_ok-off.ensures in omega (arith, listing_long c.requires.listing, few_arcs c.args.text.now c.requires.text_len_bound, length-replicate {A = ℕ} 2048 0, w.room)
 
 pub slice_bounds-words-end : goal.slice_bounds-words-end
-slice_bounds-words-end c =
-    let at-sort = c in
-    let at-pack = at-sort in
-    let call = at-pack in
-    omega (arith, listing_long call.requires.listing, few_arcs call.args.text.now call.requires.text_len_bound, length-replicate {A = ℕ} 2048 0, at-pack.pack-ends.ensures.room, at-sort.sort.ensures.room)
+slice_bounds-words-end c = let w = c.in_ok-off.ensures in omega (arith, listing_long c.requires.listing, few_arcs c.args.text.now c.requires.text_len_bound, length-replicate {A = ℕ} 2048 0, w.room, c.sort.ensures.room)
 
 pub slice_bounds-write_listed-end : goal.slice_bounds-write_listed-end
 slice_bounds-write_listed-end c =
-    let at-sort = c in
-    let at-pack = at-sort in
-    let call = at-pack in
-    sym (length-take-le (length call.args.names.now - 2 - call.args.places - call.args.transitions) _ (omega (arith, listing_long call.requires.listing, few_arcs call.args.text.now call.requires.text_len_bound, length-replicate {A = ℕ} 2048 0, at-pack.pack-ends.ensures.room, at-sort.sort.ensures.room)))
+    let w = c.in_ok-off.ensures in
+    sym (length-take-le (length c.args.names.now - 2 - c.args.places - c.args.transitions) _ (omega (arith, listing_long c.requires.listing, few_arcs c.args.text.now c.requires.text_len_bound, length-replicate {A = ℕ} 2048 0, w.room, c.sort.ensures.room)))
 
 pub write_listed-requires : goal.write_listed-requires
 write_listed-requires c =
-    let at-sort = c in
-    let at-if2 = at-sort in
-    let at-unfit = at-if2 in
-    let at-if1 = at-unfit in
-    let at-pack = at-if1 in
-    let call = at-pack in
-    let n : length call.args.names.now - 2 - call.args.places - call.args.transitions ≡ length (entries Arcs call.args.text.now) = omega (arith, listing_long call.requires.listing) in
-    record { listing = call.requires.listing; sorted = laws.sorted-are _ at-pack.pack-ends.ensures at-if1.if-ends.false (sym (laws.unfit-by at-pack.pack-ends.ensures at-if1.if-ends.false) ∙ sym at-unfit.unfit.ensures ∙ at-if2.if-unfit.false) n at-sort.sort.ensures.words }
+    let w = c.in_ok-off.ensures in
+    let n : length c.args.names.now - 2 - c.args.places - c.args.transitions ≡ length (entries Arcs c.args.text.now) = omega (arith, listing_long c.requires.listing) in
+    record { listing = c.requires.listing; sorted = laws.sorted-are _ w (sym (laws.unfit-by w) ∙ sym c.unfit.ensures ∙ c.if-unfit.false) n c.sort.ensures.words }
 
 pub returns : goal.returns
 returns c =
-    let at-write-listed = c in
-    let at-if2 = at-write-listed in
-    let at-unfit = at-if2 in
-    let at-if1 = at-unfit in
-    let at-pack = at-if1 in
-    let call = at-pack in
-    laws.passed call.args.text.now 19 _ (sym at-pack.pack-ends.ensures.apart ∙ at-if1.if-ends.false) (laws.passed call.args.text.now 20 _ (sym (at-unfit.unfit.ensures ∙ laws.unfit-by at-pack.pack-ends.ensures at-if1.if-ends.false) ∙ at-if2.if-unfit.false) at-write-listed.write_listed.ensures)
+    let w = c.in_ok-off.ensures in
+    laws.passed c.args.text.now 19 _ (laws.joins _ w.apart) (laws.passed c.args.text.now 20 _ (sym (c.unfit.ensures ∙ laws.unfit-by w) ∙ c.if-unfit.false) c.write_listed.ensures)

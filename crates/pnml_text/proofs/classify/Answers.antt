@@ -24,9 +24,7 @@ returns-in_default c = kind_from Other 0 9 256 256 tt c.args.b (omega arith) (om
 pub returns-in_default-2 : goal.returns-in_default-2
 unfolding kind_of
 returns-in_default-2 c =
-    let at-match = c in
-    let call = at-match in
-    kind_from Other 11 34 13 32 tt call.args.b (omega arith) (omega arith) (λ e. at-match.in_default.in_default-own.rest.1 (inl e)) (λ e. at-match.in_default.in_default-own.rest.1 (inr e))
+    kind_from Other 11 34 13 32 tt c.args.b (omega arith) (omega arith) (λ e. c.in_default.in_default-own.rest.1 (inl e)) (λ e. c.in_default.in_default-own.rest.1 (inr e))
 
 pub returns-in_default-3 : goal.returns-in_default-3
 unfolding kind_of
@@ -39,9 +37,7 @@ returns-in_default-4 c = kind_from Other 58 7 256 256 tt c.args.b (omega arith) 
 pub returns-in_default-5 : goal.returns-in_default-5
 unfolding kind_of
 returns-in_default-5 c =
-    let at-match = c in
-    let call = at-match in
-    kind_from Other 91 6 95 95 tt call.args.b (omega arith) (omega arith) at-match.in_default.in_default-own.rest.0.1 at-match.in_default.in_default-own.rest.0.1
+    kind_from Other 91 6 95 95 tt c.args.b (omega arith) (omega arith) c.in_default.in_default-own.rest.0.1 c.in_default.in_default-own.rest.0.1
 
 pub returns-in_default-6 : goal.returns-in_default-6
 unfolding kind_of
