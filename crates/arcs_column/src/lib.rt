@@ -10,12 +10,10 @@ pub fn take(file: &[u8], start: usize, from: usize, to: usize, column: &mut [u32
     requires by_index { (p : ℕ) → sum_to file.now start p to ≤ get_or column.old p 0 + sum_to file.now start p from }
     ensures { Takes file.now start from to column.old column.new }
 {
-    let mut j = from;
-    while j < to {
+    for j in from..to {
         let a = file_arcs::arc(file, start + 8 * j);
         let p = a.place;
-        column[p] = column[p] - (a.weight as u32);
-        j += 1;
+        column[p] -= a.weight as u32;
     }
 }
 
@@ -25,12 +23,10 @@ pub fn give(file: &[u8], start: usize, from: usize, to: usize, column: &mut [u32
     requires by_index { (p : ℕ) → get_or column.old p 0 + sum_to file.now start p to < 4294967296 + sum_to file.now start p from }
     ensures { Gives file.now start from to column.old column.new }
 {
-    let mut j = from;
-    while j < to {
+    for j in from..to {
         let a = file_arcs::arc(file, start + 8 * j);
         let p = a.place;
-        column[p] = column[p] + (a.weight as u32);
-        j += 1;
+        column[p] += a.weight as u32;
     }
 }
 
@@ -59,14 +55,12 @@ pub fn pulled(
     ensures rested { Rested file.now start from to column.old column.new }
 {
     let mut found = false;
-    let mut j = from;
-    while j < to {
+    for j in from..to {
         let a = file_arcs::arc(file, start + 8 * j);
         let p = a.place;
         let here = pulling(limit[p], column[p]);
         column[p] = AT_REST;
-        found = found | here;
-        j += 1;
+        found |= here;
     }
     found
 }

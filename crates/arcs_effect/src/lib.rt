@@ -36,14 +36,13 @@ fn weight(file: &[u8], start: usize, from: usize, to: usize, place: usize) -> us
     ensures { (sum_to file.now start place from + result ≡ sum_to file.now start place to) × (result ≤ 268431360) }
 {
     let mut sum: usize = 0;
-    let mut j = place_from(file, start, from, to, place);
-    while j < to {
+    let first = place_from(file, start, from, to, place);
+    for j in first..to {
         let a = file_arcs::arc(file, start + 8 * j);
         if a.place != place {
             return sum;
         }
         sum += a.weight;
-        j += 1;
     }
     sum
 }
@@ -71,7 +70,7 @@ pub fn effect(file: &[u8], h: Header, place: usize, transition: usize) -> i32
 }
 
 // A part of a file.
-#[derive(Clone, Copy)]
+#[derive(Clone, Copy, Debug, PartialEq, Eq)]
 pub struct Part {
     pub start: usize,
     pub length: usize,

@@ -20,16 +20,11 @@ pub fn alone(file: &[u8], start: usize, j: usize, to: usize) -> bool
     ensures { result ≡ true → GroupEnd file.now start j to (j + 1) }
 {
     let at = start + 8 * j;
-    if j + 1 < to {
-        if get16(file, at + 12) == get16(file, at + 4) {
-            return false;
-        }
-    }
-    true
+    j + 1 == to || get16(file, at + 12) != get16(file, at + 4)
 }
 
 // A group of parallel arcs: one past its last arc, and the sum of the weights.
-#[derive(Clone, Copy)]
+#[derive(Clone, Copy, Debug, PartialEq, Eq)]
 pub struct Grouped {
     pub end: usize,
     pub weight: usize,
@@ -42,8 +37,7 @@ fn several(file: &[u8], start: usize, j: usize, to: usize) -> Grouped
 {
     let w = word(file, start + 8 * j);
     let mut sum = w / WEIGHT;
-    let mut e = j + 1;
-    while e < to {
+    for e in j + 1..to {
         let v = word(file, start + 8 * e);
         if !parallel(v, w) {
             return Grouped {
@@ -52,10 +46,9 @@ fn several(file: &[u8], start: usize, j: usize, to: usize) -> Grouped
             };
         }
         sum += v / WEIGHT;
-        e += 1;
     }
     Grouped {
-        end: e,
+        end: to,
         weight: sum,
     }
 }

@@ -1,11 +1,10 @@
 -- The table of starts by transitions, filled in as the arcs come.
 use Prim.Native.Nat.{ℕ, ◌+◌, ◌*◌, ◌≤◌, ◌<◌}
-use mathlib.Core.Path.{◌≡◌, refl, sym, ap, ◌∙◌, subst}
+use mathlib.Core.Path.{◌≡◌, sym, subst}
 use mathlib.Core.List.{List}
 use native.Mathlib.Omega.{arith}
 use native.Mathlib.Decide.{dec_lt, ℕ_discrete}
-use lib.ListN.{length, get_or, set, length-set}
-use lib.Seq.{get_or-set_same, get_or-set_other}
+use lib.ListN.{length, get_or}
 use Rattle.file_arcs.specs.Layout.{arc_at}
 use Rattle.arcs_starts.specs.Table.{slot_at, Split, Tabled, PutUp}
 
@@ -17,33 +16,10 @@ pub record Putting (next last v : ℕ) (was is : List ℕ) (k : ℕ) : Type 0 wh
   pub from : next ≤ k
   pub to : (m : ℕ) → next ≤ m → last < m → k ≤ m
 
-pub putting_none : (next last v : ℕ) (was : List ℕ) → Putting next last v was was next
-putting_none next last v was = record { long = refl; kept = λ i l. refl; set = λ i a b. absurd (omega arith); from = omega arith; to = λ m a b. a }
-
-module _ {next last v : ℕ} {was is : List ℕ} {k : ℕ} (x : Putting next last v was is k) where
-  pub putting_more : k ≤ last → last < length was → Putting next last v was (set is k v) (k + 1)
-  putting_more l room = record {
-    long = length-set is k v ∙ x.long;
-    kept = λ i a. get_or-set_other is k i v 0 (λ q. omega (arith, q, a, x.from)) ∙ x.kept i a;
-    set = λ i a b. at i a b (ℕ_discrete i k);
-    from = omega (arith, x.from);
-    to = λ m a b. omega (arith, l, b);
-  }
-    where
-      at : (i : ℕ) → next ≤ i → i < k + 1 → Dec (i ≡ k) → get_or (set is k v) i 0 ≡ v
-      at i a b (yes q) = ap (λ (n : ℕ). get_or (set is k v) n 0) q ∙ get_or-set_same is k v 0 (omega (arith, l, room, x.long))
-      at i a b (no q) = get_or-set_other is k i v 0 q ∙ x.set i a (omega (arith, b, q))
-
-  pub putting_end : last < k → PutUp next last v was is k
-  putting_end l = record { long = x.long; kept = x.kept; set = λ i a b. x.set i a (omega (arith, b, l)); from = x.from; past = l; to = x.to }
-
 -- the entries before `next` are made, and the first j arcs are of transitions before it
 pub record Firsts (s : List ℕ) (start n j next : ℕ) (table : List ℕ) : Type 0 where
   pub made : (k : ℕ) → k < next → Split s start n (2 * k) (get_or table k 0)
   pub passed : (i : ℕ) → i < j → (arc_at s (start + 8 * i)).transition < next
-
-pub firsts_none : {s : List ℕ} {start n : ℕ} {table : List ℕ} → Firsts s start n 0 0 table
-firsts_none = record { made = λ k l. absurd (omega arith); passed = λ i l. absurd (omega arith) }
 
 module _ {s : List ℕ} {start n T size : ℕ} (t : Tabled s start n T size) (ways : (i : ℕ) → i < n → (arc_at s (start + 8 * i)).direction ≤ 1)
     {j next : ℕ} {was : List ℕ} (x : Firsts s start n j next was) where

@@ -1,14 +1,11 @@
 -- Laws of the table of starts.
-use Prim.Native.Nat.{ℕ, zero, suc, ◌+◌, ◌≤◌, ◌<◌}
+use Prim.Native.Nat.{ℕ, zero, suc, ◌+◌, ◌≤◌, ◌<◌, max}
 use mathlib.Core.Path.{◌≡◌, refl, sym, ap, ◌∙◌, subst}
-use mathlib.Core.Bool.{Bool, true, false}
 use mathlib.Core.List.{List}
 use native.Mathlib.Omega.{arith}
-use native.Mathlib.Decide.{ℕ_discrete}
-use lib.Dec.{ltb}
+use native.Mathlib.Decide.{dec_lt, ℕ_discrete}
 use lib.ListN.{length, get_or, set, length-set}
 use lib.Seq.{get_or-set_same, get_or-set_other}
-use borrow.Author.Tests.{ltb-true, ltb-false}
 use Rattle.arcs_starts.specs.Table
 
 -- ---- the last arc of each slot
@@ -18,13 +15,6 @@ pub record Ended (s : List ℕ) (start j size : ℕ) (table : List ℕ) : Type 0
   pub long : length table ≡ size
   pub first : get_or table 0 0 ≡ 0
   pub latest : (k : ℕ) → Table.Latest s start j k (get_or table (k + 1) 0)
-
-pub ended-none : (s : List ℕ) (start size : ℕ) (table : List ℕ) → length table ≡ size → ((k : ℕ) → get_or table k 0 ≡ 0) → Ended s start 0 size table
-ended-none s start size table l z = record {
-  long = l;
-  first = z 0;
-  latest = λ k. subst (Table.Latest s start 0 k) (sym (z (k + 1))) (record { within = omega arith; row = λ j q. absurd (omega arith); rest = λ j a b q. omega arith });
-}
 
 latest_new : (s : List ℕ) (start i k : ℕ) → Table.slot_at s start i ≡ k → Table.Latest s start (i + 1) k (i + 1)
 latest_new s start i k e = record {
@@ -77,12 +67,12 @@ filled_none E z = record {
   left = λ i l. refl;
 }
 
-most-next : (E : List ℕ) (k : ℕ) → Table.running_most E (k + 1) ≡ Table.larger (Table.running_most E k) (get_or E (k + 1) 0)
+most-next : (E : List ℕ) (k : ℕ) → Table.running_most E (k + 1) ≡ max (Table.running_most E k) (get_or E (k + 1) 0)
 unfolding Table.running_most
 most-next E k = let q : k + 1 ≡ suc k = omega arith in rw q
 
 module _ {E : List ℕ} {most k : ℕ} {table : List ℕ} (x : Filled E most k table) (inside : k + 1 < length E) where
-  pub filled_more : (next : ℕ) → next ≡ Table.larger most (get_or table (k + 1) 0) → Filled E next (k + 1) (set table (k + 1) next)
+  pub filled_more : (next : ℕ) → next ≡ max most (get_or table (k + 1) 0) → Filled E next (k + 1) (set table (k + 1) next)
   filled_more next e = record {
     long = length-set table (k + 1) next ∙ x.long;
     most_is = now;
@@ -91,7 +81,7 @@ module _ {E : List ℕ} {most k : ℕ} {table : List ℕ} (x : Filled E most k t
   }
     where
       now : next ≡ Table.running_most E (k + 1)
-      now = e ∙ ap (λ (m : ℕ). Table.larger m (get_or table (k + 1) 0)) x.most_is ∙ ap (Table.larger (Table.running_most E k)) (x.left (k + 1) (omega arith)) ∙ sym (most-next E k)
+      now = e ∙ ap (λ (m : ℕ). max m (get_or table (k + 1) 0)) x.most_is ∙ ap (max (Table.running_most E k)) (x.left (k + 1) (omega arith)) ∙ sym (most-next E k)
 
       at : (i : ℕ) → i ≤ k + 1 → Dec (i ≡ k + 1) → get_or (set table (k + 1) next) i 0 ≡ Table.running_most E i
       at i l (yes q) = ap (λ (n : ℕ). get_or (set table (k + 1) next) n 0) q ∙ get_or-set_same table (k + 1) next 0 (omega (arith, x.long)) ∙ now ∙ ap (Table.running_most E) (sym q)
@@ -103,28 +93,30 @@ apart : (k x : ℕ) → k ≤ x → (x ≡ k → ⊥) → suc k ≤ x
 apart k x l q = omega (arith, q)
 
 module _ {s : List ℕ} {start n : ℕ} (order : (i j : ℕ) → i ≤ j → j < n → Table.slot_at s start i ≤ Table.slot_at s start j) where
-  next : (k m h : ℕ) → Table.Split s start n k m → Table.Latest s start n k h → (b : Bool) → ltb m h ≡ b → Table.Split s start n (suc k) (Table.choose b h m)
-  next k m zero p l true e = absurd (let x : m < 0 = ltb-true m 0 e in omega arith)
-  next k m (suc h) p l true e =
+  next : (k m h : ℕ) → Table.Split s start n k m → Table.Latest s start n k h → Dec (m < h) → Table.Split s start n (suc k) (max m h)
+  next k m zero p l (yes more) = absurd (omega arith)
+  next k m (suc h) p l (yes more) =
       let at : Table.slot_at s start h ≡ k = l.row h refl in
-      record {
+      let is : suc h ≡ max m (suc h) = omega arith in
+      subst (Table.Split s start n (suc k)) is (record {
         within = l.within;
         below = λ i f. omega (arith, at, order i h (omega arith) (omega (arith, l.within)));
         above = λ i f g. apart k (Table.slot_at s start i) (omega (arith, at, order h i (omega arith) g)) (l.rest i f g);
-      }
-  next k m h p l false e =
-      record {
+      })
+  next k m h p l (no more) =
+      let is : m ≡ max m h = omega arith in
+      subst (Table.Split s start n (suc k)) is (record {
         within = p.within;
         below = λ i f. omega (arith, p.below i f);
-        above = λ i f g. apart k (Table.slot_at s start i) (p.above i f g) (l.rest i (let z : h ≤ m = ltb-false m h e in omega arith) g);
-      }
+        above = λ i f g. apart k (Table.slot_at s start i) (p.above i f g) (l.rest i (omega arith) g);
+      })
 
   pub splits : (E : List ℕ) → ((k : ℕ) → Table.Latest s start n k (get_or E (k + 1) 0)) → (k : ℕ) → Table.Split s start n k (Table.running_most E k)
   unfolding Table.running_most
   splits E latest zero = record { within = omega arith; below = λ i f. absurd (omega arith); above = λ i f g. omega arith }
   splits E latest (suc k) =
       let e : k + 1 ≡ suc k = omega arith in
-      next k _ _ (splits E latest k) (subst (λ (x : ℕ). Table.Latest s start n k (get_or E x 0)) e (latest k)) (ltb (Table.running_most E k) (get_or E (suc k) 0)) refl
+      next k _ _ (splits E latest k) (subst (λ (x : ℕ). Table.Latest s start n k (get_or E x 0)) e (latest k)) (dec_lt (Table.running_most E k) (get_or E (suc k) 0))
 
 -- what is below k is below a larger number
 pub past_by : {s : List ℕ} {start n k k' r : ℕ} → Table.Split s start n k r → k ≤ k' → Table.Past s start r k'

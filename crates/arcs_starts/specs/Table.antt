@@ -1,5 +1,5 @@
 -- The table of starts.
-use Rattle.std.specs.Prelude.{ℕ, zero, suc, ◌+◌, ◌*◌, ◌≤◌, ◌<◌, ◌≡◌, Bool, true, false, List, [], ◌∷◌, ltb, length, get_or}
+use Rattle.std.specs.Prelude.{ℕ, zero, suc, ◌+◌, ◌*◌, ◌≤◌, ◌<◌, ◌≡◌, Bool, true, false, List, [], ◌∷◌, ltb, max, length, get_or}
 use Rattle.file_arcs.specs.Layout.{arc_at}
 use Rattle.net.specs.declared.Arc.{Arc}
 
@@ -15,13 +15,10 @@ abbrev pub choose : Bool → ℕ → ℕ → ℕ
 choose true a b = a
 choose false a b = b
 
-abbrev pub larger : ℕ → ℕ → ℕ
-larger a b = choose (ltb a b) b a
-
 -- the largest of the entries 1 to k
 unfoldable pub running_most : List ℕ → ℕ → ℕ
 running_most l zero = 0
-running_most l (suc k) = larger (running_most l k) (get_or l (suc k) 0)
+running_most l (suc k) = max (running_most l k) (get_or l (suc k) 0)
 
 -- how many arcs of a list have a slot below k
 unfoldable pub number_below : ℕ → List Arc → ℕ

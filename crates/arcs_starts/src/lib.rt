@@ -4,7 +4,7 @@
 ghost use Rattle.std.specs.Prelude.{◌≡◌, ℕ, ◌+◌, ◌*◌, ◌<◌, ◌≤◌, length, get_or};
 ghost use Rattle.file_arcs.specs.Layout.{arc_at};
 ghost use Rattle.file_arcs.specs.Facts.{ArcSmall};
-ghost use Rattle.arcs_starts.specs.Table.{slot_of, larger, running_most, Latest, Split, Past, Slots, Ordered, Tabled, PutUp};
+ghost use Rattle.arcs_starts.specs.Table.{slot_of, running_most, Latest, Split, Past, Slots, Ordered, Tabled, PutUp};
 
 use net::Arc;
 
@@ -22,19 +22,11 @@ fn ends(file: &[u8], start: usize, count: usize, table: &mut [u16])
     requires by_index { (k : ℕ) → get_or table.old k 0 ≡ 0 }
     ensures { (length table.new ≡ length table.old) × (get_or table.new 0 0 ≡ 0) × ((k : ℕ) → Latest file.now start count k (get_or table.new (k + 1) 0)) }
 {
-    let mut j: usize = 0;
-    while j < count {
+    for j in 0..count {
         let a = file_arcs::arc(file, start + 8 * j);
         let k = slot(a);
         table[k + 1] = (j + 1) as u16;
-        j += 1;
     }
-}
-
-fn larger_of(a: u16, b: u16) -> u16
-    ensures { result ≡ larger a b }
-{
-    if a < b { b } else { a }
 }
 
 // Entry k becomes the largest of the entries up to k.
@@ -44,11 +36,9 @@ fn fill(last: usize, table: &mut [u16])
     ensures { (length table.new ≡ length table.old) × ((k : ℕ) → k ≤ last → get_or table.new k 0 ≡ running_most table.old k) }
 {
     let mut most: u16 = 0;
-    let mut k: usize = 0;
-    while k < last {
-        most = larger_of(most, table[k + 1]);
+    for k in 0..last {
+        most = most.max(table[k + 1]);
         table[k + 1] = most;
-        k += 1;
     }
 }
 
@@ -67,12 +57,10 @@ fn put_up(next: usize, last: usize, value: u16, table: &mut [u16]) -> usize
     requires { last < length table.old }
     ensures { PutUp next last value table.old table.new result }
 {
-    let mut k = next;
-    while k <= last {
+    for k in next..last + 1 {
         table[k] = value;
-        k += 1;
     }
-    k
+    next.max(last + 1)
 }
 
 // Entry t, up to the number of transitions, becomes the number of arcs of transitions below t: each is known at the first arc that is not of one.
@@ -82,20 +70,11 @@ pub fn firsts(file: &[u8], start: usize, count: usize, transitions: usize, table
     ensures { (length table.new ≡ length table.old) × ((t : ℕ) → t ≤ transitions → Split file.now start count (2 * t) (get_or table.new t 0)) }
 {
     let mut next: usize = 0;
-    let mut j: usize = 0;
-    while j < count {
+    for j in 0..count {
         let a = file_arcs::arc(file, start + 8 * j);
         next = put_up(next, a.transition, j as u16, table);
-        j += 1;
     }
     put_up(next, transitions, count as u16, table);
-}
-
-// The lesser of two numbers.
-fn lesser_of(a: usize, b: usize) -> usize
-    ensures { (result ≤ a) × (result ≤ b) }
-{
-    if a < b { a } else { b }
 }
 
 // How many arcs have a slot below k, by halving: they stand first, and all before `from` are known to be.
@@ -130,14 +109,12 @@ pub fn next_from(file: &[u8], start: usize, from: usize, count: usize, k: usize)
     requires { Ordered file.now start count × (from ≤ count) × Past file.now start from k }
     ensures { Split file.now start count k result }
 {
-    let near = lesser_of(from + 4, count);
-    let mut low = from;
-    while low < near {
+    let near = count.min(from + 4);
+    for low in from..near {
         let a = file_arcs::arc(file, start + 8 * low);
         if k <= slot(a) {
             return low;
         }
-        low += 1;
     }
-    halved_from(file, start, low, count, k)
+    halved_from(file, start, near, count, k)
 }

@@ -65,6 +65,7 @@ fn link_groups(
 }
 
 // The same where several arcs take, and where several give back: apart, so that what the rare call needs in memory is made ready there alone.
+// Two functions with one body: a single one the compiler puts into the loop, with its sums.
 fn several_taken(
     file: &[u8],
     start: usize,
@@ -168,7 +169,7 @@ fn link(
     j + 1
 }
 
-// Links the arcs of every transition.
+// Links the arcs of every transition. The loop is over no range: `link` answers the arc that is next, which may be behind a group.
 pub fn index(file: &[u8], h: Header, head: &mut [u32], next: &mut [u32])
     requires sound { Sound file.now h }
     requires places_in_bounds { (2 * h.places ≤ length head.old) × (h.arcs ≤ length next.old) }

@@ -16,7 +16,7 @@ use Rattle.file.specs.Facts.{Sound}
 use Rattle.file_header.specs.declared.Header.{Header}
 use Rattle.sets.specs.Member.{bit, member, Inserted}
 use Rattle.sets.specs.Lowest.{IsLowest}
-use Rattle.sets.specs.declared.Found.TheVariants.{At, Nothing}
+use Rattle.std.specs.Prelude.{Some, None}
 use Rattle.sets.proofs.Bits.{bit-zero}
 use Rattle.sets.proofs.Members.{none}
 use Rattle.sets_pending.specs.Growing.{MarksBelow, waits, Marked}
@@ -79,10 +79,10 @@ module _ (s : List ℕ) (h : Header) (sound : Sound s h) (all : Bool) (both : Li
     search_end z G at = search_as G (member P) (waits P (member gone)) (member R) (λ k. false) 0 G.transitions (λ k. is_false _ (λ u. unmarked _ z _ (x.marked.marked k u))) at
 
     -- no place is pending
-    pub stepped_none : IsLowest 1024 (waits P (member gone)) Nothing → Search.Stepped s h all both 0 P R gone P R gone
+    pub stepped_none : IsLowest 1024 (waits P (member gone)) None → Search.Stepped s h all both 0 P R gone P R gone
     stepped_none nothing = record {
       ready = record { sets = x.sets; long = x.long; inside = x.inside; part = x.part; marked = record { words = λ i b. absurd (unmarked 0 refl i b); marked = λ k u. absurd (fails _ (still k (dec_lt k 1024)) u) } };
-      lowest = (Nothing, nothing, refl);
+      lowest = (None, nothing, refl);
       search = λ G g at. at;
       less = inr (refl, refl);
     }
@@ -91,15 +91,12 @@ module _ (s : List ℕ) (h : Header) (sound : Sound s h) (all : Bool) (both : Li
         still k (yes l) = nothing k l
         still k (no l) = is_false _ (λ u. let i = x.inside k (and_left (member P k) (not (member gone k)) u) in let b = sound.placed.places in omega arith)
 
-    module _ (p : ℕ) (lowest : IsLowest 1024 (waits P (member gone)) (At p)) where
+    module _ (p : ℕ) (lowest : IsLowest 1024 (waits P (member gone)) (Some p)) where
       p_waits : T (waits P (member gone) p)
       p_waits = holds _ lowest.1
 
       p_kept : T (member P p)
       p_kept = and_left (member P p) (not (member gone p)) p_waits
-
-      pub found_below : p < h.places
-      found_below = x.inside p p_kept
 
       module _ (gone' : List ℕ) (put : Inserted p gone gone') where
         has_it : T (member gone' p)
@@ -135,7 +132,7 @@ module _ (s : List ℕ) (h : Header) (sound : Sound s h) (all : Bool) (both : Li
               marked = λ k u. marked.marked k (and_both (member P k) (not (member gone k)) (and_left (member P k) (not (member gone' k)) u) (fewer k (and_right (member P k) (not (member gone' k)) u)));
             });
           };
-          lowest = (At p, lowest, put);
+          lowest = (Some p, lowest, put);
           search = λ G g at.
               search_between G (member P') (waits P' (member gone')) (member R') p 0
               (y.search G g (member gone') part' p_kept

@@ -1,5 +1,5 @@
 -- The steps of a cut: for the contracts of its parts, not for a reader of `kept`.
-use Rattle.std.specs.Prelude.{ℕ, ◌≤◌, ◌<◌, Bool, false, not, ◌&&◌, ◌||◌, List, ◌⊎◌, ◌≡◌, T, eqb, length, get_or}
+use Rattle.std.specs.Prelude.{ℕ, ◌≤◌, ◌<◌, Bool, false, not, ◌&&◌, ◌||◌, List, Option, Some, None, ◌⊎◌, ◌≡◌, T, eqb, length, get_or}
 use Rattle.net.specs.Net.{Net, takes_from, adds_to, capped}
 use Rattle.net.specs.declared.Arc.{Arc}
 use Rattle.net.specs.Cut.{Growth}
@@ -8,8 +8,6 @@ use Rattle.file.specs.Layout.{net_from}
 use Rattle.file_header.specs.declared.Header.{Header}
 use Rattle.sets.specs.Member.{member, count_below, Inserted}
 use Rattle.sets.specs.Lowest.{IsLowest}
-use Rattle.sets.specs.declared.Found.{Found}
-use Rattle.sets.specs.declared.Found.TheVariants as found
 use Rattle.sets_pending.specs.Growing.{waits, Marked, PlacesKept}
 use Rattle.arcs_column.specs.Ways.{transition_at, direction_at, place_at}
 use Rattle.arcs_groups.specs.Groups.{Opens}
@@ -96,15 +94,15 @@ pub record Ready (h : Header) (marks : ℕ) (places transitions gone : List ℕ)
   pub marked : Marked places (member gone) marks
 
 -- one place more is gone through, or none
-abbrev pub GoneThrough : Found → List ℕ → List ℕ → Type 0
-GoneThrough (found.At p) gone gone' = Inserted p gone gone'
-GoneThrough found.Nothing gone gone' = gone' ≡ gone
+abbrev pub GoneThrough : Option ℕ → List ℕ → List ℕ → Type 0
+GoneThrough (Some p) gone gone' = Inserted p gone gone'
+GoneThrough None gone gone' = gone' ≡ gone
 
 -- the lowest pending place is gone through, and the search goes on; where there is none, nothing is marked
 pub record Stepped (s : List ℕ) (h : Header) (all : Bool) (both : List ℕ) (marks' : ℕ) (places transitions gone places' transitions' gone' : List ℕ) : Type 0 where
   pub ready : Ready h marks' places' transitions' gone'
   -- "While places are pending, the pending place with the lowest number is taken next"
-  pub lowest : (r : Found) × IsLowest 1024 (waits places (member gone)) r × GoneThrough r gone gone'
+  pub lowest : (r : Option ℕ) × IsLowest 1024 (waits places (member gone)) r × GoneThrough r gone gone'
   pub search : (G : Growth) → Grows G s h all both → At G places (member gone) transitions 0 G.transitions → At G places' (member gone') transitions' 0 G.transitions
   pub less : (to_go gone' < to_go gone) ⊎ ((marks' ≡ 0) × (gone' ≡ gone))
 

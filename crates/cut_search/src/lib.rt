@@ -13,7 +13,6 @@ ghost use Rattle.cut_search.specs.Search.{Sets, needs_of, needs_place, draws_bot
 
 use file_header::{CAPS, Header};
 use net::Arc;
-use sets::Found;
 
 // Keeps the input places of the transition t, whose arcs start with arc `from`.
 fn keep_inputs(
@@ -28,16 +27,13 @@ fn keep_inputs(
     ensures { PlacesKept (takes_from (net_from file.now h) t) marks (result) places.old places.new }
 {
     let start = h.arcstart;
-    let arcs = h.arcs;
     let mut m = marks;
-    let mut j = from;
-    while j < arcs {
+    for j in from..h.arcs {
         let a = file_arcs::arc(file, start + 8 * j);
         if a.transition + a.direction * 65536 != t {
             return m;
         }
         m = sets_pending::keep(places, m, a.place);
-        j += 1;
     }
     m
 }
@@ -69,16 +65,13 @@ fn keep_needed(
     ensures { PlacesKept (needs_of (net_from file.now h) t) marks (result) places.old places.new }
 {
     let start = h.arcstart;
-    let arcs = h.arcs;
     let mut m = marks;
-    let mut j = from;
-    while j < arcs {
+    for j in from..h.arcs {
         let a = file_arcs::arc(file, start + 8 * j);
         if a.transition != t {
             return m;
         }
         m = keep_place(file, h, a, m, places);
-        j += 1;
     }
     m
 }
@@ -236,8 +229,7 @@ pub fn step(
     ensures { Stepped file.now h all both.now (result) places.old transitions.old gone.old places.new transitions.new gone.new }
 {
     let mut m = marks;
-    let lowest = sets_pending::lowest(places, gone, &mut m);
-    let Found::At(p) = lowest else {
+    let Some(p) = sets_pending::lowest(places, gone, &mut m) else {
         return 0;
     };
     sets::insert(gone, p);

@@ -1,4 +1,3 @@
 pub mod Raising
 pub mod Stepping
 pub mod Ends
-pub mod Passing

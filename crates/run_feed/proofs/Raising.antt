@@ -7,7 +7,7 @@ use native.Mathlib.Omega.{arith}
 use native.Mathlib.Decide.{dec_lt}
 use lib.Dec.{T, eqb, ltb, eqb→eq, eqb_refl}
 use lib.ListN.{length, get_or, take, set, length-set}
-use lib.Seq.{take_all, get_or-set_same, get_or-set_other}
+use lib.Seq.{get_or-set_same, get_or-set_other}
 use borrow.Author.Tests.{eq-eqb, eqb-true, eqb-false, lt-ltb}
 use Rattle.net.specs.Numbers.{among}
 use Rattle.net.specs.Net.{raises, takes_from}
@@ -57,73 +57,55 @@ pub record Along (s : List ℕ) (h : Header) (p e : ℕ) (last first first' : Li
   pub starts : Starts s h last first → Starts s h last first'
   pub long : length first' ≡ length first
 
-pub along_none : (s : List ℕ) (h : Header) (p e : ℕ) (last first : List ℕ) → Last s h h.arcs 1 p e → Along s h p e last first first
-along_none s h p e last first lead = record {
-  upto = h.arcs;
-  within = omega arith;
-  lead = lead;
-  seen = λ k a b. absurd (omega arith);
-  more = λ t m. m;
-  only = λ t m. or_left (drawn last first t) (moves (net_from s h) 1 p t) m;
-  starts = λ st. st;
-  long = refl;
-}
-
 module _ (s : List ℕ) (h : Header) (head next : List ℕ) (rows : Rows s h head next) (p e : ℕ) (last first F : List ℕ) (x : Along s h p e last first F) where
   module _ (more : e ≡ 0 → ⊥) where
-    pub row_arc : e % 65536 ≡ suc (e % 65536 - 1)
-    row_arc = Row.row_arc s h 1 p e x.upto x.within x.lead more
-
     pub row_below : e % 65536 - 1 < h.arcs
     row_below = Row.row_below s h 1 p e x.upto x.within x.lead more
 
-    pub row_begun : 0 < e / 65536
+    row_begun : 0 < e / 65536
     row_begun = Row.row_begun s h 1 p e x.upto x.within x.lead more
 
     pub row_first : Split s h.arcstart h.arcs (2 * transition_at s h.arcstart (e % 65536 - 1)) (e / 65536 - 1)
     row_first = Row.row_first s h 1 p e x.upto x.within x.lead more
 
-    pub row_less : get_or next (e % 65536 - 1) 0 % 65536 < e % 65536
-    row_less = Row.row_less s h 1 p e x.upto x.within x.lead more next rows.nexts
-
     -- the transition of the arc gets its entry
     module _ (t : ℕ) (same : t ≡ transition_at s h.arcstart (e % 65536 - 1)) (l : t < length F) where
-      abbrev F' : List ℕ
-      F' = set F t (due_of last t (e / 65536))
+      abbrev F₁ : List ℕ
+      F₁ = set F t (due_of last t (e / 65536))
 
-      drawn-is : (u : ℕ) → drawn last F' u ≡ drawn last F u || eqb u t
+      drawn-is : (u : ℕ) → drawn last F₁ u ≡ drawn last F u || eqb u t
       drawn-is u = drawn-set last F t (e / 65536) l row_begun u
 
-      stays : (u : ℕ) → T (drawn last F u) → T (drawn last F' u)
+      stays : (u : ℕ) → T (drawn last F u) → T (drawn last F₁ u)
       stays u m = subst T (sym (drawn-is u)) (or_left (drawn last F u) (eqb u t) m)
 
-      joins-in : (u : ℕ) → u ≡ t → T (drawn last F' u)
+      joins-in : (u : ℕ) → u ≡ t → T (drawn last F₁ u)
       joins-in u a = subst T (sym (drawn-is u)) (or_right (drawn last F u) (eqb u t) (holds _ (eq-eqb u t a)))
 
       see : (k : ℕ) → e % 65536 - 1 ≤ k → k < h.arcs → place_at s h.arcstart k ≡ p → direction_at s h.arcstart k ≡ 1 → T (moves (net_from s h) 1 p (transition_at s h.arcstart k)) → Dec (k < x.upto)
-          → T (drawn last F' (transition_at s h.arcstart k))
+          → T (drawn last F₁ (transition_at s h.arcstart k))
       see k a b u v w (yes q) = joins-in (transition_at s h.arcstart k) (Row.row_rest s h 1 p e x.upto x.within x.lead more k a q u v w ∙ sym same)
       see k a b u v w (no q) = stays (transition_at s h.arcstart k) (x.seen k (omega arith) b u v w)
 
       abbrev Begins : List ℕ → ℕ → Type 0
       Begins table u = Split s h.arcstart h.arcs (2 * u) (get_or table u 0 - 1) × (get_or last u 0 ≡ 0)
 
-      here : (u : ℕ) → u ≡ t → T (waits F' u) → Begins F' u
+      here : (u : ℕ) → u ≡ t → T (waits F₁ u) → Begins F₁ u
       here u a m =
-          let v : get_or F' u 0 ≡ due_of last t (e / 65536) = ap (λ (w : ℕ). get_or F' w 0) a ∙ get_or-set_same F t (due_of last t (e / 65536)) 0 l in
+          let v : get_or F₁ u 0 ≡ due_of last t (e / 65536) = ap (λ (w : ℕ). get_or F₁ w 0) a ∙ get_or-set_same F t (due_of last t (e / 65536)) 0 l in
           let d = due_waits last t (e / 65536) (subst T (ap (ltb 0) v) m) in (
-            subst (λ (w : ℕ). Split s h.arcstart h.arcs (2 * w) (get_or F' u 0 - 1)) (sym (a ∙ same))
+            subst (λ (w : ℕ). Split s h.arcstart h.arcs (2 * w) (get_or F₁ u 0 - 1)) (sym (a ∙ same))
                 (subst (λ (w : ℕ). Split s h.arcstart h.arcs (2 * transition_at s h.arcstart (e % 65536 - 1)) (w - 1)) (sym (v ∙ d.0)) row_first),
             ap (λ (w : ℕ). get_or last w 0) a ∙ d.1,
           )
 
-      other : (u : ℕ) → (u ≡ t → ⊥) → (T (waits F u) → Begins F u) → T (waits F' u) → Begins F' u
+      other : (u : ℕ) → (u ≡ t → ⊥) → (T (waits F u) → Begins F u) → T (waits F₁ u) → Begins F₁ u
       other u a st m =
-          let v : get_or F' u 0 ≡ get_or F u 0 = get_or-set_other F t u (due_of last t (e / 65536)) 0 a in
+          let v : get_or F₁ u 0 ≡ get_or F u 0 = get_or-set_other F t u (due_of last t (e / 65536)) 0 a in
           let w = st (subst T (ap (ltb 0) v) m) in
           (subst (λ (n : ℕ). Split s h.arcstart h.arcs (2 * u) (n - 1)) (sym v) w.0, w.1)
 
-      pub along_more : Along s h p (get_or next (e % 65536 - 1) 0) last first F'
+      pub along_more : Along s h p (get_or next (e % 65536 - 1) 0) last first F₁
       along_more = record {
         upto = e % 65536 - 1;
         within = omega (arith, row_below);
@@ -233,6 +215,3 @@ module _ (s : List ℕ) (h : Header) (last : List ℕ) where
       criterion_more q P'' F'' l e y =
           let f : suc i ≡ i + 1 = omega arith in
           entered_join _ _ _ P F P' F' P'' F'' x y (λ k. ap (λ (v : ℕ). among k (take i Q) || eqb k v) e ∙ among_next Q i k l ∙ ap (λ (n : ℕ). among k (take n Q)) f)
-
-      pub criterion_end : length Q ≤ i → Entered s h (λ k. among k Q) last P F P' F'
-      criterion_end l = subst (λ (R : List ℕ). Entered s h (λ k. among k R) last P F P' F') (take_all i Q l) x

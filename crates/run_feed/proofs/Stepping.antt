@@ -248,38 +248,31 @@ module _ (s : List ℕ) (h : Header) (sound : Sound s h) (Q : List ℕ) (known :
         (λ b. subst T (sym (e.kept p)) (or_right (member P p) (takes_from N t p) (subst (λ (v : ℕ). T (takes_from N v p)) (eqb→eq u t b) a))))
         e.places_long i.long (let a = x.first_long in let b = e.first_long in let c = length-set F t 0 in omega arith) (let a = x.last_long in let b = length-set L t (suc k) in omega arith)
 
--- ---- the same at a call: the firing before k
+-- ---- the same at a call
 
 module _ (s : List ℕ) (h : Header) (sound : Sound s h) (Q : List ℕ) (known : Known h Q) (ts : List ℕ) (end : ℕ) (P F C L : List ℕ) where
-  module _ (k : ℕ) (some : 0 < k) (x : Back s h Q ts k end P F C L) where
-    before : k ≡ suc (k - 1)
-    before = omega arith
+  -- firing k, whose transition waits
+  module _ (k : ℕ) (x : Back s h Q ts (k + 1) end P F C L) (t : ℕ) (same : t ≡ get_or ts k 0) (w : 0 < get_or F t 0) (tl : t < h.transitions) where
+    after : suc k ≡ k + 1
+    after = omega arith
 
-    here : Back s h Q ts (suc (k - 1)) end P F C L
-    here = subst (λ (i : ℕ). Back s h Q ts i end P F C L) before x
+    here : Back s h Q ts (suc k) end P F C L
+    here = subst (λ (i : ℕ). Back s h Q ts i end P F C L) (sym after) x
 
-    -- its transition waits
-    module _ (t : ℕ) (same : t ≡ get_or ts (k - 1) 0) (w : 0 < get_or F t 0) (tl : t < h.transitions) where
-      pub taken_start : Split s h.arcstart h.arcs (2 * t) (get_or F t 0 - 1)
-      taken_start = starts-at s h sound Q known ts (k - 1) end P F C L here t same w tl
-
-      pub taken_up : (n : ℕ) → n ≡ choose (eqb end 0) k end → (P' F' C' : List ℕ) → Inserted t C C' → Entered s h (takes_from (net_from s h) t) (set L t k) P (set F t 0) P' F'
-          → Back s h Q ts (k - 1) n P' F' C' (set L t k)
-      taken_up n told P' F' C' i e =
-          let entered = subst (λ (j : ℕ). Entered s h (takes_from (net_from s h) t) (set L t j) P (set F t 0) P' F') before e in
-          let chosen = chosen-first s h sound Q known ts (k - 1) end P F C L here t same w tl P' F' C' i entered in
-          subst (λ (m : ℕ). Back s h Q ts (k - 1) m P' F' C' (set L t k)) (sym told) (subst (λ (j : ℕ). Back s h Q ts (k - 1) (choose (eqb end 0) j end) P' F' C' (set L t j)) (sym before) chosen)
+    pub taken_up : (n : ℕ) → n ≡ choose (eqb end 0) (k + 1) end → (P' F' C' : List ℕ) → Inserted t C C' → Entered s h (takes_from (net_from s h) t) (set L t (k + 1)) P (set F t 0) P' F'
+        → Back s h Q ts k n P' F' C' (set L t (k + 1))
+    taken_up n told P' F' C' i e =
+        let entered = subst (λ (j : ℕ). Entered s h (takes_from (net_from s h) t) (set L t j) P (set F t 0) P' F') (sym after) e in
+        let chosen = chosen-first s h sound Q known ts k end P F C L here t same w tl P' F' C' i entered in
+        subst (λ (m : ℕ). Back s h Q ts k m P' F' C' (set L t (k + 1))) (sym told) (subst (λ (j : ℕ). Back s h Q ts k (choose (eqb end 0) j end) P' F' C' (set L t j)) after chosen)
 
   -- none of those from r to k waits
   passed_over : (n k r : ℕ) → k ≡ r + n → ((i : ℕ) → r ≤ i → i < k → get_or F (get_or ts i 0) 0 ≡ 0) → Back s h Q ts k end P F C L → Back s h Q ts r end P F C L
   passed_over zero k r e none x = let same : k ≡ r = omega arith in subst (λ (i : ℕ). Back s h Q ts i end P F C L) same x
   passed_over (suc n) k r e none x =
-      let some : 0 < k = omega arith in
-      let below = passed_by s h sound Q known ts (k - 1) end P F C L (here k some x) (get_or ts (k - 1) 0) refl (none (k - 1) (omega arith) (omega arith)) in
+      let before : k ≡ suc (k - 1) = omega arith in
+      let below = passed_by s h sound Q known ts (k - 1) end P F C L (subst (λ (i : ℕ). Back s h Q ts i end P F C L) before x) (get_or ts (k - 1) 0) refl (none (k - 1) (omega arith) (omega arith)) in
       passed_over n (k - 1) r (omega arith) (λ i a b. none i a (omega arith)) below
 
   pub met_next : (k r : ℕ) → Met ts F k r → Back s h Q ts k end P F C L → Back s h Q ts r end P F C L
   met_next k r m x = passed_over (k - r) k r (let w = m.within in omega arith) m.passed x
-
-  pub back_end : (k : ℕ) → k ≤ 0 → Back s h Q ts k end P F C L → Back s h Q ts 0 end P F C L
-  back_end k l x = let e : k ≡ 0 = omega arith in subst (λ (i : ℕ). Back s h Q ts i end P F C L) e x

@@ -1,5 +1,5 @@
 -- How far going back over a run has come: for the contracts of its steps, not for a reader of the call.
-use Rattle.std.specs.Prelude.{ℕ, ◌*◌, ◌-◌, ◌≤◌, ◌<◌, Bool, ◌||◌, List, ◌≡◌, T, ltb, length, get_or, drop}
+use Rattle.std.specs.Prelude.{ℕ, Option, None, Some, ◌+◌, ◌*◌, ◌-◌, ◌≤◌, ◌<◌, Bool, ◌||◌, List, ◌≡◌, T, ltb, length, get_or, drop}
 use Rattle.net.specs.Numbers.{among}
 use Rattle.net.specs.Net.{raises, takes_from}
 use Rattle.net.proofs.Feeding.{feed, upto}
@@ -46,6 +46,11 @@ pub record Entered (s : List ℕ) (h : Header) (new : ℕ → Bool) (last places
 -- none of the firings r..k waits
 abbrev pub PassedBy : List ℕ → List ℕ → ℕ → ℕ → Type 0
 PassedBy ts first r k = (i : ℕ) → r ≤ i → i < k → get_or first (get_or ts i 0) 0 ≡ 0
+
+-- one past the firing that was met; 0 where none was
+abbrev pub past : Option ℕ → ℕ
+past None = 0
+past (Some k) = k + 1
 
 -- going back from firing k, the first one met whose transition waits is the one before r; there is none where r is 0
 pub record Met (ts first : List ℕ) (k r : ℕ) : Type 0 where

@@ -9,11 +9,11 @@ ghost use Rattle.file.specs.Facts.{Sound};
 ghost use Rattle.file.specs.Layout.{net_from};
 ghost use Rattle.arcs_starts.specs.Table.{choose, Split};
 ghost use Rattle.cut_rows.specs.Rows.{Rows};
-ghost use Rattle.run_feed.specs.Back.{Known, RaisersAdded, Entered, PassedBy, Met, Back};
+ghost use Rattle.run_feed.specs.Back.{Known, RaisersAdded, Entered, PassedBy, past, Met, Back};
 
 use file_arcs::arc;
 use file_header::Header;
-use tables::{entry, wide};
+use tables::entry;
 
 // The entry of a transition that is drawn in, whose arcs start before `from`: where a firing of it was chosen it waits no more.
 fn due(later: usize, from: usize) -> usize
@@ -84,15 +84,12 @@ fn enter_inputs(
     ensures { Entered file.now h (takes_from (net_from file.now h) t) last.now places.old first.old places.new first.new }
 {
     let start = h.arcstart;
-    let arcs = h.arcs;
-    let mut j = from;
-    while j < arcs {
+    for j in from..h.arcs {
         let a = arc(file, start + 8 * j);
         if a.transition + a.direction * 65536 != t {
             return;
         }
         enter(file, h, head, next, last, a.place, places, first);
-        j += 1;
     }
 }
 
@@ -111,10 +108,8 @@ pub fn enter_criterion(
     requires known { Known h criterion.now }
     ensures { Entered file.now h (λ k. among k criterion.now) last.now places.old first.old places.new first.new }
 {
-    let mut i: usize = 0;
-    while i < criterion.len() {
-        enter(file, h, head, next, last, wide(criterion[i]), places, first);
-        i += 1;
+    for q in criterion {
+        enter(file, h, head, next, last, usize::from(*q), places, first);
     }
 }
 
@@ -123,7 +118,7 @@ fn waiting(list: &[u16], first: &[u16], i: usize) -> usize
     requires { (i < length list.now) × ((j : ℕ) → j < length list.now → get_or list.now j 0 < length first.now) }
     ensures { (result ≡ get_or first.now (get_or list.now i 0) 0) × (result < 65536) }
 {
-    entry(first, wide(list[i]))
+    entry(first, usize::from(list[i]))
 }
 
 // Does none of the four firings from i on wait?
@@ -144,6 +139,7 @@ fn pass(list: &[u16], first: &[u16], k: usize) -> usize
     ensures { (result ≤ k) × PassedBy list.now first.now result k }
 {
     let mut i = k;
+    // Not over a range: four firings a turn while 16 are left; the number of turns would have to be worked out first.
     while 16 <= i {
         if !four_pass(list, first, i - 4) {
             return i;
@@ -153,19 +149,17 @@ fn pass(list: &[u16], first: &[u16], k: usize) -> usize
     i
 }
 
-// Going back from firing k, one more than the first one met whose transition waits; 0 where there is none.
-fn met(list: &[u16], first: &[u16], k: usize) -> usize
+// Going back from firing k, the first one met whose transition waits.
+fn met(list: &[u16], first: &[u16], k: usize) -> Option<usize>
     requires { (k ≤ length list.now) × ((i : ℕ) → i < length list.now → get_or list.now i 0 < length first.now) }
-    ensures { Met list.now first.now k result }
+    ensures { Met list.now first.now k (past result) }
 {
-    let mut i = pass(list, first, k);
-    while 0 < i {
-        if waiting(list, first, i - 1) != 0 {
-            return i;
+    for i in (0..pass(list, first, k)).rev() {
+        if waiting(list, first, i) != 0 {
+            return Some(i);
         }
-        i -= 1;
     }
-    0
+    None
 }
 
 // The first chosen firing that is met is the last one.
@@ -175,7 +169,7 @@ fn once(end: usize, k: usize) -> usize
     if end == 0 { k } else { end }
 }
 
-// Chooses the firing before k, whose transition waits.
+// Chooses firing k, whose transition waits.
 fn take_up(
     file: &[u8],
     h: Header,
@@ -191,17 +185,17 @@ fn take_up(
     last: &mut [u16],
 ) -> usize
     requires sound { Sound file.now h × Rows file.now h head.now next.now × Known h criterion.now }
-    requires k_nonzero { (0 < k) × (length list.now ≤ 65535) × (get_or list.now (k - 1) 0 < h.transitions) × (0 < get_or first.old (get_or list.now (k - 1) 0) 0) }
-    requires back { Back file.now h criterion.now list.now k end places.old first.old chosen.old last.old }
-    ensures { Back file.now h criterion.now list.now (k - 1) (result) places.new first.new chosen.new last.new }
+    requires waiting { (length list.now ≤ 65535) × (get_or list.now k 0 < h.transitions) × (0 < get_or first.old (get_or list.now k 0) 0) }
+    requires back { Back file.now h criterion.now list.now (k + 1) end places.old first.old chosen.old last.old }
+    ensures { Back file.now h criterion.now list.now k (result) places.new first.new chosen.new last.new }
 {
-    let t = wide(list[k - 1]);
+    let t = usize::from(list[k]);
     let from = entry(first, t);
     sets::insert(chosen, t);
-    last[t] = k as u16;
+    last[t] = (k + 1) as u16;
     first[t] = 0;
     enter_inputs(file, h, head, next, last, t, from - 1, places, first);
-    once(end, k)
+    once(end, k + 1)
 }
 
 // Goes back from the last firing: W, the chosen transitions, their last chosen firings, and one more than the last chosen firing of all.
@@ -223,12 +217,12 @@ pub fn back(
     ensures { Back file.now h criterion.now list.now 0 (result) places.new first.new chosen.new last.new }
 {
     let mut end: usize = 0;
-    let mut k = met(list, first, list.len());
-    while 0 < k {
+    let mut reached = met(list, first, list.len());
+    while let Some(k) = reached {
         end = take_up(
             file, h, head, next, criterion, list, k, end, places, first, chosen, last,
         );
-        k = met(list, first, k - 1);
+        reached = met(list, first, k);
     }
     end
 }

@@ -40,12 +40,6 @@ pub fn with(words: [u64; 16], n: usize) -> [u64; 16]
     next
 }
 
-#[derive(Clone, Copy)]
-pub enum Found {
-    At(usize),
-    Nothing,
-}
-
 // The lowest bit that is 1, of a word that has one: as many zeros stand below it.
 fn zeros_below(w: u64) -> u32
     requires { w ≢ 0 }
@@ -55,13 +49,13 @@ fn zeros_below(w: u64) -> u32
 }
 
 // The lowest bit that is 1.
-pub fn lowest_bit(w: u64) -> Found
+pub fn lowest_bit(w: u64) -> Option<usize>
     ensures { IsLowest 64 (bit w) result }
 {
     if w == 0 {
-        return Found::Nothing;
+        return None;
     }
-    Found::At(zeros_below(w) as usize)
+    Some(zeros_below(w) as usize)
 }
 
 // How many bits are 1.
@@ -77,10 +71,8 @@ pub fn count(words: &[u64; 16], n: usize) -> usize
     ensures { result ≡ count_below (member words.now) (n * 64) }
 {
     let mut total: usize = 0;
-    let mut i: usize = 0;
-    while i < n {
-        total += count_bits(words[i]);
-        i += 1;
+    for w in &words[..n] {
+        total += count_bits(*w);
     }
     total
 }

@@ -13,7 +13,7 @@ use borrow.Author.Tests.{eq-eqb, eqb-true}
 use Rattle.net.proofs.Numbers.{by_or, holds, is_true, is_false, fails, or_left, or_right, and_left, and_right}
 use Rattle.sets.specs.Member.{bit, member, count_below, Inserted}
 use Rattle.sets.specs.Lowest.{IsLowest}
-use Rattle.sets.specs.declared.Found.TheVariants.{At, Nothing}
+use Rattle.std.specs.Prelude.{Some, None}
 use Rattle.sets.proofs.Bits.{differs, bit-or, bit-xor, bit-pow, bit-zero, bit-suc, bit-low, shifted_one}
 use Rattle.sets.proofs.Members.{clears, member-at}
 use Rattle.sets_pending.specs.Growing.{MarksBelow, waits, Marked, PlacesKept, LowestPending}
@@ -119,10 +119,7 @@ module _ (places gone : List ℕ) (part : (k : ℕ) → T (member gone k) → T 
     unmarked : (k : ℕ) → bit marks (k / 64) ≡ false → waits places (member gone) k ≡ false
     unmarked k e = is_false _ (λ h. fails _ e (m.marked k h))
 
-    pub lowest_none : IsLowest 64 (bit marks) Nothing → LowestPending places gone marks Nothing
-    lowest_none none = record { lowest = λ k l. unmarked k (none (k / 64) (omega arith)); marked = m }
-
-    module _ (i : ℕ) (first : IsLowest 64 (bit marks) (At i)) where
+    module _ (i : ℕ) (first : IsLowest 64 (bit marks) (Some i)) where
       pub first_word : i < 16
       first_word = m.words i (holds _ first.1)
 
@@ -136,13 +133,13 @@ module _ (places gone : List ℕ) (part : (k : ℕ) → T (member gone k) → T 
               let e : i * 64 + (k - i * 64) ≡ k = omega arith in
               subst (λ (x : ℕ). waits places (member gone) x ≡ false) e (sym (waits-at i (k - i * 64) (omega arith)) ∙ none (k - i * 64) (omega arith))
 
-      pub lowest_at : (z : ℕ) → IsLowest 64 (bit (bit_xor (get_or places i 0) (get_or gone i 0))) (At z) → LowestPending places gone marks (At (i * 64 + z))
+      pub lowest_at : (z : ℕ) → IsLowest 64 (bit (bit_xor (get_or places i 0) (get_or gone i 0))) (Some z) → LowestPending places gone marks (Some (i * 64 + z))
       lowest_at z h = record {
         lowest = (omega (arith, first_word, h.0), sym (waits-at i z h.0) ∙ h.1, below z (omega (arith, h.0)) h.2);
         marked = m;
       }
 
-      module _ (none : IsLowest 64 (bit (bit_xor (get_or places i 0) (get_or gone i 0))) Nothing) (marks' : ℕ) (out : (k : ℕ) → bit marks' k ≡ not (eqb k i) && bit marks k) where
+      module _ (none : IsLowest 64 (bit (bit_xor (get_or places i 0) (get_or gone i 0))) None) (marks' : ℕ) (out : (k : ℕ) → bit marks' k ≡ not (eqb k i) && bit marks k) where
         pub marks_less : Marked places (member gone) marks'
         marks_less = record {
           words = λ j h. m.words j (and_right (not (eqb j i)) (bit marks j) (subst T (out j) h));

@@ -1,8 +1,7 @@
 -- What a step does to the kept places and to the marks, one bit for each of sixteen words.
-use Rattle.std.specs.Prelude.{ℕ, ◌/◌, ◌<◌, Bool, not, ◌&&◌, ◌||◌, List, ◌≡◌, T, length}
+use Rattle.std.specs.Prelude.{ℕ, ◌/◌, ◌<◌, Bool, not, ◌&&◌, ◌||◌, List, Option, ◌≡◌, T, length}
 use Rattle.sets.specs.Member.{bit, member}
 use Rattle.sets.specs.Lowest.{IsLowest}
-use Rattle.sets.specs.declared.Found.{Found}
 
 -- "A kept place is pending until its transitions have been gone through": k is kept, and not among those gone through
 abbrev pub waits : List ℕ → (ℕ → Bool) → ℕ → Bool
@@ -25,6 +24,6 @@ pub record PlacesKept (new : ℕ → Bool) (marks marks' : ℕ) (places places' 
   pub marked : (gone : ℕ → Bool) → Marked places gone marks → Marked places' gone marks'
 
 -- r is the lowest pending place, and what is marked now is right too
-pub record LowestPending (places gone : List ℕ) (marks' : ℕ) (r : Found) : Type 0 where
+pub record LowestPending (places gone : List ℕ) (marks' : ℕ) (r : Option ℕ) : Type 0 where
   pub lowest : IsLowest 1024 (waits places (member gone)) r
   pub marked : Marked places (member gone) marks'

@@ -5,8 +5,6 @@ ghost use Rattle.std.specs.Prelude.{◌≡◌, not, ◌&&◌, ℕ, ◌≤◌, �
 ghost use Rattle.sets.specs.Member.{bit, member};
 ghost use Rattle.sets_pending.specs.Growing.{MarksBelow, Marked, PlacesKept, LowestPending};
 
-use sets::Found;
-
 // A mark for each word that has a number below n.
 pub fn marks_below(n: usize) -> u64
     requires { n ≤ 1024 }
@@ -34,19 +32,15 @@ fn without(marks: u64, i: usize) -> u64
 }
 
 // The lowest pending place: kept, and not gone through. Words without one lose their mark.
-pub fn lowest(places: &[u64; 16], gone: &[u64; 16], marks: &mut u64) -> Found
+pub fn lowest(places: &[u64; 16], gone: &[u64; 16], marks: &mut u64) -> Option<usize>
     requires { ((k : ℕ) → T (member gone.now k) → T (member places.now k)) × Marked places.now (member gone.now) marks.old }
     ensures { LowestPending places.now gone.now marks.new (result) }
 {
-    loop {
-        let first = sets::lowest_bit(*marks);
-        let Found::At(i) = first else {
-            return Found::Nothing;
-        };
-        let here = sets::lowest_bit(places[i] ^ gone[i]);
-        if let Found::At(z) = here {
-            return Found::At(i * 64 + z);
+    while let Some(i) = sets::lowest_bit(*marks) {
+        if let Some(z) = sets::lowest_bit(places[i] ^ gone[i]) {
+            return Some(i * 64 + z);
         }
         *marks = without(*marks, i);
     }
+    None
 }

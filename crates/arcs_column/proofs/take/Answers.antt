@@ -1,10 +1,7 @@
-use borrow.Author.Rules.{rules}
-use Prim.Native.Nat.{ℕ, ◌<◌}
-use mathlib.Core.Path.{◌≡◌, refl, sym, subst}
-use native.Mathlib.Omega.{arith}
+use Prim.Native.Nat.{◌<◌}
+use mathlib.Core.Path.{sym, subst}
 use lib.ListN.{length}
 use Rattle.net.specs.declared.Arc.{Arc}
-use Rattle.arcs_column.specs.Gain.{Takes}
 use Rattle.arcs_column.proofs.Sums.{enough, takes_more}
 use Rattle.arcs_column.proofs.take.Goals as goal
 use Rattle.arcs_column.proofs.take.Goals.{After-arc-a}
@@ -13,22 +10,8 @@ inside : (c : After-arc-a) → c.arc-a.result.place < length c.args.column.now
 inside c =
     subst (λ (a : Arc). a.place < length c.args.column.now) (sym c.arc-a.ensures.0) (c.requires.run.places c.loop-j.j c.loop-j-test.true)
 
-pub loop-j-init : goal.loop-j-init
-loop-j-init c = (omega arith, c.requires.run.rising, record { long = refl; at = λ p. refl })
-
-pub bounds-column-p : goal.bounds-column-p
-bounds-column-p c = omega (arith, inside (goal.at.bounds-column-p c).After-arc-a, c.loop-j.invariant.2.long)
-
 pub overflow_sub-column : goal.overflow_sub-column
-overflow_sub-column c = enough c.args.file.now _ _ _ _ _ _ c.arc-a.ensures.0 (inside (goal.at.overflow_sub-column c).After-arc-a) _ c.loop-j-test.true c.loop-j.invariant.2 c.requires.by_index
-
-pub bounds-column-p-in-loop-j : goal.bounds-column-p-in-loop-j
-bounds-column-p-in-loop-j c = omega (arith, inside (goal.at.bounds-column-p-in-loop-j c).After-arc-a, c.loop-j.invariant.2.long)
+overflow_sub-column c = enough c.args.file.now _ _ _ _ _ _ c.arc-a.ensures.0 (inside (goal.at.overflow_sub-column c).After-arc-a) _ c.loop-j-test.true c.loop-j.invariant c.requires.by_index
 
 pub loop-j-preserved : goal.loop-j-preserved
-loop-j-preserved c = (search rules, search rules, takes_more c.args.file.now _ _ _ _ _ _ c.arc-a.ensures.0 (inside (goal.at.loop-j-preserved c).After-arc-a) c.loop-j.invariant.2 (enough c.args.file.now _ _ _ _ _ _ c.arc-a.ensures.0 (inside (goal.at.loop-j-preserved c).After-arc-a) _ c.loop-j-test.true c.loop-j.invariant.2 c.requires.by_index))
-
-pub returns : goal.returns
-returns c =
-    let all : c.loop-j.j ≡ c.args.to = omega (arith, c.loop-j.invariant.1, c.loop-j-test.false) in
-    subst (λ (n : ℕ). Takes c.args.file.now c.args.start c.args.from n c.args.column.now c.loop-j.column) all c.loop-j.invariant.2
+loop-j-preserved c = takes_more c.args.file.now _ _ _ _ _ _ c.arc-a.ensures.0 (inside (goal.at.loop-j-preserved c).After-arc-a) c.loop-j.invariant (enough c.args.file.now _ _ _ _ _ _ c.arc-a.ensures.0 (inside (goal.at.loop-j-preserved c).After-arc-a) _ c.loop-j-test.true c.loop-j.invariant c.requires.by_index)

@@ -12,13 +12,3 @@ loop-low-preserved-then-a-place c = halving_up c.loop-low.invariant _ (omega (ar
 
 pub loop-low-preserved : goal.loop-low-preserved
 loop-low-preserved c = halving_down c.loop-low.invariant _ (omega (arith, c.loop-low-test.true)) (omega (arith, c.loop-low-test.true)) (ap (λ (a : Arc). a.place) c.arc-a.ensures.0) c.if-a-place.false
-
-pub returns : goal.returns
-returns c =
-    let x = c.loop-low.invariant in
-    record {
-      after = x.first;
-      within = omega (arith, x.rising, x.within);
-      below = x.below;
-      above = λ i l m. x.above i (omega (arith, l, c.loop-low-test.false)) m;
-    }

@@ -2,7 +2,7 @@ use Rattle.arcs_effect.proofs.Places.{summed_start, summed_next, summed_past, su
 use Rattle.arcs_effect.proofs.weight.Goals as goal
 
 pub loop-j-init : goal.loop-j-init
-loop-j-init c = summed_start c.requires c.place_from-j.ensures
+loop-j-init c = summed_start c.requires c.place_from-first.ensures
 
 pub returns-then-a-place : goal.returns-then-a-place
 returns-then-a-place c = summed_past c.loop-j.invariant c.arc-a.ensures.0 c.if-a-place.true c.loop-j-test.true

@@ -3,14 +3,5 @@ use native.Mathlib.Omega.{arith}
 use Rattle.arcs_groups.proofs.Groups.{run-one}
 use Rattle.arcs_groups.proofs.group.Goals as goal
 
-pub alone-requires : goal.alone-requires
-alone-requires c = c.requires
-
 pub returns-then-alone : goal.returns-then-alone
 returns-then-alone c = (c.alone.ensures c.if-alone.true, c.get16.ensures.0 ∙ sym (run-one _ _ _), omega (arith, c.get16.ensures.1))
-
-pub several-requires : goal.several-requires
-several-requires c = c.requires
-
-pub returns : goal.returns
-returns c = c.several.ensures

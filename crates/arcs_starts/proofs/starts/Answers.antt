@@ -1,15 +1,7 @@
 use mathlib.Core.Path.{sym, ◌∙◌, subst}
-use native.Mathlib.Omega.{arith}
 use Rattle.arcs_starts.specs.Table.{Split}
 use Rattle.arcs_starts.proofs.Splits.{splits}
 use Rattle.arcs_starts.proofs.starts.Goals as goal
-
-pub ends-requires : goal.ends-requires
-ends-requires c =
-    let clear = c in
-    let pre = clear.requires in
-    let cleared = clear.clear.ensures in
-    record { slots = record { fit = pre.fit; few = pre.few; slots = λ i l. omega (arith, pre.slots i l, pre.long, cleared.0) }; by_index = cleared.1 }
 
 pub returns : goal.returns
 returns c =

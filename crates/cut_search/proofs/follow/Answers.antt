@@ -1,6 +1,4 @@
 use borrow.Author.Rules.{rules}
-use Prim.Native.Nat.{◌-◌, ◌%◌}
-use native.Mathlib.Omega.{arith}
 use Rattle.cut_search.proofs.Turns.{Following, following_none, following_more, following_end, row_below, row_arc, row_begun, row_from, row_split, row_less}
 use Rattle.cut_search.proofs.follow.Goals as goal
 use Rattle.cut_search.proofs.follow.Goals.{At-loop-e}
@@ -47,9 +45,6 @@ bounds-next-e c =
     let x = along (goal.at.bounds-next-e c).At-loop-e in
     let n = c.loop-e-test.true in
     let b = row_below _ start.args.h start.requires.0 _ start.requires.1 _ _ _ _ _ _ _ _ _ x n in let u = start.requires.1.long in search rules
-
-pub overflow_cast-e-in-loop-e : goal.overflow_cast-e-in-loop-e
-overflow_cast-e-in-loop-e c = omega (arith, c.type_inv.next (c.loop-e.e % 65536 - 1))
 
 pub loop-e-smaller : goal.loop-e-smaller
 loop-e-smaller c =

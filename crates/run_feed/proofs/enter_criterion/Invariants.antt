@@ -1,11 +1,7 @@
-use Prim.Native.Nat.{◌-◌}
-use lib.ListN.{length, take}
+use lib.ListN.{take}
 use Rattle.net.specs.Numbers.{among}
 use Rattle.run_feed.specs.Back.{Entered}
 use Rattle.run_feed.proofs.enter_criterion.Given as goal
 
-abbrev pub invariant-loop-i : goal.invariant-loop-i
-invariant-loop-i l = Entered l.file l.h (λ k. among k (take l.i l.criterion)) l.last l.initial.places l.initial.first l.places l.first
-
-abbrev pub decreases-loop-i : goal.decreases-loop-i
-decreases-loop-i l = length l.criterion - l.i
+abbrev pub invariant-loop-q : goal.invariant-loop-q
+invariant-loop-q l = Entered l.file l.h (λ k. among k (take l.q-index l.criterion)) l.last l.initial.places l.initial.first l.places l.first

@@ -6,9 +6,3 @@ use Rattle.sets.proofs.lowest_bit.Goals as goal
 
 pub returns-then-w-eq0 : goal.returns-then-w-eq0
 returns-then-w-eq0 c = λ k l. ap (λ (w : ℕ). bit w k) c.if-w-eq0.true ∙ bit-zero k
-
-pub zeros_below-requires : goal.zeros_below-requires
-zeros_below-requires c = c.if-w-eq0.false
-
-pub returns : goal.returns
-returns c = c.zeros_below.ensures

@@ -1,8 +1,0 @@
-use native.Mathlib.Omega.{arith}
-use Rattle.tables.proofs.Zeros.{zeros_at}
-use Rattle.cut.proofs.kept_large.Goals as goal
-
-pub kept_by-requires : goal.kept_by-requires
-kept_by-requires c =
-    let start = c in
-    record { sound = start.requires.sound; criterion_value = start.requires.criterion_value; lent = record { head_long = omega (arith, start.requires.sound.placed.places); next_long = start.requires.sound.placed.arcs; none = zeros_at 2048 } }
