@@ -149,8 +149,8 @@ pub record Written (table list out₀ out : List ℕ) (end n i : ℕ) : Type 0 w
   pub rest : (k : ℕ) → length (chosen_by table list) ≤ k → get_or out k 0 ≡ get_or out₀ k 0
 
 -- an entry less one, as the code has it
-less_one : (e v : ℕ) → v < 65536 → (v + 1) % 65536 ≡ suc e → v ≡ e
-less_one e v l h = omega (arith, l, h)
+less_one : (e x : ℕ) → x < 65536 → x ≡ suc e → (x + 65535) % 65536 ≡ e
+less_one e x l h = omega (arith, l, h)
 
 some_one : (e : ℕ) → (e ≡ 0 → ⊥) → 1 ≤ length (chosen e)
 some_one zero z = absurd (z refl)
@@ -182,7 +182,10 @@ module _ {table list out₀ : List ℕ} {end : ℕ} where
         let more : chosen_by table (take end list) ≡ chosen_by table (take j list) ++ chosen (get_or table (get_or list j 0) 0) = ap (λ (x : ℕ). chosen_by table (take x list)) (sym f) ∙ chosen-next table list j (omega (arith, w.last.within, l)) in
         omega (arith, w.count, chosen-up table list i j (omega (arith, l)), some_one (get_or table (get_or list j 0) 0) (w.last.chosen (omega (arith, l))), length-append (chosen_by table (take j list)) (chosen (get_or table (get_or list j 0) 0)), ap length more, ap length w.last.whole)
 
-    module _ (l : i < end) {v : ℕ} (hv : v < 65536) (wraps : (v + 1) % 65536 ≡ get_or table (get_or list i 0) 0) where
+    module _ (l : i < end) (short : get_or table (get_or list i 0) 0 < 65536) where
+      abbrev v : ℕ
+      v = (get_or table (get_or list i 0) 0 + 65535) % 65536
+
       grown : chosen_by table (take (i + 1) list) ≡ chosen_by table (take i list) ++ chosen (get_or table (get_or list i 0) 0)
       grown = chosen-next table list i (listed l)
 
@@ -197,7 +200,7 @@ module _ {table list out₀ : List ℕ} {end : ℕ} where
               let same : k ≡ n = omega (arith, h, q) in
               ap (λ (x : ℕ). get_or (set out n v) x 0) same
               ∙ get_or-set_same out n v 0 (omega (arith, fits l, w.room, w.long))
-              ∙ less_one e v hv (wraps ∙ z)
+              ∙ less_one e (get_or table (get_or list i 0) 0) short z
               ∙ sym (get_or-append_seam (chosen_by table (take i list)) e [] 0)
               ∙ ap (λ (x : ℕ). get_or (chosen_by table (take i list) ++ (e ∷ [])) x 0) (sym w.count ∙ sym same)
 

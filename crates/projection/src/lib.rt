@@ -12,10 +12,7 @@ use file_header::Header;
 fn share(entry: u16) -> usize
     ensures { (result ≡ length (chosen entry)) × (result ≤ 1) }
 {
-    if entry == 0 {
-        return 0;
-    }
-    1
+    usize::from(entry != 0)
 }
 
 // How many of the listed transitions are among the origins.
@@ -24,11 +21,8 @@ fn count(table: &[u16], list: &[u16]) -> usize
     ensures { result ≡ length (chosen_by table.now list.now) }
 {
     let mut n: usize = 0;
-    let mut i: usize = 0;
-    while i < list.len() {
-        let t = list[i] as usize;
-        n += share(table[t]);
-        i += 1;
+    for t in list {
+        n += share(table[usize::from(*t)]);
     }
     n
 }
@@ -49,13 +43,11 @@ fn last_chosen(table: &[u16], list: &[u16]) -> usize
     requires { Reached table.now list.now }
     ensures { Last table.now list.now result }
 {
-    let mut end = list.len();
-    while 0 < end {
-        let t = list[end - 1] as usize;
+    for i in (0..list.len()).rev() {
+        let t = usize::from(list[i]);
         if table[t] != 0 {
-            return end;
+            return i + 1;
         }
-        end -= 1;
     }
     0
 }
@@ -70,13 +62,10 @@ pub fn write(table: &[u16], list: &[u16], out: &mut [u16]) -> usize
 {
     let end = last_chosen(table, list);
     let mut n: usize = 0;
-    let mut i: usize = 0;
-    while i < end {
-        let t = list[i] as usize;
-        let entry = table[t];
-        out[n] = std::num::wrapping_sub_u16(entry, 1);
+    for t in &list[..end] {
+        let entry = table[usize::from(*t)];
+        out[n] = entry.wrapping_sub(1);
         n += share(entry);
-        i += 1;
     }
     n
 }

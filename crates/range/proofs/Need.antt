@@ -25,12 +25,6 @@ use Rattle.range.specs.Need.{Credits, wanted, Known, extent_for}
 
 -- ---- what a firing gives is taken off, arc by arc
 
-pub credits_none : {s : List ℕ} {start from : ℕ} {m : List ℕ} → Credits s start from from m m
-credits_none = record { long = refl; at = λ p. omega arith }
-
-pub credits_all : {s : List ℕ} {start from to j : ℕ} {was is : List ℕ} → Credits s start from j was is → j ≤ to → to ≤ j → Credits s start from to was is
-credits_all {s} {start} {from} {to} {j} {was} {is} x l u = let e : j ≡ to = omega arith in subst (λ (n : ℕ). Credits s start from n was is) e x
-
 pub credits_more : {s : List ℕ} {start from j : ℕ} {was is : List ℕ} → Credits s start from j was is → from ≤ j → (a : Arc) → a ≡ arc_at s (start + 8 * j) → a.place < length was
     → {v : ℕ} → v ≡ get_or is a.place 0 - a.weight → Credits s start from (j + 1) was (set is a.place v)
 credits_more {s} {start} {from} {j} {was} {is} x begun a e inside {v} w = record { long = length-set is a.place _ ∙ x.long; at = λ p. go p (ℕ_discrete p a.place) }

@@ -2,7 +2,7 @@
 use Prim.Native.Nat.{ℕ, zero, suc, ◌≤◌}
 use mathlib.Core.Bool.{Bool, true, false, not}
 use mathlib.Core.List.{List}
-use mathlib.Core.Path.{◌≡◌, sym, ap, ◌∙◌}
+use mathlib.Core.Path.{◌≡◌, sym, ap}
 use lib.ListN.{length}
 use lib.Dec.{eqb, ltb}
 use borrow.Author.Tests.{ltb-false, eqb-true, not-false, ne_eqb, eq-eqb}
@@ -14,7 +14,7 @@ use Rattle.file_header.specs.declared.Header.{Header}
 use Rattle.file_words.proofs.Laws.{refuse-0, or_else_0, or_else_stop, or-false}
 use Rattle.promise.specs.Firing.{list_refusal}
 use Rattle.promise.specs.Together.{standing}
-use Rattle.promise.specs.Range.{upper_wrong, RangeAnswer, range_told, range_or}
+use Rattle.promise.specs.Range.{upper_wrong, range_or}
 use Rattle.inputs_lists.proofs.Passing as listed
 use Rattle.range.specs.Told.{held_back}
 use Rattle.range.specs.Need.{Known}
@@ -22,9 +22,6 @@ use Rattle.range.specs.Need.{Known}
 -- ---- by the way out of the tests
 
 module _ (s : List ℕ) (h : Header) (list upper : List ℕ) (room : ℕ) where
-  pub by_caps : has_caps (net_from s h) ≡ true → 17 ≡ held_back s h list upper room
-  by_caps c = rw c
-
   module _ (none : has_caps (net_from s h) ≡ false) where
     pub by_list : {n : ℕ} → n ≡ list_refusal h.transitions list → (n ≡ 0 → ⊥) → n ≡ held_back s h list upper room
     by_list {n} e z = rw (none, ← e, or_else_stop n _ z)
@@ -46,10 +43,10 @@ module _ (s : List ℕ) (h : Header) (list upper : List ℕ) (room : ℕ) where
 
 -- ---- where nothing is refused
 
-module _ (s : List ℕ) (h : Header) (list upper : List ℕ) (room : ℕ) {n : ℕ} (e : n ≡ held_back s h list upper room) (z : n ≡ 0) where
+module _ (s : List ℕ) (h : Header) (list upper : List ℕ) (room : ℕ) (e : 0 ≡ held_back s h list upper room) where
   tests : (list_refusal h.transitions list ≡ 0) × (upper_wrong (net_from s h) upper ≡ false) × (ltb room h.places ≡ false)
   tests =
-      let a = refuse-0 (has_caps (net_from s h)) 16 _ (sym e ∙ z) in
+      let a = refuse-0 (has_caps (net_from s h)) 16 _ (sym e) in
       let b = or_else_0 (list_refusal h.transitions list) _ a.1 in
       let c = refuse-0 (upper_wrong (net_from s h) upper) 20 _ b.1 in
       (b.0, c.0, (refuse-0 (ltb room h.places) 12 0 c.1).0)
@@ -74,7 +71,3 @@ known_list h list e = record { short = listed.list_short h.transitions list e; k
 pub told-refused : (m : ℕ) {n : ℕ} (x : Extent) → n ≡ m → (n ≡ 0 → ⊥) → record { refused = true; refusal = n; every = false; partly = false; never = false } ≡ range_or m x
 told-refused zero x e z = absurd (z e)
 told-refused (suc m) x e z = ap (λ (k : ℕ). record { refused = true; refusal = k; every = false; partly = false; never = false }) e
-
--- and where nothing is refused
-pub told-whole : (m : ℕ) {n : ℕ} (r : RangeAnswer) (x : Extent) → n ≡ m → n ≡ 0 → r ≡ range_told x → r ≡ range_or m x
-told-whole m r x e z f = rw (sym e ∙ z) f

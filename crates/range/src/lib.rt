@@ -1,7 +1,9 @@
 #![tactic(auto)]
 
 // The marking that a list of firings needs, and from which markings of a range the list fires.
-ghost use Rattle.std.specs.Prelude.{◌≡◌, ℕ, ◌+◌, ◌-◌, ◌*◌, ◌^◌, ◌<◌, length, get_or};
+ghost use Rattle.std.specs.Prelude.{◌≡◌, ℕ, ◌+◌, ◌-◌, ◌*◌, ◌^◌, ◌<◌, ◌≤◌, length, get_or};
+ghost use Rattle.std.specs.Prelude.{Ok};
+ghost use Rattle.refusals.specs.Numbers.{refusal_number};
 ghost use Rattle.net.specs.Net.{tokens};
 ghost use Rattle.net.specs.Range.{need as need_of, covers, extent as extent_of};
 ghost use Rattle.file_header.specs.Facts.{Placed};
@@ -17,23 +19,23 @@ ghost use Rattle.range.specs.Need.{Credits, wanted, Known, extent_for, Passed};
 
 use file_arcs::arc;
 use file_header::Header;
+use refusals::Refusal;
 use replay_firing::give;
 use tables::{LARGE, MIDDLE, SMALL, entry};
 
-// The list fires from every marking in the range; from some of them, but not from all; from none; or refused.
-#[derive(Clone, Copy)]
+// Two entries a transition, and one for the end.
+const SMALL_TABLE: usize = 2 * SMALL + 1;
+
+const MIDDLE_TABLE: usize = 2 * MIDDLE + 1;
+
+const LARGE_TABLE: usize = 2 * LARGE + 1;
+
+// The list fires from every marking in the range; from some of them, but not from all; or from none.
+#[derive(Clone, Copy, Debug, PartialEq, Eq)]
 pub enum Range {
     Every,
     Partly,
     Never,
-    Refused(u32),
-}
-
-// What is still needed where so much is given.
-fn less(needed: u64, given: u64) -> u64
-    ensures { result ≡ needed - given }
-{
-    if needed < given { 0 } else { needed - given }
 }
 
 // Takes the weights of the arcs from `from` to `to` off the need, each as far as there is any.
@@ -41,13 +43,10 @@ fn credit(file: &[u8], start: usize, from: usize, to: usize, need: &mut [u64])
     requires { Run file.now start from to (length need.old) }
     ensures { Credits file.now start from to need.old need.new }
 {
-    let mut j = from;
-    while j < to {
+    for j in from..to {
         let a = arc(file, start + 8 * j);
         let p = a.place;
-        let n = less(need[p], a.weight as u64);
-        need[p] = n;
-        j += 1;
+        need[p] = need[p].saturating_sub(a.weight as u64);
     }
 }
 
@@ -72,22 +71,8 @@ fn back(file: &[u8], h: Header, table: &[u16], list: &[u16], need: &mut [u64])
     requires by_index { (p : ℕ) → get_or need.old p 0 ≡ 0 }
     ensures { Holds need.old need.new (need_of (net_from file.now h) list.now) }
 {
-    let mut k = list.len();
-    while 0 < k {
-        k -= 1;
-        let t = list[k] as usize;
-        step_back(file, h, table, t, need);
-    }
-}
-
-// Sets each entry to 0.
-fn clear(need: &mut [u64])
-    ensures { (length need.new ≡ length need.old) × ((p : ℕ) → get_or need.new p 0 ≡ 0) }
-{
-    let mut p = 0;
-    while p < need.len() {
-        need[p] = 0;
-        p += 1;
+    for k in (0..list.len()).rev() {
+        step_back(file, h, table, usize::from(list[k]), need);
     }
 }
 
@@ -96,12 +81,10 @@ fn in_marking(file: &[u8], h: Header, need: &[u64]) -> bool
     requires { Placed (length file.now) h × (length need.now ≡ h.places) }
     ensures { result ≡ covers (net_from file.now h) (net_from file.now h).marking (held need.now) }
 {
-    let mut p: usize = 0;
-    while p < h.places {
-        if (file::marking(file, h, p) as u64) < need[p] {
+    for (p, needed) in need.iter().enumerate() {
+        if (file::marking(file, h, p) as u64) < *needed {
             return false;
         }
-        p += 1;
     }
     true
 }
@@ -111,12 +94,10 @@ fn in_upper(file: &[u8], h: Header, upper: &[u32], need: &[u64]) -> bool
     requires { (length upper.now ≡ h.places) × (length need.now ≡ h.places) }
     ensures { result ≡ covers (net_from file.now h) (standing upper.now) (held need.now) }
 {
-    let mut p: usize = 0;
-    while p < h.places {
-        if (upper[p] as u64) < need[p] {
+    for (p, needed) in need.iter().enumerate() {
+        if u64::from(upper[p]) < *needed {
             return false;
         }
-        p += 1;
     }
     true
 }
@@ -126,12 +107,10 @@ fn from_marking(file: &[u8], h: Header, upper: &[u32]) -> bool
     requires { Placed (length file.now) h × (length upper.now ≡ h.places) }
     ensures { result ≡ covers (net_from file.now h) (standing upper.now) (net_from file.now h).marking }
 {
-    let mut p: usize = 0;
-    while p < h.places {
-        if (upper[p] as usize) < file::marking(file, h, p) {
+    for (p, most) in upper.iter().enumerate() {
+        if (*most as usize) < file::marking(file, h, p) {
             return false;
         }
-        p += 1;
     }
     true
 }
@@ -139,7 +118,7 @@ fn from_marking(file: &[u8], h: Header, upper: &[u32]) -> bool
 // Which markings of the range have what is needed: all where the least has, none where the largest has not.
 fn judge(file: &[u8], h: Header, upper: &[u32], need: &[u64]) -> Range
     requires { Placed (length file.now) h × (length upper.now ≡ h.places) × (length need.now ≡ h.places) }
-    ensures { range_numbers result ≡ range_told (extent_for (net_from file.now h) (standing upper.now) (held need.now)) }
+    ensures { range_numbers (Ok result) ≡ range_told (extent_for (net_from file.now h) (standing upper.now) (held need.now)) }
 {
     if in_marking(file, h, need) {
         return Range::Every;
@@ -150,78 +129,76 @@ fn judge(file: &[u8], h: Header, upper: &[u32], need: &[u64]) -> Range
     Range::Never
 }
 
-// The answer and the need where nothing is refused, by a table that the caller lends.
-fn extent_by(
+// The answer and the need where nothing is refused, by a table of N numbers. It is made a part of its caller.
+#[inline(always)]
+fn extent_by<const N: usize>(
     file: &[u8],
     h: Header,
     list: &[u16],
     upper: &[u32],
-    table: &mut [u16],
     need: &mut [u64],
 ) -> Range
     requires passed { Passed file.now h list.now upper.now need.old }
-    requires transitions_in_bounds { 2 * h.transitions < length table.old }
-    ensures result_value { range_numbers result ≡ range_told (extent_of (net_from file.now h) (standing upper.now) list.now) }
+    requires transitions_in_bounds { (2 * h.transitions < N) × (N ≤ 2049) }
+    ensures result_value { range_numbers (Ok result) ≡ range_told (extent_of (net_from file.now h) (standing upper.now) list.now) }
     ensures need_after { need.new ≡ tokens (net_from file.now h) (need_of (net_from file.now h) list.now) }
 {
-    arcs_starts::starts(file, h.arcstart, h.arcs, h.transitions, table);
-    clear(need);
-    back(file, h, table, list, need);
+    let mut table = [0u16; N];
+    arcs_starts::starts(file, h.arcstart, h.arcs, h.transitions, &mut table);
+    need.fill(0);
+    back(file, h, &table, list, need);
     judge(file, h, upper, need)
 }
 
 // The same, with a table that is as large as the net needs it.
 fn extent_all(file: &[u8], h: Header, list: &[u16], upper: &[u32], need: &mut [u64]) -> Range
     requires { Passed file.now h list.now upper.now need.old }
-    ensures result_value { range_numbers result ≡ range_told (extent_of (net_from file.now h) (standing upper.now) list.now) }
+    ensures result_value { range_numbers (Ok result) ≡ range_told (extent_of (net_from file.now h) (standing upper.now) list.now) }
     ensures need_after { need.new ≡ tokens (net_from file.now h) (need_of (net_from file.now h) list.now) }
 {
     if h.transitions <= SMALL {
-        let mut table = [0u16; 2 * SMALL + 1];
-        return extent_by(file, h, list, upper, &mut table, need);
+        return extent_by::<SMALL_TABLE>(file, h, list, upper, need);
     }
     if h.transitions <= MIDDLE {
-        let mut table = [0u16; 2 * MIDDLE + 1];
-        return extent_by(file, h, list, upper, &mut table, need);
+        return extent_by::<MIDDLE_TABLE>(file, h, list, upper, need);
     }
-    let mut table = [0u16; 2 * LARGE + 1];
-    extent_by(file, h, list, upper, &mut table, need)
+    extent_by::<LARGE_TABLE>(file, h, list, upper, need)
 }
 
-// Checks the plan's caps, the list, the upper list, then the room for the need: 0, 17, 11, 12, 21 or 13.
-fn held_back(file: &[u8], h: Header, list: &[u16], upper: &[u32], room: usize) -> u32
+// Checks the plan's caps, the list, the upper list, then the room for the need.
+fn check(file: &[u8], h: Header, list: &[u16], upper: &[u32], room: usize) -> Result<(), Refusal>
     requires { Placed (length file.now) h }
-    ensures { result ≡ held_back file.now h list.now upper.now room }
+    ensures { refusal_number result ≡ held_back file.now h list.now upper.now room }
 {
     if file::has_caps(file, h) {
-        return 17;
+        return Err(Refusal::Capped);
     }
-    let listed = inputs_lists::refusal(h.transitions, list);
-    if listed != 0 {
-        return listed;
-    }
+    inputs_lists::check(h.transitions, list)?;
     if upper.len() != h.places {
-        return 21;
+        return Err(Refusal::Upper);
     }
     if !from_marking(file, h, upper) {
-        return 21;
+        return Err(Refusal::Upper);
     }
     if room < h.places {
-        return 13;
+        return Err(Refusal::Buffer);
     }
-    0
+    Ok(())
 }
 
 // From which markings between the initial one and the upper list the list fires. The first entries of `need` get what it needs, and the others are kept.
-pub fn extent(file: &[u8], h: Header, list: &[u16], upper: &[u32], need: &mut [u64]) -> Range
+pub fn extent(
+    file: &[u8],
+    h: Header,
+    list: &[u16],
+    upper: &[u32],
+    need: &mut [u64],
+) -> Result<Range, Refusal>
     requires { Sound file.now h }
     ensures answer { range_numbers result ≡ range_or (held_back file.now h list.now upper.now (length need.old)) (extent_of (net_from file.now h) (standing upper.now) list.now) }
     ensures need { need.new ≡ written (held_back file.now h list.now upper.now (length need.old)) (tokens (net_from file.now h) (need_of (net_from file.now h) list.now)) need.old }
 {
-    let refused = held_back(file, h, list, upper, need.len());
-    if refused != 0 {
-        return Range::Refused(refused);
-    }
+    check(file, h, list, upper, need.len())?;
     let places = h.places;
-    extent_all(file, h, list, upper, &mut need[..places])
+    Ok(extent_all(file, h, list, upper, &mut need[..places]))
 }

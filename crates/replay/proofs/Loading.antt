@@ -5,10 +5,8 @@ use mathlib.Core.Path.{◌≡◌, refl, ap, sym, ◌∙◌, fun_ext}
 use mathlib.Core.List.{List}
 use native.Mathlib.Decide.{dec_lt}
 use native.Mathlib.Omega.{arith}
-use borrow.Author.Count.{below_none, below_more}
 use lib.Dec.{eqb}
-use lib.ListN.{length, get_or, set, length-set, get_or-eq_default}
-use lib.Seq.{get_or-set_same, get_or-set_other}
+use lib.ListN.{length, get_or, get_or-eq_default}
 use Rattle.net.specs.Net.{Marking, Replay, tokens, replay, replay_from}
 use Rattle.net.proofs.Markings.{below_at, below-off, length-tokens, get_d_tokens, tokens-are}
 use Rattle.file_words.specs.Word.{le32, Bytes}
@@ -22,7 +20,7 @@ use Rattle.promise.specs.Firing.{replay_told}
 use Rattle.inputs_lists.proofs.Passing.{list_short, list_known}
 use Rattle.replay_steps.specs.Steps.{held, Holds, Listed}
 use Rattle.replay_steps.proofs.Underway.{held-within}
-use Rattle.replay.specs.Told.{outcome_numbers}
+use Rattle.replay.specs.Told.{ended_numbers}
 use Rattle.replay.specs.Steps.{begun, Passed, Ended}
 use Rattle.replay.specs.declared.Outcome.{Outcome}
 
@@ -49,29 +47,11 @@ module _ (s : List ℕ) (h : Header) (w : Placed (length s) h) (p : ℕ) (l : p 
   pub stands_plain : eqb h.edition 2 ≡ false → Stands s h 4 p
   stands_plain e = stands 4 (picks _ false e)
 
--- ---- entry by entry
-
-pub record Loaded (s : List ℕ) (h : Header) (m₀ m : List ℕ) (n : ℕ) : Type 0 where
-  pub places : length m₀ ≡ h.places
-  pub within : n ≤ h.places
-  pub long : length m ≡ length m₀
-  pub at : (q : ℕ) → q < n → get_or m q 0 ≡ (net_from s h).marking q
-
-module _ {s : List ℕ} {h : Header} {m₀ : List ℕ} where
-  pub loaded_none : length m₀ ≡ h.places → Loaded s h m₀ m₀ 0
-  loaded_none e = record { places = e; within = omega arith; long = refl; at = below_none _ }
-
-  module _ {m : List ℕ} {n : ℕ} (d : Loaded s h m₀ m n) where
-    pub loaded_next : {v : ℕ} → n < h.places → v ≡ (net_from s h).marking n → Loaded s h m₀ (set m n v) (n + 1)
-    loaded_next {v} l e = record {
-      places = d.places;
-      within = omega arith;
-      long = length-set m n v ∙ d.long;
-      at = below_more _ n (λ q u. get_or-set_other m n q v 0 (λ f. omega arith) ∙ d.at q u) (get_or-set_same m n v 0 (omega (arith, d.long, d.places)) ∙ e);
-    }
-
-    pub loaded_all : h.places ≤ n → m ≡ begun s h
-    loaded_all l = tokens-are (net_from s h) (net_from s h).marking m (d.long ∙ d.places) (λ p u. d.at p (omega arith))
+-- every place's marking is written, n bytes a place
+pub loaded : {s : List ℕ} {h : Header} (m₀ : List ℕ) {m : List ℕ} (n : ℕ) → length m₀ ≡ h.places → length m ≡ length m₀ → ((p : ℕ) → p < length m₀ → get_or m p 0 ≡ le32 s (h.markstart + n * p))
+    → ((p : ℕ) → p < h.places → Stands s h n p) → m ≡ begun s h
+loaded {s} {h} m₀ {m} n places long at each =
+    tokens-are (net_from s h) (net_from s h).marking m (long ∙ places) (λ p u. at p (omega (arith, places)) ∙ (each p u).is)
 
 -- ---- the list holds the initial marking
 
@@ -105,7 +85,7 @@ module _ (s : List ℕ) (h : Header) where
   }
 
   -- what the replay from the initial marking answers, and the list that holds the marking that it ends with
-  pub ended-initial : (ts : List ℕ) {m : List ℕ} (o : Outcome) → Ended s h ts (begun s h) m o → (outcome_numbers o ≡ replay_told (replay (net_from s h) ts).answer) × (m ≡ tokens (net_from s h) (replay (net_from s h) ts).marking)
+  pub ended-initial : (ts : List ℕ) {m : List ℕ} (o : Outcome) → Ended s h ts (begun s h) m o → (ended_numbers o ≡ replay_told (replay (net_from s h) ts).answer) × (m ≡ tokens (net_from s h) (replay (net_from s h) ts).marking)
   ended-initial ts {m} o r =
       let e = from_initial ts in (
         r.0 ∙ ap (λ (R : Replay). replay_told R.answer) e,

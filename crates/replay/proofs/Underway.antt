@@ -1,10 +1,10 @@
 -- How a replay goes on, and how it ends: all fired, or stuck at a firing.
-use Prim.Native.Nat.{ℕ, ◌+◌, ◌-◌, ◌^◌, ◌<◌, ◌≤◌}
+use Prim.Native.Nat.{ℕ, ◌+◌, ◌<◌, ◌≤◌}
 use mathlib.Core.Path.{◌≡◌, refl, ap, sym, subst, subst⁻¹, ◌∙◌}
 use mathlib.Core.List.{List}
 use native.Mathlib.Omega.{arith}
 use lib.ListN.{length, get_or, drop}
-use Rattle.net.specs.Net.{Answer, Replay, Supplied, fire, replay_from}
+use Rattle.net.specs.Net.{Answer, Replay, ShortAt, Supplied, fire, replay_from}
 use Rattle.net.proofs.Uncapped.{uncapped_enabled}
 use Rattle.file_words.specs.Word.{Bytes}
 use Rattle.file.specs.Layout.{net_from}
@@ -13,12 +13,11 @@ use Rattle.file_header.specs.declared.Header.{Header}
 use Rattle.promise.specs.Firing.{ReplayAnswer, replay_told}
 use Rattle.replay_steps.specs.Steps.{held, Ready, Plain, Holds, Listed, Underway}
 use Rattle.replay_steps.proofs.Underway.{known, fired_on_lem, replay-end, replay-short, replay-full}
-use Rattle.replay_firing.specs.Short.{need_at}
 use Rattle.replay_firing.specs.Firing.{Firable, Filled}
-use Rattle.replay_firing.specs.declared.Found.{Found}
-use Rattle.replay_firing.specs.declared.Found.TheVariants.{Nowhere, At}
-use Rattle.replay_firing.proofs.Short.{Covered, Weighed, supplied}
-use Rattle.replay.specs.Told.{outcome_numbers}
+use Rattle.replay_firing.specs.declared.Excess.{Excess}
+use Rattle.replay_firing.proofs.Short.{Covered, supplied}
+use Rattle.std.proofs.Common.{None, Some}
+use Rattle.replay.specs.Told.{ended_numbers}
 use Rattle.replay.specs.Steps.{Ended, Going, EndedFrom}
 use Rattle.replay.specs.declared.Outcome.{Outcome}
 use Rattle.replay.specs.declared.Outcome.TheVariants.{Fired, Short, Full}
@@ -68,14 +67,14 @@ module _ {s : List ℕ} {h : Header} {ts m₀ m : List ℕ} {n : ℕ} (u : Under
 
 -- a replay that was at m₁ is at m
 module _ {s : List ℕ} {h : Header} {ts m₀ m₁ m : List ℕ} {n k : ℕ} (was : Underway s h ts m₀ m₁ n) (is : Underway s h ts m₀ m k) where
-  pub long_still : length m ≡ length m₁
+  long_still : length m ≡ length m₁
   long_still = is.long ∙ sym was.long
 
   pub ready_on : {table : List ℕ} → Ready s h table m₁ → Ready s h table m
   ready_on r = record { sound = r.sound; bytes = r.bytes; long = r.long; starts = r.starts; places = long_still ∙ r.places }
 
 module _ {s : List ℕ} {h : Header} {ts m₀ m : List ℕ} {k : ℕ} (u : Underway s h ts m₀ m k) where
-  ended : {a : Answer} (o : Outcome) → replay_from (net_from s h) 0 (held m₀) ts ≡ record { answer = a; marking = held m } → outcome_numbers o ≡ replay_told a → Ended s h ts m₀ m o
+  ended : {a : Answer} (o : Outcome) → replay_from (net_from s h) 0 (held m₀) ts ≡ record { answer = a; marking = held m } → ended_numbers o ≡ replay_told a → Ended s h ts m₀ m o
   ended o e told =
       (told ∙ ap (λ (R : Replay). replay_told R.answer) (sym e), record { long = u.long; at = λ p. ap (λ (R : Replay). R.marking p) (sym e) })
 
@@ -83,33 +82,29 @@ module _ {s : List ℕ} {h : Header} {ts m₀ m : List ℕ} {k : ℕ} (u : Under
   pub ended-fired : length ts ≤ k → Ended s h ts m₀ m Fired
   ended-fired l = ended Fired (sym u.same ∙ replay-end (net_from s h) ts k (held m) l) refl
 
-  low : (p : ℕ) → get_or m p 0 < 2 ^ 62
-  low p = omega (arith, u.low p, u.within, u.listed.short)
-
   module _ (l : k < length ts) where
-    -- input arc j wants more than its place p has
-    pub ended-short : {from middle j p n : ℕ} → Weighed s h (get_or ts k 0) from middle m j p n → get_or m p 0 < n → {amount : ℕ} → amount ≡ need_at s h j - get_or m p 0 → Ended s h ts m₀ m (Short k p amount)
-    ended-short {from} {middle} {j} {p} w g e =
-        ended (Short k p _) (sym u.same ∙ replay-short (net_from s h) ts k (held m) l p (need_at s h j - get_or m p 0) (w.short g))
-        (ap (λ (n : ℕ). outcome_numbers (Short k p n)) e)
+    -- the lowest place that is short is p, by n tokens
+    pub ended-short : {p n : ℕ} → ShortAt (net_from s h) (get_or ts k 0) (held m) p n → {amount : ℕ} → amount ≡ n → Ended s h ts m₀ m (Short k p amount)
+    ended-short {p} {n} w {amount} e =
+        ended (Short k p amount) (sym u.same ∙ replay-short (net_from s h) ts k (held m) l p n w) (ap (λ (i : ℕ). ended_numbers (Short k p i)) e)
 
-    -- every input arc was looked at
+    -- every input arc was looked at, and no place is short
     module _ {from middle j last need : ℕ} (c : Covered s h (get_or ts k 0) from middle m j last need) (all : middle ≤ j) where
       pub firable : Firable s h (get_or ts k 0) m
-      firable = record { known = known u l; supplied = supplied c all; low = low; caps = u.caps }
+      firable = record { known = known u l; supplied = supplied c all; low = λ p. omega (arith, u.low p, u.within, u.listed.short); caps = u.caps }
 
       pub fired_plain : {table m₁ m' : List ℕ} → Plain s h table m₁ → Holds m m' (fire (net_from s h) (get_or ts k 0) (held m)) → Underway s h ts m₀ m' (k + 1)
       fired_plain r f =
           let able = uncapped_enabled (net_from s h) r.uncapped (get_or ts k 0) (held m) (unfold Supplied in λ p u. supplied c all p) in
           fired_on_lem u l r.ready.sound r.ready.bytes able f
 
-    -- no place is short, and the firing is done unless it leaves one above its cap: then the marking is the one before
-    module _ {found : Found} {m' : List ℕ} (x : Filled (net_from s h) (get_or ts k 0) m m' found) where
-      pub fired_capped : found ≡ Nowhere → Sound s h → Bytes s → Underway s h ts m₀ m' (k + 1)
-      fired_capped e w b = let y = subst (Filled (net_from s h) (get_or ts k 0) m m') e x in fired_on_lem u l w b y.0 y.1
+    -- and the firing is done, within the caps
+    module _ {m' : List ℕ} where
+      pub fired_capped : Filled (net_from s h) (get_or ts k 0) m m' None → Sound s h → Bytes s → Underway s h ts m₀ m' (k + 1)
+      fired_capped x w b = fired_on_lem u l w b x.0 x.1
 
-      pub ended-full : {p n : ℕ} → found ≡ At p n → Ended s h ts m₀ m' (Full k p n)
-      ended-full {p} {n} e =
-          let y = subst (Filled (net_from s h) (get_or ts k 0) m m') e x in
-          subst⁻¹ (λ (m₁ : List ℕ). Ended s h ts m₀ m₁ (Full k p n)) y.1
-          (ended (Full k p n) (sym u.same ∙ replay-full (net_from s h) ts k (held m) l p n y.0) refl)
+      -- or it would leave the place p above its cap: then the marking is the one before
+      pub ended-full : (e : Excess) → Filled (net_from s h) (get_or ts k 0) m m' (Some e) → Ended s h ts m₀ m' (Full k e.place e.tokens)
+      ended-full e x =
+          subst⁻¹ (λ (m₁ : List ℕ). Ended s h ts m₀ m₁ (Full k e.place e.tokens)) x.1
+          (ended (Full k e.place e.tokens) (sym u.same ∙ replay-full (net_from s h) ts k (held m) l e.place e.tokens x.0) refl)

@@ -6,7 +6,7 @@ use Rattle.file.specs.Facts.{Sound}
 use Rattle.file_header.specs.declared.Header.{Header}
 use Rattle.promise.specs.Firing.{replay_told, list_refusal}
 use Rattle.replay_steps.specs.Steps.{held, Holds, Underway}
-use Rattle.replay.specs.Told.{outcome_numbers}
+use Rattle.replay.specs.Told.{ended_numbers}
 use Rattle.replay.specs.declared.Outcome.{Outcome}
 
 -- the initial marking, as a list
@@ -22,7 +22,7 @@ pub record Passed (s : List ℕ) (h : Header) (ts m : List ℕ) : Type 0 where
 -- the outcome and the marking m are those of the replay of the list from m₀
 abbrev pub Ended : List ℕ → Header → List ℕ → List ℕ → List ℕ → Outcome → Type 0
 Ended s h ts m₀ m o =
-    (outcome_numbers o ≡ replay_told (replay_from (net_from s h) 0 (held m₀) ts).answer) × Holds m₀ m (replay_from (net_from s h) 0 (held m₀) ts).marking
+    (ended_numbers o ≡ replay_told (replay_from (net_from s h) 0 (held m₀) ts).answer) × Holds m₀ m (replay_from (net_from s h) 0 (held m₀) ts).marking
 
 -- a replay from some first marking, that was at m₁ after n firings, is at m after k
 pub record Going (s : List ℕ) (h : Header) (ts m₁ : List ℕ) (n : ℕ) (m : List ℕ) (k : ℕ) : Type 0 where
@@ -32,5 +32,5 @@ pub record Going (s : List ℕ) (h : Header) (ts m₁ : List ℕ) (n : ℕ) (m :
 
 -- the outcome and the marking m are those of the rest of the list, after n firings, from m₁
 pub record EndedFrom (s : List ℕ) (h : Header) (ts m₁ : List ℕ) (n : ℕ) (m : List ℕ) (o : Outcome) : Type 0 where
-  pub answer : outcome_numbers o ≡ replay_told (replay_from (net_from s h) n (held m₁) (drop n ts)).answer
+  pub answer : ended_numbers o ≡ replay_told (replay_from (net_from s h) n (held m₁) (drop n ts)).answer
   pub marking : Holds m₁ m (replay_from (net_from s h) n (held m₁) (drop n ts)).marking

@@ -3,29 +3,31 @@
 // Replay of a list of transitions on the net of a file that was read.
 mod capped;
 
-ghost use Rattle.std.specs.Prelude.{◌≡◌, ◌*◌, ◌<◌, ◌≤◌, length};
+ghost use Rattle.std.specs.Prelude.{◌≡◌, ℕ, ◌+◌, ◌*◌, ◌<◌, ◌≤◌, length, get_or};
+ghost use Rattle.refusals.specs.Numbers.{refusal_number};
 ghost use Rattle.net.specs.Net.{replay as replay_of, tokens};
+ghost use Rattle.file_words.specs.Word.{le32};
 ghost use Rattle.file.specs.Layout.{net_from};
 ghost use Rattle.file.specs.Facts.{Sound};
 ghost use Rattle.promise.specs.Calls.{written};
 ghost use Rattle.promise.specs.Firing.{replay_told, replay_or};
-ghost use Rattle.replay.specs.Told.{outcome_numbers, held_back};
-ghost use Rattle.replay_steps.specs.Steps.{Ready, Plain, Underway};
+ghost use Rattle.replay.specs.Told.{ended_numbers, outcome_numbers, held_back};
+ghost use Rattle.replay_steps.specs.Steps.{held, Ready, Plain, Underway};
 ghost use Rattle.replay.specs.Steps.{begun, Passed, Going, EndedFrom};
 
 use crate::capped::run_capped;
 use file_arcs::arc;
 use file_header::Header;
+use refusals::Refusal;
 use replay_firing::{add_up, fire, missing};
 use tables::{LARGE, MIDDLE, SMALL, entry};
 
-// How a replay ends: all fired; stuck, at an index of the list and a place, short of so many tokens, or full by so many above its cap; or refused.
-#[derive(Clone, Copy)]
+// How a replay ends: all fired; or stuck, at an index of the list and a place, short of so many tokens, or full by so many above its cap.
+#[derive(Clone, Copy, Debug, PartialEq, Eq)]
 pub enum Outcome {
     Fired,
     Short(u32, u32, u32),
     Full(u32, u32, u32),
-    Refused(u32),
 }
 
 // A quick way through the first firings where none is done: how many are done then. It may do none, and leave the marking alone.
@@ -60,33 +62,30 @@ fn run(
     requires going { Going file.now h list.now marking.old done marking.old done }
     ensures { EndedFrom file.now h list.now marking.old done marking.new result }
 {
-    let mut k = done;
-    'firings: loop {
-        if list.len() <= k {
-            break 'firings Outcome::Fired;
-        }
-        let t = list[k] as usize;
-        let from = entry(table, 2 * t);
-        let middle = entry(table, 2 * t + 1);
-        let mut j = from;
-        let mut last: usize = 65536;
-        let mut need: u64 = 0;
-        while j < middle {
-            let a = arc(file, h.arcstart + 8 * j);
-            let p = a.place;
-            need = add_up(p, a.weight, last, need);
-            last = p;
-            let count = marking[p];
-            if count < need {
-                let index = k as u32;
-                let place = p as u32;
-                let amount = missing(file, h, j, need, count);
-                break 'firings Outcome::Short(index, place, amount);
+    // the label is the way out of both loops, with the index and the place of the firing that is not enabled
+    'firings: {
+        for k in done..list.len() {
+            let t = list[k] as usize;
+            let from = entry(table, 2 * t);
+            let middle = entry(table, 2 * t + 1);
+            let mut last: usize = 65536;
+            let mut need: u64 = 0;
+            for j in from..middle {
+                let a = arc(file, h.arcstart + 8 * j);
+                let p = a.place;
+                need = add_up(p, a.weight, last, need);
+                last = p;
+                let count = marking[p];
+                if count < need {
+                    let index = k as u32;
+                    let place = p as u32;
+                    let amount = missing(file, h, j, need, count);
+                    break 'firings Outcome::Short(index, place, amount);
+                }
             }
-            j += 1;
+            fire(file, h, table, t, marking);
         }
-        fire(file, h, table, t, marking);
-        k += 1;
+        Outcome::Fired
     }
 }
 
@@ -110,23 +109,26 @@ fn run_either(
     run(file, h, table, list, k, marking)
 }
 
-// Writes the initial marking of each place.
+// Writes the number that stands at every SIZE-th byte of the file from `start` on.
+fn load_each<const SIZE: usize>(file: &[u8], start: usize, marking: &mut [u64])
+    requires { (p : ℕ) → p < length marking.old → start + SIZE * p + 4 ≤ length file.now }
+    ensures { (p : ℕ) → p < length marking.old → get_or marking.new p 0 ≡ le32 file.now (start + SIZE * p) }
+{
+    for (p, count) in marking.iter_mut().enumerate() {
+        *count = file_words::get32(file, start + SIZE * p) as u64;
+    }
+}
+
+// Writes the initial marking of each place: with caps, a cap stands after each.
 fn load(file: &[u8], h: Header, marking: &mut [u64])
     requires sound { Sound file.now h }
     requires marking_len { length marking.old ≡ h.places }
     ensures { marking.new ≡ begun file.now h }
 {
-    let mut p: usize = 0;
     if h.edition == file_header::CAPS {
-        while p < h.places {
-            marking[p] = file_words::get32(file, h.markstart + 8 * p) as u64;
-            p += 1;
-        }
-        return;
-    }
-    while p < h.places {
-        marking[p] = file_words::get32(file, h.markstart + 4 * p) as u64;
-        p += 1;
+        load_each::<8>(file, h.markstart, marking);
+    } else {
+        load_each::<4>(file, h.markstart, marking);
     }
 }
 
@@ -186,7 +188,7 @@ pub fn replay_rest(
 // Replays a list that is not refused, with one entry of the marking for each place.
 fn replay_all(file: &[u8], h: Header, list: &[u16], marking: &mut [u64]) -> Outcome
     requires { Passed file.now h list.now marking.old }
-    ensures result_value { outcome_numbers result ≡ replay_told (replay_of (net_from file.now h) list.now).answer }
+    ensures result_value { ended_numbers result ≡ replay_told (replay_of (net_from file.now h) list.now).answer }
     ensures marking_after { marking.new ≡ tokens (net_from file.now h) (replay_of (net_from file.now h) list.now).marking }
 {
     let done = begin(file, h, list, marking);
@@ -196,28 +198,25 @@ fn replay_all(file: &[u8], h: Header, list: &[u16], marking: &mut [u64]) -> Outc
     replay_rest(file, h, list, done, marking)
 }
 
-// Checks the list, then the room for the marking: 0, 11, 12 or 13.
-pub fn held_back(h: Header, list: &[u16], room: usize) -> u32
+// Checks the list, then the room for the marking: 11, 12 or 13.
+pub fn check(h: Header, list: &[u16], room: usize) -> Result<(), Refusal>
     requires { h.transitions ≤ 1024 }
-    ensures { result ≡ held_back h list.now room }
+    ensures { refusal_number result ≡ held_back h list.now room }
 {
-    let listed = inputs_lists::refusal(h.transitions, list);
-    if listed != 0 {
-        return listed;
+    inputs_lists::check(h.transitions, list)?;
+    if room < h.places {
+        return Err(Refusal::Buffer);
     }
-    inputs_lists::refuse(room < h.places, 13, 0)
+    Ok(())
 }
 
 // Replays the list from the initial marking. The first entries of `marking` get the marking that it ends with, and the others are kept.
-pub fn replay(file: &[u8], h: Header, list: &[u16], marking: &mut [u64]) -> Outcome
+pub fn replay(file: &[u8], h: Header, list: &[u16], marking: &mut [u64]) -> Result<Outcome, Refusal>
     requires { Sound file.now h }
     ensures answer { outcome_numbers result ≡ replay_or (held_back h list.now (length marking.old)) (replay_of (net_from file.now h) list.now).answer }
     ensures marking { marking.new ≡ written (held_back h list.now (length marking.old)) (tokens (net_from file.now h) (replay_of (net_from file.now h) list.now).marking) marking.old }
 {
-    let refused = held_back(h, list, marking.len());
-    if refused != 0 {
-        return Outcome::Refused(refused);
-    }
+    check(h, list, marking.len())?;
     let places = h.places;
-    replay_all(file, h, list, &mut marking[..places])
+    Ok(replay_all(file, h, list, &mut marking[..places]))
 }

@@ -1,5 +1,4 @@
 pub mod Signs
-pub mod Filling
 pub mod Moving
 pub mod Marching
 pub mod Fitting

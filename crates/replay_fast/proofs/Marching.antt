@@ -29,10 +29,10 @@ pub record Step (s : List ℕ) (h : Header) (ts was is : List ℕ) (k from to : 
 
 -- the arcs of t, in a table by slots, and in one by transitions
 module _ {s : List ℕ} {h : Header} {table m : List ℕ} {t from to : ℕ} (known : t < h.transitions) where
-  pub by_slots : Ready s h table m → from ≡ get_or table (2 * t) 0 → to ≡ get_or table (2 * t + 2) 0 → Stretch s h t from to
+  by_slots : Ready s h table m → from ≡ get_or table (2 * t) 0 → to ≡ get_or table (2 * t + 2) 0 → Stretch s h t from to
   by_slots r p q = record { bytes = r.bytes; sound = r.sound; start = split_by r (2 * t) (omega arith) p; end = split_by r (2 * t + 2) (omega arith) q }
 
-  pub by_transitions : Indexed s h table m → from ≡ get_or table t 0 → to ≡ get_or table (t + 1) 0 → Stretch s h t from to
+  by_transitions : Indexed s h table m → from ≡ get_or table t 0 → to ≡ get_or table (t + 1) 0 → Stretch s h t from to
   by_transitions r p q =
       let next : 2 * (t + 1) ≡ 2 * t + 2 = omega arith in
       record {
@@ -143,5 +143,13 @@ module _ {s : List ℕ} {h : Header} {ts was is : List ℕ} {k : ℕ} (places : 
         unfolding fire
         next w = fired_on_lem x l run.sound run.bytes (able w) (record { long = y.moved.long; at = fired_at_lem })
 
-    pub step : Step s h ts was is k from to
+    step : Step s h ts was is k from to
     step = record { shifting = can_shift; undoing = λ is' v y. can_back y.moved (rises run) (omega arith); undone = λ is' is'' v y z. undone y.moved z; leaving = λ r a b is' y. can_back y (omega arith) (omega arith); left = λ r is' is'' y z. undone y z; fits = λ is' v y n r. fits y n r; fired = λ is' v y n w. next y n w }
+
+-- a firing of the transition that is listed at k, in each table
+module _ {s : List ℕ} {h : Header} {table ts was is : List ℕ} {k t from to : ℕ} (x : Underway s h ts was is k) (l : k < length ts) (e : t ≡ get_or ts k 0) where
+  pub step_by_slots : Ready s h table was → from ≡ get_or table (2 * t) 0 → to ≡ get_or table (2 * t + 2) 0 → Step s h ts was is k from to
+  step_by_slots r p q = step r.places x l (subst (λ (u : ℕ). Stretch s h u from to) e (by_slots (omega (arith, e, x.listed.known k l)) r p q))
+
+  pub step_by_transitions : Indexed s h table was → from ≡ get_or table t 0 → to ≡ get_or table (t + 1) 0 → Step s h ts was is k from to
+  step_by_transitions r p q = step r.places x l (subst (λ (u : ℕ). Stretch s h u from to) e (by_transitions (omega (arith, e, x.listed.known k l)) r p q))

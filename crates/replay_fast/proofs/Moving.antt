@@ -1,7 +1,7 @@
 -- What an arc does to the entry of its place, and what those of a run of arcs do to all.
-use Rattle.std.proofs.Common.{◌≡◌, ℕ, ◌+◌, ◌*◌, ◌%◌, ◌^◌, ◌<◌, ◌≤◌, List, length, get_or, set, sym, refl, ap, ◌∙◌, subst, arith, length-set, get_or-set_other, get_or-set_same, set-set}
+use Rattle.std.proofs.Common.{◌≡◌, ℕ, ◌+◌, ◌-◌, ◌*◌, ◌%◌, ◌^◌, ◌<◌, ◌≤◌, List, length, get_or, set, sym, refl, ap, ◌∙◌, subst, arith, length-set, get_or-set_other, get_or-set_same, set-set}
 use native.Mathlib.Decide.{ℕ_discrete}
-use lib.Bits.{bit_or}
+use lib.Bits.{bit_or, or_add_and}
 use lib.Seq.{set-get_or}
 use Rattle.net.specs.declared.Arc.{Arc}
 use Rattle.file_arcs.specs.Layout.{arc_at}
@@ -11,13 +11,18 @@ use Rattle.file_words.proofs.Bytes.{le16-lt}
 use Rattle.arcs_column.specs.Ways.{place_at, share, sum_on}
 use Rattle.file.proofs.Rows.{good_at}
 use Rattle.arcs_column.proofs.Ways.{sum_next, sum-rises, share-here, share-against, share-elsewhere}
-use Rattle.replay_fast.specs.Moves.{change_of, Weighs, Signed, change_at, MovesOf, lift, lift_at, Movable, Moved, Whole, Shifted}
+use Rattle.replay_fast.specs.Moves.{change_of, Weighs, Signed, change_at, MovesOf, lift, lift_at, Movable, Moved, Whole}
 use Rattle.replay_fast.proofs.Signs.{takes_is, gives_is, add-takes, add-gives, sub-takes, sub-gives, all-was, all-now}
 
 -- ---- the number in the table is what the arc adds
 
-pub change_is : {s : List ℕ} {h : Header} {places changes : List ℕ} → MovesOf s h places changes → {j c : ℕ} → j < h.arcs → Signed (get_or changes j 0) c → Signed (change_at s h.arcstart j) c
-change_is mv {j} {c} l = subst (λ (k : ℕ). Signed k c) (mv.change j l)
+module _ {s : List ℕ} {h : Header} {places changes : List ℕ} (mv : MovesOf s h places changes) {from to : ℕ} {was : List ℕ} (can : Movable s h from to was) (j : ℕ) (l : j < to) where
+  pub change_is : {c : ℕ} → Signed (get_or changes j 0) c → Signed (change_at s h.arcstart j) c
+  change_is {c} = subst (λ (k : ℕ). Signed k c) (mv.change j (omega (arith, can.within)))
+
+  -- and so is the place
+  pub place_is : {p : ℕ} → p ≡ get_or places j 0 → p ≡ place_at s h.arcstart j
+  place_is e = e ∙ mv.place j (omega (arith, can.within))
 
 -- ---- the arcs from `from` to j of those from..to
 
@@ -28,9 +33,6 @@ pub record Moving (d g : ℕ) (s : List ℕ) (start from j : ℕ) (was is : List
 module _ {d g : ℕ} {s : List ℕ} {start from : ℕ} {was : List ℕ} where
   pub moving_none : ((p : ℕ) → get_or was p 0 < 18446744073709551616) → Moving d g s start from from was was
   moving_none fits = record { rising = omega arith; moved = record { long = refl; at = λ p l. omega arith; fits = fits } }
-
-  pub moving_end : {j to : ℕ} {is : List ℕ} → j ≤ to → to ≤ j → Moving d g s start from j was is → Moved d g s start from to was is
-  moving_end {j} {to} {is} l u x = let e : j ≡ to = omega arith in subst (λ (k : ℕ). Moved d g s start from k was is) e x.moved
 
 module _ {s : List ℕ} {h : Header} {from to : ℕ} {was : List ℕ} (can : Movable s h from to was) (j : ℕ) (l : j < to) where
   abbrev a : Arc
@@ -49,13 +51,10 @@ module _ {s : List ℕ} {h : Header} {from to : ℕ} {was : List ℕ} (can : Mov
   pub place-known : place_at s h.arcstart j < length was
   place-known = omega (arith, good.place, can.held)
 
-  pub place_inside : {p n : ℕ} → p ≡ place_at s h.arcstart j → n ≡ length was → (p < n) × (p < 1024)
-  place_inside e long = (omega (arith, e, place-known, long), omega (arith, e, place-known, can.held, can.sound.placed.places))
+  pub place_inside : {p n : ℕ} → p ≡ place_at s h.arcstart j → n ≡ length was → p < n
+  place_inside e long = omega (arith, e, place-known, long)
 
   -- the arc as it is read from the file
-  pub arc-inside : h.arcstart + 8 * j + 8 ≤ length s
-  arc-inside = let p = can.sound.placed in omega (arith, can.within, p.arcs_fit, p.origins_fit)
-
   module _ {b : Arc} (e : b ≡ arc_at s (h.arcstart + 8 * j)) where
     pub read_weighs : Weighs b.weight
     read_weighs = subst (λ (o : Arc). Weighs o.weight) (sym e) weighs
@@ -122,10 +121,12 @@ module _ {s : List ℕ} {h : Header} {from to : ℕ} {was : List ℕ} (can : Mov
             omega (arith, sub-gives v (get_or is q 0) a.weight c (gives z) weighs.below (room_low x q place-known) e, share-against a 0 q z, share-here a 1 (omega (arith, good.direction, z)))
 
     -- one arc more
-    pub back_more : {is : List ℕ} → Moving 1 0 s h.arcstart from j was is → {p : ℕ} → p ≡ place_at s h.arcstart j → (v : ℕ) → v < 18446744073709551616 → (v + c) % 2 ^ 64 ≡ get_or is p 0 → Moving 1 0 s h.arcstart from (j + 1) was (set is p v)
-    back_more {is} x f v fits e =
-        subst (λ (k : ℕ). Moving 1 0 s h.arcstart from (j + 1) was (set is k v)) (sym f)
-        (moving_more x v fits (sub-turns x v (e ∙ ap (λ (k : ℕ). get_or is k 0) f)))
+    pub back_more : {is : List ℕ} → Moving 1 0 s h.arcstart from j was is → {p : ℕ} → p ≡ place_at s h.arcstart j → c < 18446744073709551616
+        → Moving 1 0 s h.arcstart from (j + 1) was (set is p ((get_or is p 0 + (18446744073709551616 - c)) % 18446744073709551616))
+    back_more {is} x f small =
+        let v = (get_or is q 0 + (18446744073709551616 - c)) % 18446744073709551616 in
+        subst (λ (k : ℕ). Moving 1 0 s h.arcstart from (j + 1) was (set is k ((get_or is k 0 + (18446744073709551616 - c)) % 18446744073709551616))) (sym f)
+        (moving_more x v (omega arith) (sub-turns x v (omega (arith, small, x.moved.fits q))))
 
 -- ---- forwards, with bit 63 of all the entries met
 
@@ -136,14 +137,9 @@ pub record Shifting (s : List ℕ) (start from j : ℕ) (was is : List ℕ) (r :
 pub shifting_none : {s : List ℕ} {start from : ℕ} {was : List ℕ} → ((p : ℕ) → get_or was p 0 < 18446744073709551616) → Shifting s start from from was was 0
 shifting_none fits = record { moving = moving_none fits; enough = λ n whole p l. omega (arith, whole p l) }
 
-pub shifting_end : {s : List ℕ} {start from j to : ℕ} {was is : List ℕ} {r : ℕ} → j ≤ to → to ≤ j → Shifting s start from j was is r → Shifted s start from to was is r
-shifting_end {s} {start} {from} {j} {to} {was} {is} {r} l u x =
-    let e : j ≡ to = omega arith in
-    record { moved = moving_end l u x.moving; enough = λ n whole p m. subst (λ (k : ℕ). 9223372036854775808 + sum_on 0 s start p k ≤ lift_at was p + sum_on 0 s start p from) e (x.enough n whole p m) }
-
 -- where bit 63 was 0 so far, nothing is to be remembered of it
-pub shifting_clear : {s : List ℕ} {start from j : ℕ} {was is : List ℕ} {r : ℕ} → r < 9223372036854775808 → Shifting s start from j was is r → Shifting s start from j was is 0
-shifting_clear n x = record { moving = x.moving; enough = λ z. x.enough n }
+pub shifting_clear : {s : List ℕ} {start from j : ℕ} {was is : List ℕ} (v : ℕ) → v < 9223372036854775808 → Shifting s start from j was is (bit_or 0 v) → Shifting s start from j was is 0
+shifting_clear v n x = record { moving = x.moving; enough = λ z. x.enough (omega (arith, or_add_and 0 v, n)) }
 
 module _ {s : List ℕ} {h : Header} {from to : ℕ} {was : List ℕ} (can : Movable s h from to was) (j : ℕ) (l : j < to) {is : List ℕ} {r : ℕ} (x : Shifting s h.arcstart from j was is r)
     {c : ℕ} (y : Signed (change_at s h.arcstart j) c) (v : ℕ) (fits : v < 18446744073709551616) (e : v ≡ (get_or is (place_at s h.arcstart j) 0 + c) % 2 ^ 64) where
@@ -175,10 +171,11 @@ module _ {s : List ℕ} {h : Header} {from to : ℕ} {was : List ℕ} (can : Mov
   }
 
 module _ {s : List ℕ} {h : Header} {from to : ℕ} {was : List ℕ} (can : Movable s h from to was) (j : ℕ) (l : j < to) {is : List ℕ} {r : ℕ} (x : Shifting s h.arcstart from j was is r) {c : ℕ} (y : Signed (change_at s h.arcstart j) c) where
-  pub shifting_more : {p : ℕ} → p ≡ place_at s h.arcstart j → (v : ℕ) → v < 18446744073709551616 → v ≡ (get_or is p 0 + c) % 2 ^ 64 → Shifting s h.arcstart from (j + 1) was (set is p v) (bit_or r v)
-  shifting_more f v fits e =
-      subst (λ (k : ℕ). Shifting s h.arcstart from (j + 1) was (set is k v) (bit_or r v)) (sym f)
-      (shifting_next can j l x y v fits (e ∙ ap (λ (k : ℕ). (get_or is k 0 + c) % 2 ^ 64) f))
+  pub shifting_more : {p : ℕ} → p ≡ place_at s h.arcstart j
+      → Shifting s h.arcstart from (j + 1) was (set is p ((get_or is p 0 + c) % 18446744073709551616)) (bit_or r ((get_or is p 0 + c) % 18446744073709551616))
+  shifting_more f =
+      subst (λ (k : ℕ). Shifting s h.arcstart from (j + 1) was (set is k ((get_or is k 0 + c) % 18446744073709551616)) (bit_or r ((get_or is k 0 + c) % 18446744073709551616))) (sym f)
+      (shifting_next can j l x y ((get_or is (place_at s h.arcstart j) 0 + c) % 18446744073709551616) (omega arith) refl)
 
 -- ---- the same with the entry v of p in hand, whatever m has there
 
@@ -208,11 +205,12 @@ module _ {s : List ℕ} {start from j : ℕ} {was m : List ℕ} {p v r : ℕ} (x
 
 -- one arc more at p
 pub holding_more : {s : List ℕ} {h : Header} {from to : ℕ} {was : List ℕ} → Movable s h from to was → {j : ℕ} → j < to → {m : List ℕ} {p v r : ℕ} → Holding s h.arcstart from j was m p v r
-    → {c : ℕ} → Signed (change_at s h.arcstart j) c → p ≡ place_at s h.arcstart j → (w : ℕ) → w < 18446744073709551616 → w ≡ (v + c) % 2 ^ 64 → Holding s h.arcstart from (j + 1) was m p w (bit_or r w)
-holding_more {s} {h} {from} {to} {was} can {j} l {m} {p} {v} {r} x {c} y f w fits e = record {
+    → {c : ℕ} → Signed (change_at s h.arcstart j) c → p ≡ place_at s h.arcstart j → Holding s h.arcstart from (j + 1) was m p ((v + c) % 18446744073709551616) (bit_or r ((v + c) % 18446744073709551616))
+holding_more {s} {h} {from} {to} {was} can {j} l {m} {p} {v} {r} x {c} y f = record {
   known = x.known;
   shifting =
       let held : get_or (set m p v) p 0 ≡ v = get_or-set_same m p v 0 (omega (arith, x.known, holding_long x)) in
-      subst (λ (k : List ℕ). Shifting s h.arcstart from (j + 1) was k (bit_or r w)) (set-set m p v w)
-      (shifting_more can j l x.shifting y f w fits (e ∙ ap (λ (k : ℕ). (k + c) % 2 ^ 64) (sym held)));
+      subst (λ (u : ℕ). Shifting s h.arcstart from (j + 1) was (set m p ((u + c) % 18446744073709551616)) (bit_or r ((u + c) % 18446744073709551616))) held
+      (subst (λ (k : List ℕ). Shifting s h.arcstart from (j + 1) was k (bit_or r ((get_or (set m p v) p 0 + c) % 18446744073709551616))) (set-set m p v ((get_or (set m p v) p 0 + c) % 18446744073709551616))
+      (shifting_more can j l x.shifting y f));
 }

@@ -1,31 +1,7 @@
 -- Numbers of 32 bits with a sign, and entries that wrap.
-use Rattle.std.proofs.Common.{◌≡◌, ℕ, ◌+◌, ◌-◌, ◌*◌, ◌%◌, ◌^◌, ◌<◌, ◌≤◌, ap, ◌∙◌, arith, eq-eqb, ne_eqb}
-use lib.Bits.{bit_or, bit_xor, xor_comm, xor_shifted, xor_block, xor_self, xor_zero_r, or_add_and, and_le_l, and_le_r}
+use Rattle.std.proofs.Common.{◌≡◌, ℕ, ◌+◌, ◌-◌, ◌%◌, ◌^◌, ◌<◌, ◌≤◌, arith, eq-eqb, ne_eqb}
+use lib.Bits.{bit_or, or_add_and, and_le_l, and_le_r}
 use Rattle.replay_fast.specs.Moves.{change_of, Weighs, Signed, lift}
-
--- ---- bit 31 turned round
-
-flip_low : (c : ℕ) → c < 2147483648 → bit_xor c 2147483648 ≡ 2147483648 + c
-flip_low c l =
-    let e : bit_xor 2147483648 c ≡ 2147483648 + c = xor_shifted 1 31 c l in
-    xor_comm c 2147483648 ∙ e
-
-flip_high : (r : ℕ) → r < 2147483648 → bit_xor (1 * 2 ^ 31 + r) 2147483648 ≡ r
-flip_high r l =
-    let e : bit_xor (1 * 2 ^ 31 + r) 2147483648 ≡ bit_xor 1 1 * 2 ^ 31 + bit_xor r 0 = xor_block 31 1 1 r 0 l (omega arith) in
-    omega (arith, e, xor_self 1, xor_zero_r r)
-
-pub signed_is : (c r : ℕ) → c < 4294967296 → r < 18446744073709551616 → (r + 2147483648) % 2 ^ 64 ≡ bit_xor c 2147483648 → Signed c r
-signed_is c r small fits e = record {
-  gives = λ l. omega (arith, fits, e, flip_low c l);
-  takes = λ l.
-      let k = c - 2147483648 in
-      let f : bit_xor c 2147483648 ≡ k = ap (λ (x : ℕ). bit_xor x 2147483648) (split l) ∙ flip_high k (omega (arith, small)) in
-      omega (arith, small, fits, e, f, l);
-}
-  where
-    split : 2147483648 ≤ c → c ≡ 1 * 2 ^ 31 + (c - 2147483648)
-    split l = omega (arith, l)
 
 -- ---- what an arc adds
 

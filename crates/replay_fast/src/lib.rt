@@ -4,6 +4,9 @@
 // For a long list two tables say of each arc which place it is at and what it adds to it; for a short one the arcs are read from the file.
 ghost use Rattle.std.specs.Prelude.{◌≡◌, ◌-◌, ◌<◌, ◌≤◌, length, ◌==◌};
 ghost use Rattle.net.specs.Net.{counted};
+ghost use Rattle.std.specs.Prelude.{false};
+ghost use Rattle.net.specs.Net.{Uncapped};
+ghost use Rattle.file.specs.Layout.{net_from};
 ghost use Rattle.file.specs.Facts.{Sound};
 ghost use Rattle.replay_steps.specs.Steps.{Ready, Plain, Listed, Underway};
 ghost use Rattle.replay_fast.specs.Moves.{change_of, Weighs, Signed, Readable, MovesOf, Movable, Shifted, Stopped, Moved, Roomy, repeats_to, Indexed};
@@ -18,16 +21,17 @@ fn change_of(direction: usize, weight: usize) -> u32
     ensures { result ≡ change_of direction weight }
 {
     if direction == 0 {
-        return (4294967296 - weight) as u32;
+        (4294967296 - weight) as u32
+    } else {
+        weight as u32
     }
-    weight as u32
 }
 
 // The same modulo 2^64: bit 31 is the sign. Written so, it is one instruction.
 fn signed(change: u32) -> u64
     ensures { Signed change result }
 {
-    std::num::wrapping_sub_u64((change ^ 2147483648) as u64, 2147483648)
+    u64::from(change ^ 2147483648).wrapping_sub(2147483648)
 }
 
 // What an arc adds to its place, modulo 2^64, in one step.
@@ -37,9 +41,10 @@ fn added(direction: usize, weight: usize) -> u64
 {
     let w = weight as u64;
     if direction == 0 {
-        return std::num::wrapping_sub_u64(0, w);
+        0u64.wrapping_sub(w)
+    } else {
+        w
     }
-    w
 }
 
 // Writes the place of each arc, and what it adds.
@@ -47,14 +52,11 @@ fn moves_of(file: &[u8], h: Header, places: &mut [u16], changes: &mut [u32])
     requires { Readable file.now h places.old changes.old }
     ensures { MovesOf file.now h places.new changes.new }
 {
-    let arcs = h.arcs;
     let start = h.arcstart;
-    let mut j: usize = 0;
-    while j < arcs {
+    for j in 0..h.arcs {
         let a = arc(file, start + 8 * j);
         places[j] = a.place as u16;
         changes[j] = change_of(a.direction, a.weight);
-        j += 1;
     }
 }
 
@@ -72,18 +74,16 @@ fn shift(
     requires moves_of { MovesOf file.now h places.now changes.now }
     ensures { Stopped file.now h.arcstart from to marking.old marking.new result }
 {
-    let mut j = from;
-    while j < to {
+    for j in from..to {
         let p = entry(places, j);
         let c = signed(changes[j]);
-        let value = std::num::wrapping_add_u64(marking[p], c);
+        let value = marking[p].wrapping_add(c);
         marking[p] = value;
         if 9223372036854775808 <= value {
             return j;
         }
-        j += 1;
     }
-    j
+    to
 }
 
 // Changes each place by the arcs from `from` to `to`, with the place's entry in hand while they are at the same place. Bit 63 of the answer is 1 if that of an entry was after one of them.
@@ -106,8 +106,7 @@ fn shift_joined(
     let mut p = entry(places, from);
     let mut value = marking[p];
     let mut all: u64 = 0;
-    let mut j = from;
-    while j < to {
+    for j in from..to {
         let q = entry(places, j);
         if q != p {
             marking[p] = value;
@@ -115,9 +114,8 @@ fn shift_joined(
             value = marking[q];
         }
         let c = signed(changes[j]);
-        value = std::num::wrapping_add_u64(value, c);
-        all = all | value;
-        j += 1;
+        value = value.wrapping_add(c);
+        all |= value;
     }
     marking[p] = value;
     all
@@ -137,12 +135,10 @@ fn back(
     requires moves_of { MovesOf file.now h places.now changes.now }
     ensures { Moved 1 0 file.now h.arcstart from to marking.old marking.new }
 {
-    let mut j = from;
-    while j < to {
+    for j in from..to {
         let p = entry(places, j);
         let c = signed(changes[j]);
-        marking[p] = std::num::wrapping_sub_u64(marking[p], c);
-        j += 1;
+        marking[p] = marking[p].wrapping_sub(c);
     }
 }
 
@@ -161,10 +157,8 @@ fn march(
     requires moves_of { MovesOf file.now h places.now changes.now }
     ensures { Underway file.now h list.now marking.old marking.new result }
 {
-    let count = list.len();
-    let mut k: usize = 0;
-    while k < count {
-        let t = list[k] as usize;
+    for (k, t) in list.iter().enumerate() {
+        let t = usize::from(*t);
         let from = entry(table, 2 * t);
         let to = entry(table, 2 * t + 2);
         let r = shift(file, h, places, changes, from, to, marking);
@@ -172,39 +166,8 @@ fn march(
             back(file, h, places, changes, from, r + 1, marking);
             return k;
         }
-        k += 1;
     }
-    k
-}
-
-// Fires as `march` does, with the place's entry in hand.
-fn march_joined(
-    file: &[u8],
-    h: Header,
-    places: &[u16],
-    changes: &[u32],
-    table: &[u16],
-    list: &[u16],
-    marking: &mut [u64],
-) -> usize
-    requires plain { Plain file.now h table.now marking.old }
-    requires listed { Listed file.now h list.now marking.old }
-    requires moves_of { MovesOf file.now h places.now changes.now }
-    ensures { Underway file.now h list.now marking.old marking.new result }
-{
-    let count = list.len();
-    let mut k: usize = 0;
-    while k < count {
-        let t = list[k] as usize;
-        let from = entry(table, 2 * t);
-        let to = entry(table, 2 * t + 2);
-        if 9223372036854775808 <= shift_joined(file, h, places, changes, from, to, marking) {
-            back(file, h, places, changes, from, to, marking);
-            return k;
-        }
-        k += 1;
-    }
-    k
+    list.len()
 }
 
 // Bit 63 is 1 where a place that has a cap has more tokens. Both numbers are made, so that there is no branch on which places have one.
@@ -212,7 +175,7 @@ fn excess(cap: usize, count: u64) -> u64
     requires { cap < 4294967296 }
     ensures { result < 9223372036854775808 → count < 9223372036854775808 → 0 < cap → count ≤ cap }
 {
-    let room = std::num::wrapping_sub_u64(cap as u64, count);
+    let room = (cap as u64).wrapping_sub(count);
     if cap == 0 { 0 } else { room }
 }
 
@@ -232,21 +195,19 @@ fn shift_capped(
     ensures roomy { result < 9223372036854775808 → Roomy file.now h from to marking.new }
 {
     let mut all: u64 = 0;
-    let mut j = from;
-    while j < to {
+    for j in from..to {
         let p = entry(places, j);
         let c = signed(changes[j]);
-        let value = std::num::wrapping_add_u64(marking[p], c);
+        let value = marking[p].wrapping_add(c);
         marking[p] = value;
         let over = excess(file::cap(file, h, p), value);
         all = all | value | over;
-        j += 1;
     }
     all
 }
 
-// Fires as `march` does, in a net that may have caps: it stops at a place that would be full, too.
-fn march_capped(
+// Fires as `march` does, by whole firings: with the place's entry in hand, or, where the net may have caps, stopping at a place that would be full, too.
+fn march_whole<const CAPPED: bool>(
     file: &[u8],
     h: Header,
     places: &[u16],
@@ -256,33 +217,26 @@ fn march_capped(
     marking: &mut [u64],
 ) -> usize
     requires ready { Ready file.now h table.now marking.old }
+    requires uncapped { CAPPED ≡ false → Uncapped (net_from file.now h) }
     requires listed { Listed file.now h list.now marking.old }
     requires moves_of { MovesOf file.now h places.now changes.now }
     ensures { Underway file.now h list.now marking.old marking.new result }
 {
-    let count = list.len();
-    let mut k: usize = 0;
-    while k < count {
-        let t = list[k] as usize;
+    for (k, t) in list.iter().enumerate() {
+        let t = usize::from(*t);
         let from = entry(table, 2 * t);
         let to = entry(table, 2 * t + 2);
-        if 9223372036854775808 <= shift_capped(file, h, places, changes, from, to, marking) {
+        let signs = if CAPPED {
+            shift_capped(file, h, places, changes, from, to, marking)
+        } else {
+            shift_joined(file, h, places, changes, from, to, marking)
+        };
+        if 9223372036854775808 <= signs {
             back(file, h, places, changes, from, to, marking);
             return k;
         }
-        k += 1;
     }
-    k
-}
-
-// 1 where the two are the same, else 0.
-fn same(a: usize, b: usize) -> usize
-    ensures { (result ≡ counted (a == b) 1) × (result ≤ 1) }
-{
-    if a == b {
-        return 1;
-    }
-    0
+    list.len()
 }
 
 // How many of the first `count` entries are as the one before.
@@ -290,16 +244,16 @@ fn repeats(places: &[u16], count: usize) -> usize
     requires { count ≤ length places.now }
     ensures { (result ≡ repeats_to places.now (count - 1)) × (result ≤ count) }
 {
-    let mut n: usize = 0;
-    let mut j: usize = 1;
-    while j < count {
-        n += same(entry(places, j), entry(places, j - 1));
-        j += 1;
+    let mut n = 0;
+    for j in 1..count {
+        if places[j] == places[j - 1] {
+            n += 1;
+        }
     }
     n
 }
 
-// Fires as `march` does; by `march_joined` where most arcs are at the place of the one before, as each sum of `shift` would wait there for the store before it.
+// Fires as `march` does; with the entry in hand where most arcs are at the place of the one before, as each sum of `shift` would wait there for the store before it.
 fn march_either(
     file: &[u8],
     h: Header,
@@ -316,9 +270,32 @@ fn march_either(
 {
     let n = repeats(places, h.arcs);
     if h.arcs < 2 * n {
-        return march_joined(file, h, places, changes, table, list, marking);
+        return march_whole::<false>(file, h, places, changes, table, list, marking);
     }
     march(file, h, places, changes, table, list, marking)
+}
+
+// Fires as `ahead` does, by tables for N arcs. It is made a part of its caller.
+#[inline(always)]
+fn ahead_by<const N: usize>(
+    file: &[u8],
+    h: Header,
+    table: &[u16],
+    list: &[u16],
+    marking: &mut [u64],
+) -> usize
+    requires ready { Ready file.now h table.now marking.old }
+    requires listed { Listed file.now h list.now marking.old }
+    requires room { (h.arcs ≤ N) × (N ≤ 4096) }
+    ensures { Underway file.now h list.now marking.old marking.new result }
+{
+    let mut places = [0u16; N];
+    let mut changes = [0u32; N];
+    moves_of(file, h, &mut places, &mut changes);
+    if file::has_caps(file, h) {
+        return march_whole::<true>(file, h, &places, &changes, table, list, marking);
+    }
+    march_either(file, h, &places, &changes, table, list, marking)
 }
 
 // Fires the listed transitions in turn, and answers how many. It stops where one is not enabled; a short list it leaves alone.
@@ -330,50 +307,29 @@ pub fn ahead(file: &[u8], h: Header, table: &[u16], list: &[u16], marking: &mut 
     if list.len() < 64 {
         return 0;
     }
-    let capped = file::has_caps(file, h);
     if h.arcs <= MIDDLE_ARCS {
-        let mut places = [0u16; MIDDLE_ARCS];
-        let mut changes = [0u32; MIDDLE_ARCS];
-        moves_of(file, h, &mut places, &mut changes);
-        if capped {
-            return march_capped(file, h, &places, &changes, table, list, marking);
-        }
-        return march_either(file, h, &places, &changes, table, list, marking);
+        return ahead_by::<MIDDLE_ARCS>(file, h, table, list, marking);
     }
-    let mut places = [0u16; LARGE_ARCS];
-    let mut changes = [0u32; LARGE_ARCS];
-    moves_of(file, h, &mut places, &mut changes);
-    if capped {
-        return march_capped(file, h, &places, &changes, table, list, marking);
-    }
-    march_either(file, h, &places, &changes, table, list, marking)
+    ahead_by::<LARGE_ARCS>(file, h, table, list, marking)
 }
 
-// Changes each place by the arcs from `from` to `to`, read from the file: the inputs, which stand first, then the outputs. Bit 63 of the answer is 1 if that of an entry was after an input.
+// Changes each place by the arcs from `from` to `to`, read from the file. Bit 63 of the answer is 1 if that of an entry was after an input.
 fn shift_read(file: &[u8], h: Header, from: usize, to: usize, marking: &mut [u64]) -> u64
     requires { Movable file.now h from to marking.old }
     ensures { Shifted file.now h.arcstart from to marking.old marking.new result }
 {
     let start = h.arcstart;
     let mut all: u64 = 0;
-    let mut j = from;
-    while j < to {
+    for j in from..to {
         let a = arc(file, start + 8 * j);
-        if a.direction != 0 {
-            break;
+        let p = a.place;
+        if a.direction == 0 {
+            let value = marking[p].wrapping_sub(a.weight as u64);
+            marking[p] = value;
+            all |= value;
+        } else {
+            marking[p] = marking[p].wrapping_add(a.weight as u64);
         }
-        let p = a.place;
-        let value = std::num::wrapping_sub_u64(marking[p], a.weight as u64);
-        marking[p] = value;
-        all = all | value;
-        j += 1;
-    }
-    while j < to {
-        let a = arc(file, start + 8 * j);
-        let p = a.place;
-        let value = std::num::wrapping_add_u64(marking[p], a.weight as u64);
-        marking[p] = value;
-        j += 1;
     }
     all
 }
@@ -384,14 +340,11 @@ fn back_read(file: &[u8], h: Header, from: usize, to: usize, marking: &mut [u64]
     ensures { Moved 1 0 file.now h.arcstart from to marking.old marking.new }
 {
     let start = h.arcstart;
-    let mut j = from;
-    while j < to {
+    for j in from..to {
         let a = arc(file, start + 8 * j);
         let p = a.place;
         let c = added(a.direction, a.weight);
-        let value = std::num::wrapping_sub_u64(marking[p], c);
-        marking[p] = value;
-        j += 1;
+        marking[p] = marking[p].wrapping_sub(c);
     }
 }
 
@@ -401,19 +354,16 @@ fn march_read(file: &[u8], h: Header, table: &[u16], list: &[u16], marking: &mut
     requires listed { Listed file.now h list.now marking.old }
     ensures { Underway file.now h list.now marking.old marking.new result }
 {
-    let count = list.len();
-    let mut k: usize = 0;
-    while k < count {
-        let t = list[k] as usize;
+    for (k, t) in list.iter().enumerate() {
+        let t = usize::from(*t);
         let from = entry(table, t);
         let to = entry(table, t + 1);
         if 9223372036854775808 <= shift_read(file, h, from, to, marking) {
             back_read(file, h, from, to, marking);
             return k;
         }
-        k += 1;
     }
-    k
+    list.len()
 }
 
 // Fires a short list on a small net without caps, as `ahead` does a long one; of any other list or net it does none.

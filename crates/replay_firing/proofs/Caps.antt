@@ -2,6 +2,7 @@
 use Prim.Native.Nat.{ℕ, ◌+◌, ◌*◌, ◌-◌, ◌<◌, ◌≤◌}
 use mathlib.Core.Path.{◌≡◌, ap, sym, ◌∙◌, subst}
 use mathlib.Core.List.{List}
+use Rattle.std.proofs.Common.{None}
 use native.Mathlib.Omega.{arith}
 use native.Mathlib.Decide.{dec_lt, ℕ_discrete}
 use borrow.Author.Tests.{lt-ltb, eq-eqb, ne_eqb}
@@ -22,7 +23,6 @@ use Rattle.arcs_column.proofs.Arcs.{has_arc, joins-in, in_joins}
 use Rattle.replay_steps.specs.Steps.{held, Ready}
 use Rattle.replay_steps.proofs.Underway.{split_by}
 use Rattle.replay_firing.specs.Firing.{Left, excess_over, Overfull, FullFound}
-use Rattle.replay_firing.specs.declared.Found.TheVariants.{Nowhere}
 
 -- the place of arc i of the file
 abbrev place_of : List ℕ → Header → ℕ → ℕ
@@ -111,7 +111,7 @@ module _ {s : List ℕ} {h : Header} {t from to : ℕ} {m : List ℕ} {j : ℕ} 
         (subst (λ (p : ℕ). excess_over ((net_from s h).cap p) (get_or m p 0) ≡ 0) e (c.within i a b))
         (cap_above (net_from s h) q k)
 
-  pub fits_all : to ≤ j → FullFound (net_from s h) t (held m) Nowhere
+  pub fits_all : to ≤ j → FullFound (net_from s h) t (held m) None
   fits_all l q o k = let a = arc-of q o k in fits_before q o k a.0 a.1 (omega (arith, a.2)) a.3
 
   module _ (l : j < to) where

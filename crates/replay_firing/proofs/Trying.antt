@@ -1,7 +1,8 @@
 -- A firing that is tried: done where it leaves no place above its cap, else undone.
 use Prim.Native.Nat.{ℕ, ◌*◌, ◌<◌, ◌≤◌}
-use mathlib.Core.Path.{◌≡◌, sym, subst, subst⁻¹, ◌∙◌}
+use mathlib.Core.Path.{◌≡◌, sym, ◌∙◌}
 use mathlib.Core.List.{List}
+use Rattle.std.proofs.Common.{None, Some}
 use native.Mathlib.Omega.{arith}
 use native.Mathlib.Decide.{dec_lt}
 use lib.Dec.{T}
@@ -13,8 +14,7 @@ use Rattle.file_header.specs.declared.Header.{Header}
 use Rattle.file_arcs.proofs.Rows.{weight_le}
 use Rattle.replay_steps.specs.Steps.{held, Ready, Holds}
 use Rattle.replay_firing.specs.Firing.{Firable, Left, unfired, Overfull, FullFound, Filled}
-use Rattle.replay_firing.specs.declared.Found.{Found}
-use Rattle.replay_firing.specs.declared.Found.TheVariants.{Nowhere, At}
+use Rattle.replay_firing.specs.declared.Excess.{Excess}
 
 module _ {s : List ℕ} {h : Header} {table m : List ℕ} (r : Ready s h table m) {t : ℕ} (f : Firable s h t m) where
   supplied : Supplied (net_from s h) t (held m)
@@ -48,7 +48,7 @@ module _ {s : List ℕ} {h : Header} {table m : List ℕ} (r : Ready s h table m
         go (yes o) = omega (arith, x.at q, by o)
         go (no o) = omega (arith, o, f.caps q l k)
 
-    within : FullFound (net_from s h) t (held m₁) Nowhere → Enabled (net_from s h) t (held m)
+    within : FullFound (net_from s h) t (held m₁) None → Enabled (net_from s h) t (held m)
     unfolding Enabled WithinCaps
     within fits = (supplied, λ p l k. within_by p l k (λ o. fits p o k))
 
@@ -68,9 +68,8 @@ module _ {s : List ℕ} {h : Header} {table m : List ℕ} (r : Ready s h table m
     restored {m₂} y = ext_get_or 0 m₂ m (y.long ∙ x.long) (λ q u. omega (arith, x.at q, y.at q, f.supplied q))
 
     -- the two answers
-    module _ {found : Found} (fits : FullFound (net_from s h) t (held m₁) found) where
-      pub filled_nowhere : found ≡ Nowhere → Filled (net_from s h) t m m₁ found
-      filled_nowhere e = subst⁻¹ (Filled (net_from s h) t m m₁) e (within (subst (FullFound (net_from s h) t (held m₁)) e fits), x)
+    pub filled_none : FullFound (net_from s h) t (held m₁) None → Filled (net_from s h) t m m₁ None
+    filled_none fits = (within fits, x)
 
-      pub filled_at : {p n : ℕ} → found ≡ At p n → {m₂ : List ℕ} → Holds m₁ m₂ (unfired (net_from s h) t (held m₁)) → Filled (net_from s h) t m m₂ found
-      filled_at e {m₂} y = subst⁻¹ (Filled (net_from s h) t m m₂) e (full_at (subst (FullFound (net_from s h) t (held m₁)) e fits), restored y)
+    pub filled_some : (e : Excess) → FullFound (net_from s h) t (held m₁) (Some e) → {m₂ : List ℕ} → Holds m₁ m₂ (unfired (net_from s h) t (held m₁)) → Filled (net_from s h) t m m₂ (Some e)
+    filled_some e over y = (full_at over, restored y)

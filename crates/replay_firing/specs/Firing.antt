@@ -1,12 +1,11 @@
 -- One firing of a marking that stands in a list: what it asks, what it leaves, and where that is above a cap.
-use Rattle.std.specs.Prelude.{ℕ, ◌+◌, ◌-◌, ◌^◌, ◌≤◌, ◌<◌, List, ◌≡◌, T, eqb, get_or}
+use Rattle.std.specs.Prelude.{ℕ, ◌+◌, ◌-◌, ◌^◌, ◌≤◌, ◌<◌, List, ◌≡◌, T, eqb, get_or, Option, None, Some}
 use Rattle.net.specs.Net.{Net, Marking, input, output, fire, capped, WithinCaps, Enabled, FullAt}
 use Rattle.file.specs.Layout.{net_from}
 use Rattle.file_header.specs.declared.Header.{Header}
 use Rattle.arcs_starts.specs.Table.{choose}
 use Rattle.replay_steps.specs.Steps.{held, Holds}
-use Rattle.replay_firing.specs.declared.Found.{Found}
-use Rattle.replay_firing.specs.declared.Found.TheVariants.{Nowhere, At}
+use Rattle.replay_firing.specs.declared.Excess.{Excess}
 
 -- t is a transition, no place of m is short for it, and m is within the caps
 pub record Firable (s : List ℕ) (h : Header) (t : ℕ) (m : List ℕ) : Type 0 where
@@ -39,11 +38,11 @@ pub record Overfull (N : Net) (t : ℕ) (M : Marking) (p n : ℕ) : Type 0 where
   pub lowest : (q : ℕ) → q < p → 0 < output N q t → T (capped N q) → M q ≤ N.cap q
 
 -- the lowest place above its cap was looked for, where a firing of t left M
-abbrev pub FullFound : Net → ℕ → Marking → Found → Type 0
-FullFound N t M Nowhere = (q : ℕ) → 0 < output N q t → T (capped N q) → M q ≤ N.cap q
-FullFound N t M (At p n) = Overfull N t M p n
+abbrev pub FullFound : Net → ℕ → Marking → Option Excess → Type 0
+FullFound N t M None = (q : ℕ) → 0 < output N q t → T (capped N q) → M q ≤ N.cap q
+FullFound N t M (Some e) = Overfull N t M e.place e.tokens
 
 -- t is enabled at m and has left m', or a place is full and m stays
-abbrev pub Filled : Net → ℕ → List ℕ → List ℕ → Found → Type 0
-Filled N t m m' Nowhere = Enabled N t (held m) × Holds m m' (fire N t (held m))
-Filled N t m m' (At p n) = FullAt N t (held m) p n × (m' ≡ m)
+abbrev pub Filled : Net → ℕ → List ℕ → List ℕ → Option Excess → Type 0
+Filled N t m m' None = Enabled N t (held m) × Holds m m' (fire N t (held m))
+Filled N t m m' (Some e) = FullAt N t (held m) e.place e.tokens × (m' ≡ m)

@@ -15,11 +15,11 @@ use file_arcs::arc;
 use file_header::Header;
 use tables::entry;
 
-// The lowest place above its cap and the tokens above it, or none.
-#[derive(Clone, Copy)]
-pub enum Found {
-    Nowhere,
-    At(u32, u32),
+// A place, and how many tokens it has above its cap.
+#[derive(Clone, Copy, Debug, PartialEq, Eq)]
+pub struct Excess {
+    pub place: u32,
+    pub tokens: u32,
 }
 
 // What the arcs so far take from the place p: one more, of this weight, after those that took `need` from the place `last`.
@@ -44,18 +44,16 @@ pub fn missing(file: &[u8], h: Header, j: usize, need: u64, count: u64) -> u32
     (whole - count) as u32
 }
 
-// Takes the weights of the arcs from `from` to `to` out of the marking.
+// Takes the weights of the arcs from `from` to `to` out of the marking. Beside arcs_column `take` and `give`, which are over u32: one function over both widths would want a trait with their two sums, and is no plainer than four loops of five lines.
 fn take(file: &[u8], start: usize, from: usize, to: usize, marking: &mut [u64])
     requires run { Run file.now start from to (length marking.old) }
     requires by_index { (p : ℕ) → sum_to file.now start p to ≤ get_or marking.old p 0 + sum_to file.now start p from }
     ensures { Takes file.now start from to marking.old marking.new }
 {
-    let mut j = from;
-    while j < to {
+    for j in from..to {
         let a = arc(file, start + 8 * j);
         let p = a.place;
-        marking[p] = marking[p] - (a.weight as u64);
-        j += 1;
+        marking[p] -= a.weight as u64;
     }
 }
 
@@ -65,12 +63,10 @@ pub fn give(file: &[u8], start: usize, from: usize, to: usize, marking: &mut [u6
     requires by_index { (p : ℕ) → get_or marking.old p 0 + sum_to file.now start p to < 2 ^ 64 + sum_to file.now start p from }
     ensures { Gives file.now start from to marking.old marking.new }
 {
-    let mut j = from;
-    while j < to {
+    for j in from..to {
         let a = arc(file, start + 8 * j);
         let p = a.place;
-        marking[p] = marking[p] + (a.weight as u64);
-        j += 1;
+        marking[p] += a.weight as u64;
     }
 }
 
@@ -107,47 +103,45 @@ fn above(cap: u64, count: u64) -> u64
     if cap == 0 {
         return 0;
     }
-    if count <= cap {
-        return 0;
-    }
-    count - cap
+    count.saturating_sub(cap)
 }
 
 // The lowest place above its cap, where t has fired: one of its outputs, which stand by rising place.
-fn lowest_full(file: &[u8], h: Header, table: &[u16], t: usize, marking: &[u64]) -> Found
+fn lowest_full(file: &[u8], h: Header, table: &[u16], t: usize, marking: &[u64]) -> Option<Excess>
     requires ready { Ready file.now h table.now marking.now }
     requires left { Left file.now h t marking.now }
     ensures { FullFound (net_from file.now h) t (held marking.now) result }
 {
     let from = entry(table, 2 * t + 1);
     let to = entry(table, 2 * t + 2);
-    let mut j = from;
-    while j < to {
+    for j in from..to {
         let a = arc(file, h.arcstart + 8 * j);
         let p = a.place;
         let cap = file::cap(file, h, p) as u64;
         let excess = above(cap, marking[p]);
         if excess != 0 {
             let place = p as u32;
-            let amount = excess as u32;
-            return Found::At(place, amount);
+            let tokens = excess as u32;
+            return Some(Excess { place, tokens });
         }
-        j += 1;
     }
-    Found::Nowhere
+    None
 }
 
 // Fires t, for which no place is short, unless that leaves a place above its cap.
-pub fn fire_capped(file: &[u8], h: Header, table: &[u16], t: usize, marking: &mut [u64]) -> Found
+pub fn fire_capped(
+    file: &[u8],
+    h: Header,
+    table: &[u16],
+    t: usize,
+    marking: &mut [u64],
+) -> Option<Excess>
     requires ready { Ready file.now h table.now marking.old }
     requires firable { Firable file.now h t marking.old }
     ensures { Filled (net_from file.now h) t marking.old marking.new result }
 {
     fire(file, h, table, t, marking);
-    let r = lowest_full(file, h, table, t, marking);
-    if let Found::At(_, _) = r {
-        unfire(file, h, table, t, marking);
-        return r;
-    }
-    r
+    let full = lowest_full(file, h, table, t, marking)?;
+    unfire(file, h, table, t, marking);
+    Some(full)
 }

@@ -1,4 +1,3 @@
-pub mod Copies
 pub mod Casting
 pub mod Runs
 pub mod Apart

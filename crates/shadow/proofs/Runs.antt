@@ -5,7 +5,7 @@ use mathlib.Core.List.{List, [], ◌∷◌, ◌++◌}
 use mathlib.Core.Path.{◌≡◌, refl, sym, ap, subst, ◌∙◌}
 use native.Mathlib.Omega.{arith}
 use borrow.Author.Tests.{le-ltb, ltb-true, ltb-false, leb-true}
-use lib.ListN.{length, get_or, take, drop, length-append, length-take, length-drop, length-map}
+use lib.ListN.{length, get_or, take, drop, length-take, length-map}
 use lib.Dec.{ltb, leb}
 use lib.Seq.{take-length, take_at}
 use Rattle.net.specs.Numbers.{among, position}
@@ -17,29 +17,32 @@ use Rattle.file.specs.Facts.{Sound}
 use Rattle.file.specs.Layout.{net_from}
 use Rattle.file_words.specs.Refusal.{refuse, or_else}
 use Rattle.file_header.specs.declared.Header.{Header}
-use Rattle.file_words.proofs.Laws.{or-false}
-use Rattle.inputs_lists.proofs.Passing.{list_short, list_known}
+use Rattle.file_words.proofs.Laws.{or-false, or_else_0}
+use Rattle.inputs_lists.proofs.Passing.{list_short, list_known, kept-refused}
 use Rattle.promise.specs.Calls.{written}
 use Rattle.promise.specs.Firing.{list_refusal, ReplayAnswer, replay_told, replay_or}
 use Rattle.promise.specs.Shadow.{fired_part, shadow_of, lent_refusal, ShadowAnswer, shadow_or}
 use Rattle.promise.proofs.Replays.{differ, list_known as known_among}
 use Rattle.net.proofs.Markings.{length-tokens}
-use Rattle.replay.specs.Told.{outcome_numbers, held_back}
+use Rattle.replay.specs.Told.{ended_numbers, outcome_numbers, held_back}
 use Rattle.replay.specs.declared.Outcome.{Outcome}
 use Rattle.replay.specs.declared.Outcome.TheVariants as outcome
 use Rattle.replay.proofs.Listing.{list_passes, room_enough}
-use Rattle.shadow.specs.Told.{shadow_numbers, fired_of, cast_by, due_of, fired_projection, Given, Casts, Follows}
+use Rattle.shadow.specs.Told.{followed_numbers, shadow_numbers, fired_of, cast_by, fired_projection, Given, Casts, Follows}
 use Rattle.shadow.specs.declared.Shadow.{Shadow}
-use Rattle.shadow.specs.declared.Shadow.TheVariants.{Fired, Short, Full, Refused}
+use Rattle.shadow.specs.declared.Shadow.TheVariants.{Fired, Short, Full}
+use Rattle.std.proofs.Common.{Result, Ok, Err}
+use Rattle.refusals.specs.declared.Refusal.{Refusal}
+use Rattle.replay.proofs.Apart.{ended-whole}
 
 -- ---- the answer that an outcome tells
 
-told-fired : (a : Answer) → outcome_numbers outcome.Fired ≡ replay_told a → a ≡ fired
+told-fired : (a : Answer) → ended_numbers outcome.Fired ≡ replay_told a → a ≡ fired
 told-fired fired e = refl
 told-fired (short i p n) e = differ (ap (λ (x : ReplayAnswer). x.stuck) e)
 told-fired (full i p n) e = differ (ap (λ (x : ReplayAnswer). x.stuck) e)
 
-told-short : (i p n : ℕ) (a : Answer) → outcome_numbers (outcome.Short i p n) ≡ replay_told a → a ≡ short i p n
+told-short : (i p n : ℕ) (a : Answer) → ended_numbers (outcome.Short i p n) ≡ replay_told a → a ≡ short i p n
 told-short i p n fired e = differ (sym (ap (λ (x : ReplayAnswer). x.stuck) e))
 told-short i p n (short j q m) e =
     let j≡ : i ≡ j = ap (λ (x : ReplayAnswer). x.index) e in
@@ -48,7 +51,7 @@ told-short i p n (short j q m) e =
     sym (λ x. short (j≡ x) (q≡ x) (m≡ x))
 told-short i p n (full j q m) e = differ (ap (λ (x : ReplayAnswer). x.full) e)
 
-told-full : (i p n : ℕ) (a : Answer) → outcome_numbers (outcome.Full i p n) ≡ replay_told a → a ≡ full i p n
+told-full : (i p n : ℕ) (a : Answer) → ended_numbers (outcome.Full i p n) ≡ replay_told a → a ≡ full i p n
 told-full i p n fired e = differ (sym (ap (λ (x : ReplayAnswer). x.stuck) e))
 told-full i p n (short j q m) e = differ (sym (ap (λ (x : ReplayAnswer). x.full) e))
 told-full i p n (full j q m) e =
@@ -57,10 +60,11 @@ told-full i p n (full j q m) e =
     let m≡ : n ≡ m = ap (λ (x : ReplayAnswer). x.amount) e in
     sym (λ x. full (j≡ x) (q≡ x) (m≡ x))
 
-not-told : {A : Type 0} (n : ℕ) (a : Answer) → outcome_numbers (outcome.Refused n) ≡ replay_told a → A
-not-told n fired e = differ (sym (ap (λ (x : ReplayAnswer). x.refused) e))
-not-told n (short i p m) e = differ (sym (ap (λ (x : ReplayAnswer). x.refused) e))
-not-told n (full i p m) e = differ (sym (ap (λ (x : ReplayAnswer). x.refused) e))
+-- a refusal tells no answer
+not-told : {A : Type 0} (e : Refusal) (a : Answer) → outcome_numbers (Err e) ≡ replay_told a → A
+not-told e fired h = differ (sym (ap (λ (x : ReplayAnswer). x.refused) h))
+not-told e (short i p m) h = differ (sym (ap (λ (x : ReplayAnswer). x.refused) h))
+not-told e (full i p m) h = differ (sym (ap (λ (x : ReplayAnswer). x.refused) h))
 
 -- ---- how far a list is fired
 
@@ -69,9 +73,6 @@ pub record Part (T' : ℕ) (list : List ℕ) (n : ℕ) : Type 0 where
   pub part : n ≤ length list
   pub short : n ≤ 65535
   pub known : (i : ℕ) → i < n → get_or list i 0 < T'
-
-part_none : (T' : ℕ) (list : List ℕ) → Part T' list 0
-part_none T' list = record { part = omega arith; short = omega arith; known = λ i l. absurd (omega (arith, l)) }
 
 part-listed : (T' : ℕ) (list : List ℕ) (n : ℕ) → list_refusal T' list ≡ 0 → n ≤ length list → Part T' list n
 part-listed T' list n e l = record { part = l; short = omega (arith, l, list_short T' list e); known = λ i h. list_known T' list e i (omega (arith, h, l)) }
@@ -90,7 +91,7 @@ module _ (N : Net) (list : List ℕ) where
   full_inside : (i p n : ℕ) → list_refusal N.transitions list ≡ 0 → (replay N list).answer ≡ full i p n → i < length list
   full_inside i p n passes same = let m = means (full i p n) passes same in omega (arith, m.1, m.2.inside)
 
-  part_by : (k : ℕ) (o : Outcome) → outcome_numbers o ≡ replay_or k (replay N list).answer → (k ≡ 0 → list_refusal N.transitions list ≡ 0)
+  part_by : (k : ℕ) (o : Outcome) → ended_numbers o ≡ replay_or k (replay N list).answer → (k ≡ 0 → list_refusal N.transitions list ≡ 0)
       → Part N.transitions list (fired_of o (length list))
   part_by zero outcome.Fired e z = part-listed N.transitions list (length list) (z refl) (omega arith)
   part_by zero (outcome.Short i p n) e z =
@@ -99,15 +100,11 @@ module _ (N : Net) (list : List ℕ) where
   part_by zero (outcome.Full i p n) e z =
       let l = full_inside i p n (z refl) (told-full i p n (replay N list).answer e) in
       part-listed N.transitions list i (z refl) (omega (arith, l))
-  part_by zero (outcome.Refused n) e z = not-told n (replay N list).answer e
-  part_by (suc k) outcome.Fired e z = differ (ap (λ (x : ReplayAnswer). x.refused) e)
-  part_by (suc k) (outcome.Short i p n) e z = differ (ap (λ (x : ReplayAnswer). x.refused) e)
-  part_by (suc k) (outcome.Full i p n) e z = differ (ap (λ (x : ReplayAnswer). x.refused) e)
-  part_by (suc k) (outcome.Refused n) e z = part_none N.transitions list
+  part_by (suc k) o e z = differ (sym (ended-whole o) ∙ ap (λ (x : ReplayAnswer). x.refused) e)
 
 -- what is projected, by the replay's contract
 pub given_by : (plan : List ℕ) (p : Header) (list : List ℕ) (room : ℕ) {slice : List ℕ} {s : Header} {o : Outcome} → Sound slice s → s.kind ≡ 1
-    → outcome_numbers o ≡ replay_or (held_back p list room) (replay (net_from plan p) list).answer → Given slice s list o p.transitions
+    → ended_numbers o ≡ replay_or (held_back p list room) (replay (net_from plan p) list).answer → Given slice s list o p.transitions
 given_by plan p list room {slice} {s} {o} w k e =
     let part = part_by (net_from plan p) list (held_back p list room) o e (λ z. list_passes p list room refl z) in
     record { sound = w; kind = k; part = part.part; short = part.short; known = part.known }
@@ -139,47 +136,36 @@ module _ (N : Net) (S : Slice) (list : List ℕ) where
   unfolding shadow_of
   shadow_few = omega (arith, project-few S (fired_part answer list), part-few answer list)
 
-  projected : (o : Outcome) → outcome_numbers o ≡ replay_told answer → fired_projection S o list ≡ P
+  projected : (o : Outcome) → ended_numbers o ≡ replay_told answer → fired_projection S o list ≡ P
   unfolding shadow_of
   projected outcome.Fired e = ap (project S) (take-length list) ∙ sym (ap (λ (a : Answer). project S (fired_part a list)) (told-fired answer e))
   projected (outcome.Short i p n) e = sym (ap (λ (a : Answer). project S (fired_part a list)) (told-short i p n answer e))
   projected (outcome.Full i p n) e = sym (ap (λ (a : Answer). project S (fired_part a list)) (told-full i p n answer e))
-  projected (outcome.Refused n) e = not-told n answer e
 
-  nothing-projected : (n : ℕ) → fired_projection S (outcome.Refused n) list ≡ []
-  unfolding project own strike
-  nothing-projected n = refl
-
-  counted : (b : Bool) (o : Outcome) (n : ℕ) → outcome_numbers o ≡ replay_told answer → shadow_numbers (cast_by b o n) ≡ shadow_or (refuse b 13 0) answer n
+  counted : (b : Bool) (o : Outcome) (n : ℕ) → ended_numbers o ≡ replay_told answer → shadow_numbers (cast_by b o n) ≡ shadow_or (refuse b 13 0) answer n
   counted true o n e = refl
   counted false outcome.Fired n e = ap (λ (x : ReplayAnswer). record { run = x; count = n }) e
   counted false (outcome.Short i p m) n e = ap (λ (x : ReplayAnswer). record { run = x; count = n }) e
   counted false (outcome.Full i p m) n e = ap (λ (x : ReplayAnswer). record { run = x; count = n }) e
-  counted false (outcome.Refused k) n e = not-told k answer e
 
   -- 13 of an output list
   abbrev space_refusal : List ℕ → ℕ
   space_refusal out = refuse (ltb (length out) (length P)) 13 0
 
   -- the answer and the output list, where the replay was refused by k, or not
-  pub record Told (k : ℕ) (out out' : List ℕ) (r : Shadow) : Type 0 where
+  pub record Told (k : ℕ) (out out' : List ℕ) (r : Result Shadow Refusal) : Type 0 where
     pub told : shadow_numbers r ≡ shadow_or (or_else k (space_refusal out)) answer (length P)
     pub output : out' ≡ written (or_else k (space_refusal out)) P out
 
-  cast_told : (k : ℕ) (o : Outcome) (out out' : List ℕ) (r : Shadow) → outcome_numbers o ≡ replay_or k answer → Casts (fired_projection S o list) out out' o r → Told k out out' r
+  cast_told : (k : ℕ) (o : Outcome) (out out' : List ℕ) (r : Result Shadow Refusal) → ended_numbers o ≡ replay_or k answer → Casts (fired_projection S o list) out out' o r → Told k out out' r
   cast_told zero o out out' r e c =
       let x : Casts P out out' o r = subst (λ (l : List ℕ). Casts l out out' o r) (projected o e) c in
       record { told = ap shadow_numbers x.answer ∙ counted (ltb (length out) (length P)) o (length P) e; output = x.output }
-  cast_told (suc k) outcome.Fired out out' r e c = differ (ap (λ (x : ReplayAnswer). x.refused) e)
-  cast_told (suc k) (outcome.Short i p n) out out' r e c = differ (ap (λ (x : ReplayAnswer). x.refused) e)
-  cast_told (suc k) (outcome.Full i p n) out out' r e c = differ (ap (λ (x : ReplayAnswer). x.refused) e)
-  cast_told (suc k) (outcome.Refused n) out out' r e c =
-      let x : Casts [] out out' (outcome.Refused n) r = subst (λ (l : List ℕ). Casts l out out' (outcome.Refused n) r) (nothing-projected n) c in
-      let room : ltb (length out) 0 ≡ false = le-ltb (length out) 0 (omega arith) in
-      record {
-        told = ap shadow_numbers (x.answer ∙ ap (λ (b : Bool). cast_by b (outcome.Refused n) 0) room) ∙ ap (λ (y : ReplayAnswer). record { run = y; count = 0 }) e;
-        output = x.output ∙ ap (λ (b : Bool). written (refuse b 13 0) [] out) room;
-      }
+  cast_told (suc k) o out out' r e c = differ (sym (ended-whole o) ∙ ap (λ (x : ReplayAnswer). x.refused) e)
+
+  refused_told : (k : ℕ) (e : Refusal) (out : List ℕ) → outcome_numbers (Err e) ≡ replay_or k answer → Told k out out (Err e)
+  refused_told zero e out h = not-told e answer h
+  refused_told (suc k) e out h = record { told = ap (λ (y : ReplayAnswer). record { run = y; count = 0 }) h; output = refl }
 
 -- ---- all of it, once both files were read
 
@@ -193,49 +179,28 @@ stays : (k c : ℕ) (l m : List ℕ) → (k ≡ 0 → c ≡ 0) → written k l m
 stays zero c l m h = ap (λ (x : ℕ). written x l m) (sym (h refl))
 stays (suc k) c l m h = refl
 
-due_all : (r : Shadow) (a : Answer) (n places : ℕ) → shadow_numbers r ≡ shadow_or 0 a n → due_of r places ≡ places
-due_all (Fired x) a n places e = refl
-due_all (Short i p m x) a n places e = refl
-due_all (Full i p m x) a n places e = refl
-due_all (Refused x) a n places e = not-told x a (ap (λ (y : ShadowAnswer). y.run) e)
+-- a refusal has a number, and an end has none
+stopped : (k : ℕ) (e : Refusal) (a : Answer) (n : ℕ) → shadow_numbers (Err e) ≡ shadow_or k a n → k ≡ 0 → ⊥
+stopped zero e a n h z = not-told e a (ap (λ (y : ShadowAnswer). y.run) h)
+stopped (suc k) e a n h z = omega (arith, z)
 
-due_none : (r : Shadow) (a : Answer) (k n places : ℕ) → shadow_numbers r ≡ shadow_or (suc k) a n → due_of r places ≡ 0
-due_none (Fired x) a k n places e = differ (ap (λ (y : ShadowAnswer). y.run.refused) e)
-due_none (Short i p m x) a k n places e = differ (ap (λ (y : ShadowAnswer). y.run.refused) e)
-due_none (Full i p m x) a k n places e = differ (ap (λ (y : ShadowAnswer). y.run.refused) e)
-due_none (Refused x) a k n places e = refl
+pub ended-none : (r : Shadow) → (followed_numbers r).run.refused ≡ false
+ended-none (Fired n) = refl
+ended-none (Short i p m n) = refl
+ended-none (Full i p m n) = refl
 
-pub due_few : (r : Shadow) (places : ℕ) → due_of r places ≤ places
-due_few (Fired x) places = omega arith
-due_few (Short i p m x) places = omega arith
-due_few (Full i p m x) places = omega arith
-due_few (Refused x) places = omega arith
+unstopped : (k : ℕ) (r : Shadow) (a : Answer) (n : ℕ) → followed_numbers r ≡ shadow_or k a n → k ≡ 0
+unstopped zero r a n h = refl
+unstopped (suc k) r a n h = differ (sym (ended-none r) ∙ ap (λ (y : ShadowAnswer). y.run.refused) h)
 
--- a list is as long as before where what is written fits
-written-long : (k : ℕ) (l entry : List ℕ) → length l ≤ length entry → length (written k l entry) ≡ length entry
-written-long zero l entry h = omega (arith, length-append l (drop (length l) entry), length-drop (length l) entry, h)
-written-long (suc k) l entry h = refl
-
-pub apart_long : (plan : List ℕ) (p : Header) (list entry : List ℕ) {apart : List ℕ} → p.places ≤ length entry
-    → apart ≡ written (held_back p list (length entry)) (tokens (net_from plan p) (replay (net_from plan p) list).marking) entry → length apart ≡ length entry
-apart_long plan p list entry h e =
-    let N = net_from plan p in
-    let M = (replay N list).marking in
-    ap length e ∙ written-long (held_back p list (length entry)) (tokens N M) entry (omega (arith, length-tokens N M, h))
-
-pub at_due : (apart m : List ℕ) {n due : ℕ} {m' : List ℕ} → n ≡ due → m' ≡ take n apart ++ drop n m → m' ≡ take due apart ++ drop due m
-at_due apart m e f = f ∙ ap (λ (x : ℕ). take x apart ++ drop x m) e
-
--- what a marking is copied from where it is due
-copied : (k c places n : ℕ) (a : Answer) (r : Shadow) (l rest m m' apart : List ℕ) → length l ≡ places → shadow_numbers r ≡ shadow_or (or_else k c) a n → apart ≡ written k l rest
-    → m' ≡ take (due_of r places) apart ++ drop (due_of r places) m → m' ≡ written (or_else k c) l m
-copied zero zero places n a r l rest m m' apart long e w f =
-    f ∙ ap (λ (x : ℕ). take x apart ++ drop x m) (due_all r a n places e)
-    ∙ ap (λ (x : List ℕ). take places x ++ drop places m) w
+-- a marking that is copied where nothing is refused
+copied : (k c places : ℕ) (l rest m m' apart : List ℕ) → length l ≡ places → or_else k c ≡ 0 → apart ≡ written k l rest → m' ≡ take places apart ++ drop places m → m' ≡ written (or_else k c) l m
+copied k c places l rest m m' apart long z w f =
+    let none = or_else_0 k c z in
+    f ∙ ap (λ (x : List ℕ). take places x ++ drop places m) (w ∙ ap (λ (x : ℕ). written x l rest) none.0)
     ∙ ap (λ (x : List ℕ). x ++ drop places m) (take_at l (drop (length l) rest) places long)
     ∙ ap (λ (x : ℕ). l ++ drop x m) (sym long)
-copied zero (suc c) places n a r l rest m m' apart long e w f = f ∙ ap (λ (x : ℕ). take x apart ++ drop x m) (due_none r a c n places e)
-copied (suc k) c places n a r l rest m m' apart long e w f = f ∙ ap (λ (x : ℕ). take x apart ++ drop x m) (due_none r a k n places e)
+    ∙ ap (λ (x : ℕ). written x l m) (sym z)
 
 -- where it is not certain that the marking stays, the marking is long enough
 pub marking_long : (places : ℕ) (list out m : List ℕ) {b : Bool} → b ≡ (leb (length list) (length out) || ltb (length m) places) → b ≡ false → places ≤ length m
@@ -250,7 +215,7 @@ module _ (plan : List ℕ) (p : Header) (S : Slice) (list : List ℕ) where
   refusal_is room space = or_else_refuse (list_refusal p.transitions list) (ltb room p.places) (refuse (ltb space (length (shadow_of N S list))) 13 0)
 
   -- with the marking afterwards
-  follows : {m m' out out' : List ℕ} {r : Shadow} → Told N S list (held_back p list (length m)) out out' r
+  follows : {m m' out out' : List ℕ} {r : Result Shadow Refusal} → Told N S list (held_back p list (length m)) out out' r
       → m' ≡ written (or_else (held_back p list (length m)) (space_refusal N S list out)) (tokens N (replay N list).marking) m → Follows N S list m m' out out' r
   follows {m} {m'} {out} {out'} {r} t e =
       let same = refusal_is (length m) (length out) in
@@ -268,22 +233,47 @@ module _ (plan : List ℕ) (p : Header) (S : Slice) (list : List ℕ) where
       absurd (omega (arith, ltb-true (length m) p.places f, room_enough p list (length m) refl z)))
 
   -- the marking that is lent is replayed in
-  pub follows_straight : {o : Outcome} {m m' out out' : List ℕ} {r : Shadow} → (leb (length list) (length out) || ltb (length m) p.places) ≡ true
-      → outcome_numbers o ≡ replay_or (held_back p list (length m)) (replay N list).answer → m' ≡ written (held_back p list (length m)) (tokens N (replay N list).marking) m
+  pub follows_straight : {o : Outcome} {m m' out out' : List ℕ} {r : Result Shadow Refusal} → (leb (length list) (length out) || ltb (length m) p.places) ≡ true
+      → ended_numbers o ≡ replay_or (held_back p list (length m)) (replay N list).answer → m' ≡ written (held_back p list (length m)) (tokens N (replay N list).marking) m
       → Casts (fired_projection S o list) out out' o r → Follows N S list m m' out out' r
   follows_straight {o} {m} {m'} {out} {out'} {r} c e f cast =
       follows (cast_told N S list (held_back p list (length m)) o out out' r e cast)
       (f ∙ stays (held_back p list (length m)) (space_refusal N S list out) (tokens N (replay N list).marking) m (roomy m out c))
 
-  -- one apart, and then copied
+  -- a replay that is refused leaves all as it is
+  pub follows_refused : {e : Refusal} {m m' out : List ℕ} → outcome_numbers (Err e) ≡ replay_or (held_back p list (length m)) (replay N list).answer
+      → m' ≡ written (held_back p list (length m)) (tokens N (replay N list).marking) m → Follows N S list m m' out out (Err e)
+  follows_refused {e} {m} {m'} {out} h f =
+      let t = refused_told N S list (held_back p list (length m)) e out h in
+      follows t (f ∙ stays (held_back p list (length m)) (space_refusal N S list out) (tokens N (replay N list).marking) m
+      (λ z. absurd (not-told e (replay N list).answer (h ∙ ap (λ (k : ℕ). replay_or k (replay N list).answer) z))))
+
+  -- one apart
   same_back : (room room' : ℕ) → p.places ≤ room → p.places ≤ room' → held_back p list room ≡ held_back p list room'
   same_back room room' h h' = rw (le-ltb room p.places h, le-ltb room' p.places h')
 
-  pub follows_apart : (room : ℕ) (rest : List ℕ) {o : Outcome} {m m' out out' apart : List ℕ} {r : Shadow} → p.places ≤ room → p.places ≤ length m
-      → outcome_numbers o ≡ replay_or (held_back p list room) (replay N list).answer → apart ≡ written (held_back p list room) (tokens N (replay N list).marking) rest
-      → Casts (fired_projection S o list) out out' o r → m' ≡ take (due_of r p.places) apart ++ drop (due_of r p.places) m → Follows N S list m m' out out' r
-  follows_apart room rest {o} {m} {m'} {out} {out'} {apart} {r} h h' e f cast g =
-      let same = same_back room (length m) h h' in
-      let t = cast_told N S list (held_back p list (length m)) o out out' r (e ∙ ap (λ (k : ℕ). replay_or k (replay N list).answer) same) cast in
-      follows t (copied (held_back p list (length m)) (space_refusal N S list out) p.places (length (shadow_of N S list)) (replay N list).answer r (tokens N (replay N list).marking) rest m m' apart
-      (length-tokens N (replay N list).marking) t.told (f ∙ ap (λ (k : ℕ). written k (tokens N (replay N list).marking) rest) same) g)
+  module _ (room : ℕ) (rest m out : List ℕ) (h : p.places ≤ room) (h' : p.places ≤ length m) where
+    same : held_back p list room ≡ held_back p list (length m)
+    same = same_back room (length m) h h'
+
+    -- refused, before or after that, the marking keeps every entry
+    stopped_told : {e : Refusal} {out' : List ℕ} → Told N S list (held_back p list (length m)) out out' (Err e) → Follows N S list m m out out' (Err e)
+    stopped_told {e} t = follows t (kept-refused (or_else (held_back p list (length m)) (space_refusal N S list out)) (tokens N (replay N list).marking) m refl (stopped _ e _ _ t.told))
+
+    pub follows_unreplayed : {e : Refusal} → outcome_numbers (Err e) ≡ replay_or (held_back p list room) (replay N list).answer → Follows N S list m m out out (Err e)
+    follows_unreplayed {e} f = stopped_told (refused_told N S list (held_back p list (length m)) e out (f ∙ ap (λ (k : ℕ). replay_or k (replay N list).answer) same))
+
+    module _ {o : Outcome} (f : ended_numbers o ≡ replay_or (held_back p list room) (replay N list).answer) {out' : List ℕ} where
+      told_by : {r : Result Shadow Refusal} → Casts (fired_projection S o list) out out' o r → Told N S list (held_back p list (length m)) out out' r
+      told_by {r} cast = cast_told N S list (held_back p list (length m)) o out out' r (f ∙ ap (λ (k : ℕ). replay_or k (replay N list).answer) same) cast
+
+      pub follows_unwritten : {e : Refusal} → Casts (fired_projection S o list) out out' o (Err e) → Follows N S list m m out out' (Err e)
+      follows_unwritten cast = stopped_told (told_by cast)
+
+      -- and else it is copied
+      pub follows_apart : {r : Shadow} {m' apart : List ℕ} → apart ≡ written (held_back p list room) (tokens N (replay N list).marking) rest
+          → Casts (fired_projection S o list) out out' o (Ok r) → m' ≡ take p.places apart ++ drop p.places m → Follows N S list m m' out out' (Ok r)
+      follows_apart {r} {m'} {apart} w cast g =
+          let t = told_by cast in
+          follows t (copied (held_back p list (length m)) (space_refusal N S list out) p.places (tokens N (replay N list).marking) rest m m' apart (length-tokens N (replay N list).marking)
+          (unstopped _ r _ _ t.told) (w ∙ ap (λ (k : ℕ). written k (tokens N (replay N list).marking) rest) same) g)

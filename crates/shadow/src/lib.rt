@@ -5,20 +5,20 @@ ghost use Rattle.std.specs.Prelude.{◌≡◌, ℕ, ◌<◌, ◌≤◌, ◌||◌
 ghost use Rattle.file.specs.Layout.{net_from, slice_from};
 ghost use Rattle.file.specs.Facts.{Sound};
 ghost use Rattle.projection.specs.Choice.{chosen_by};
-ghost use Rattle.shadow.specs.Told.{fired_of, with_count, due_of, fired_projection, Fireable, Given, Casts, Roomy, Follows};
+ghost use Rattle.shadow.specs.Told.{fired_of, with_count, fired_projection, Fireable, Given, Casts, Roomy, Follows};
 
 use file_header::Header;
+use refusals::Refusal;
 use replay::Outcome;
 use tables::{LARGE, MIDDLE, SMALL};
 
-// How a run ends, with the count of its firings that the slice has: all fired; stuck, at an index of the list and a place, short
-// of so many tokens, or full by so many above its cap, with the count of those before; or refused.
-#[derive(Clone, Copy)]
+// How a run ends, with the count of its firings that the slice has: all fired; or stuck, at an index of the list and a place, short
+// of so many tokens, or full by so many above its cap, with the count of those before.
+#[derive(Clone, Copy, Debug, PartialEq, Eq)]
 pub enum Shadow {
     Fired(u32),
     Short(u32, u32, u32, u32),
     Full(u32, u32, u32, u32),
-    Refused(u32),
 }
 
 // How many of a list's transitions a replay fired.
@@ -29,7 +29,6 @@ fn fired(o: Outcome, whole: usize) -> usize
         Outcome::Fired => whole,
         Outcome::Short(i, _, _) => i as usize,
         Outcome::Full(i, _, _) => i as usize,
-        Outcome::Refused(_) => 0,
     }
 }
 
@@ -41,12 +40,11 @@ fn with_count(o: Outcome, count: u32) -> Shadow
         Outcome::Fired => Shadow::Fired(count),
         Outcome::Short(i, p, n) => Shadow::Short(i, p, n, count),
         Outcome::Full(i, p, n) => Shadow::Full(i, p, n, count),
-        Outcome::Refused(n) => Shadow::Refused(n),
     }
 }
 
 // Writes the numbers that a table gives for what a replay of the list fired, where the output list has room for them.
-fn write_fired(table: &[u16], list: &[u16], o: Outcome, out: &mut [u16]) -> Shadow
+fn write_fired(table: &[u16], list: &[u16], o: Outcome, out: &mut [u16]) -> Result<Shadow, Refusal>
     requires { Fireable table.now list.now o }
     ensures { Casts (chosen_by table.now (take (fired_of o (length list.now)) list.now)) out.old out.new o result }
 {
@@ -54,28 +52,28 @@ fn write_fired(table: &[u16], list: &[u16], o: Outcome, out: &mut [u16]) -> Shad
     let part = &list[..end];
     let lacking = projection::lacks(table, part, out.len());
     if lacking {
-        return Shadow::Refused(13);
+        return Err(Refusal::Buffer);
     }
     let n = projection::write(table, part, out);
     let count = n as u32;
-    with_count(o, count)
+    Ok(with_count(o, count))
 }
 
-// Projects what a replay of the list fired, by a table of zeros that reaches each number of it.
-fn project_by(
+// Projects what a replay of the list fired, by a table of N numbers. It is made a part of each caller.
+#[inline(always)]
+fn project_by<const N: usize>(
     slice: &[u8],
     s: Header,
     list: &[u16],
     o: Outcome,
-    table: &mut [u16],
     out: &mut [u16],
-) -> Shadow
-    requires given { Given slice.now s list.now o (length table.old) }
-    requires by_index { (k : ℕ) → get_or table.old k 0 ≡ 0 }
+) -> Result<Shadow, Refusal>
+    requires { Given slice.now s list.now o N × (N ≤ 1024) }
     ensures { Casts (fired_projection (slice_from slice.now s) o list.now) out.old out.new o result }
 {
-    projection::numbers(slice, s, table);
-    write_fired(table, list, o, out)
+    let mut table = [0u16; N];
+    projection::numbers(slice, s, &mut table);
+    write_fired(&table, list, o, out)
 }
 
 // The same, with a table that is as large as the plan, of so many transitions, needs it.
@@ -86,29 +84,17 @@ fn project_fired(
     list: &[u16],
     o: Outcome,
     out: &mut [u16],
-) -> Shadow
+) -> Result<Shadow, Refusal>
     requires { Given slice.now s list.now o transitions × (transitions ≤ 1024) }
     ensures { Casts (fired_projection (slice_from slice.now s) o list.now) out.old out.new o result }
 {
     if transitions <= 64 {
-        let mut table = [0u16; 64];
-        return project_by(slice, s, list, o, &mut table, out);
+        return project_by::<64>(slice, s, list, o, out);
     }
-    let mut table = [0u16; LARGE];
-    project_by(slice, s, list, o, &mut table, out)
+    project_by::<LARGE>(slice, s, list, o, out)
 }
 
-// The same of a plan with at most 64 transitions: apart, so that the compiler makes it a part of its one caller.
-fn project_few(slice: &[u8], s: Header, list: &[u16], o: Outcome, out: &mut [u16]) -> Shadow
-    requires { Given slice.now s list.now o 64 }
-    ensures { Casts (fired_projection (slice_from slice.now s) o list.now) out.old out.new o result }
-{
-    let mut table = [0u16; 64];
-    projection::numbers(slice, s, &mut table);
-    write_fired(&table, list, o, out)
-}
-
-// Projects what a replay in the lent marking fired, after which nothing is left to do.
+// Projects what a replay in the lent marking fired, after which nothing is left to do: apart, so that for a small plan only the small table is in the frame of the call.
 fn project_last(
     transitions: usize,
     slice: &[u8],
@@ -116,38 +102,14 @@ fn project_last(
     list: &[u16],
     o: Outcome,
     out: &mut [u16],
-) -> Shadow
+) -> Result<Shadow, Refusal>
     requires { Given slice.now s list.now o transitions × (transitions ≤ 1024) }
     ensures { Casts (fired_projection (slice_from slice.now s) o list.now) out.old out.new o result }
 {
     if transitions <= 64 {
-        return project_few(slice, s, list, o, out);
+        return project_by::<64>(slice, s, list, o, out);
     }
     project_fired(transitions, slice, s, list, o, out)
-}
-
-// How many entries of the marking are due: one a place, or none where the call is refused.
-fn due(r: Shadow, places: usize) -> usize
-    ensures { result ≡ due_of r places }
-{
-    match r {
-        Shadow::Fired(_) => places,
-        Shadow::Short(_, _, _, _) => places,
-        Shadow::Full(_, _, _, _) => places,
-        Shadow::Refused(_) => 0,
-    }
-}
-
-// Copies the first n entries.
-fn copy(from: &[u64], n: usize, to: &mut [u64])
-    requires { (n ≤ length from.now) × (n ≤ length to.old) }
-    ensures { to.new ≡ take n from.now ++ drop n to.old }
-{
-    let mut p: usize = 0;
-    while p < n {
-        to[p] = from[p];
-        p += 1;
-    }
 }
 
 // The output list may be too short for what is fired: the plan is replayed apart, and the marking written last.
@@ -160,16 +122,16 @@ fn shadow_apart(
     apart: &mut [u64],
     marking: &mut [u64],
     out: &mut [u16],
-) -> Shadow
+) -> Result<Shadow, Refusal>
     requires roomy { Roomy plan.now p (length apart.old) (length marking.old) }
     requires sound { Sound slice.now s × (s.kind ≡ 1) }
     ensures { Follows (net_from plan.now p) (slice_from slice.now s) list.now marking.old marking.new out.old out.new result }
 {
-    let o = replay::replay(plan, p, list, apart);
-    let r = project_fired(p.transitions, slice, s, list, o, out);
-    let n = due(r, p.places);
-    copy(apart, n, marking);
-    r
+    let o = replay::replay(plan, p, list, apart)?;
+    let r = project_fired(p.transitions, slice, s, list, o, out)?;
+    let n = p.places;
+    marking[..n].copy_from_slice(&apart[..n]);
+    Ok(r)
 }
 
 // The same, with entries apart as many as the plan needs.
@@ -181,7 +143,7 @@ fn shadow_sized(
     list: &[u16],
     marking: &mut [u64],
     out: &mut [u16],
-) -> Shadow
+) -> Result<Shadow, Refusal>
     requires sound { Sound plan.now p × (p.places ≤ length marking.old) }
     requires sound_2 { Sound slice.now s × (s.kind ≡ 1) }
     ensures { Follows (net_from plan.now p) (slice_from slice.now s) list.now marking.old marking.new out.old out.new result }
@@ -214,13 +176,13 @@ pub fn shadow_of(
     list: &[u16],
     marking: &mut [u64],
     out: &mut [u16],
-) -> Shadow
+) -> Result<Shadow, Refusal>
     requires sound { Sound plan.now p }
     requires sound_2 { Sound slice.now s × (s.kind ≡ 1) }
     ensures { Follows (net_from plan.now p) (slice_from slice.now s) list.now marking.old marking.new out.old out.new result }
 {
     if certain(list.len(), out.len(), marking.len(), p.places) {
-        let o = replay::replay(plan, p, list, marking);
+        let o = replay::replay(plan, p, list, marking)?;
         return project_last(p.transitions, slice, s, list, o, out);
     }
     shadow_sized(plan, p, slice, s, list, marking, out)

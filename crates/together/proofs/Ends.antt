@@ -18,7 +18,7 @@ use Rattle.arcs_starts.specs.Table.{slot_at, Split}
 use Rattle.arcs_column.specs.Ways.{transition_at, direction_at}
 use Rattle.arcs_column.proofs.Sums.{sum_more}
 use Rattle.arcs_column.proofs.Weights.{weight_run}
-use Rattle.together.specs.Told.{together_numbers}
+use Rattle.together.specs.Told.{taken_numbers}
 use Rattle.together.specs.Inputs.{drawn, OneWay, MostTimes, TakesTimes}
 use Rattle.together.specs.declared.Together.TheVariants.{Times, Unlimited}
 
@@ -101,11 +101,11 @@ module _ {s : List ℕ} {h : Header} {t from to : ℕ} (f : Found s h t from to)
       tokens-are N (remainder N t M (together N t M)) _ long (λ p l. at p l ∙ ap (λ (y : Takings). remainder N t M y p) (sym e)),
     )
 
-    pub no_inputs : to ≤ from → Ends (together_numbers Unlimited) m
+    pub no_inputs : to ≤ from → Ends (taken_numbers Unlimited) m
     unfolding NoInputs remainder
     no_inputs l = by unlimited (law.is_unlimited N t M (λ p u. omega (arith, drawn-is p, sum_more s h.arcstart p to from l))) places (λ p u. refl)
 
-    pub most : {k : ℕ} {m' : List ℕ} → MostTimes s h.arcstart from to m k → TakesTimes s h.arcstart from to k m m' → Ends (together_numbers (Times k)) m'
+    pub most : {k : ℕ} {m' : List ℕ} → MostTimes s h.arcstart from to m k → TakesTimes s h.arcstart from to k m m' → Ends (taken_numbers (Times k)) m'
     unfolding Takable remainder
     most {k} x y =
         let z = x.no_more in

@@ -1,7 +1,7 @@
 -- Laws of what a run of arcs takes from each place.
 use Prim.Native.Nat.{ℕ, zero, suc, ◌+◌, ◌-◌, ◌*◌, ◌≤◌, ◌<◌}
 use mathlib.Core.List.{List}
-use mathlib.Core.Path.{◌≡◌, refl, sym, ap, subst, ◌∙◌}
+use mathlib.Core.Path.{◌≡◌, sym, ap, subst, ◌∙◌}
 use native.Mathlib.Omega.{arith}
 use native.Mathlib.Decide.{ℕ_discrete}
 use native.Mathlib.Nat.{mul-add, mul-le-mul_left}
@@ -58,15 +58,6 @@ module _ (s : List ℕ) (start from : ℕ) where
   at_none p j e l u f = let q : j + (e - j) ≡ e = omega arith in rw q at (none_at p j (e - j) l (λ i a b. f i a (omega arith)))
 
 -- ---- the weights of arcs taken k times
-
-pub takes_none : {s : List ℕ} {start from k : ℕ} {m : List ℕ} → Inputs.TakesTimes s start from from k m m
-takes_none {s} {start} {from} {k} {m} = record {
-  long = refl;
-  at = λ p. let e : k * Inputs.drawn s start from from p ≡ 0 = rw (drawn-none s start from p) (omega arith) in omega arith;
-}
-
-pub takes_all : {s : List ℕ} {start from to j k : ℕ} {was is : List ℕ} → Inputs.TakesTimes s start from j k was is → j ≤ to → to ≤ j → Inputs.TakesTimes s start from to k was is
-takes_all {s} {start} {from} {to} {j} {k} {was} {is} x l u = let e : j ≡ to = omega arith in subst (λ (n : ℕ). Inputs.TakesTimes s start from n k was is) e x
 
 pub takes_from_lem : {s : List ℕ} {start from to k : ℕ} {first was is : List ℕ} → was ≡ first → Inputs.TakesTimes s start from to k was is → Inputs.TakesTimes s start from to k first is
 takes_from_lem {s} {start} {from} {to} {k} {first} {was} {is} e x = subst (λ (m : List ℕ). Inputs.TakesTimes s start from to k m is) e x

@@ -1,5 +1,4 @@
 pub mod Inputs
 pub mod Weighing
 pub mod Ends
-pub mod Passing
 pub mod Apart

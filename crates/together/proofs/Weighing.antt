@@ -9,9 +9,9 @@ use lib.ListN.{length, get_or}
 use Rattle.net.specs.declared.Arc.{Arc}
 use Rattle.file_arcs.specs.Layout.{arc_at}
 use Rattle.arcs_column.specs.Ways.{place_at}
-use Rattle.arcs_groups.specs.Groups.{weight_at, Stands, GroupEnd, run_weight}
+use Rattle.arcs_groups.specs.Groups.{weight_at, GroupEnd, run_weight}
 use Rattle.arcs_groups.proofs.Groups.{run-one}
-use Rattle.together.specs.Inputs.{drawn, OneWay, MostTimes}
+use Rattle.together.specs.Inputs.{drawn, OneWay}
 use Rattle.together.proofs.Inputs.{drawn-none, drawn-more, at_one, at_none}
 
 -- k times what the arcs from..j take is in m, and not one time more; arc j opens a group. Before the first arc, m has no more than k on any place.
@@ -24,19 +24,6 @@ pub record Weighed (s : List ℕ) (start from to : ℕ) (m : List ℕ) (j k : �
   pub no_more : from < j → (p : ℕ) × (p < length m) × (get_or m p 0 < suc k * drawn s start from j p)
 
 module _ {s : List ℕ} {start from to : ℕ} {m : List ℕ} (o : OneWay s start from to (length m)) where
-  pub stands : {j k : ℕ} → Weighed s start from to m j k → j < to → Stands s start j to
-  stands w l = record { some = l; few = o.few; fit = o.run.fit; short = o.run.short }
-
-  pub weighed_none : {k : ℕ} → ((p : ℕ) → get_or m p 0 ≤ k) → Weighed s start from to m from k
-  weighed_none {k} low = record {
-    begun = omega arith;
-    within = o.run.rising;
-    opens = λ l i a b. absurd (omega arith);
-    fits = λ p. let e : k * drawn s start from from p ≡ 0 = rw (drawn-none s start from p) (omega arith) in omega arith;
-    untouched = λ e. low;
-    no_more = λ l. absurd (omega arith);
-  }
-
   module _ {j k : ℕ} (w : Weighed s start from to m j k) (l : j < to) {e : ℕ} (g : GroupEnd s start j to e) where
     -- the place of the group
     abbrev p : ℕ
@@ -125,9 +112,6 @@ module _ {s : List ℕ} {start from to : ℕ} {m : List ℕ} (o : OneWay s start
 
   -- the arc that was read, and the weight of its group
   module _ {j k : ℕ} (w : Weighed s start from to m j k) (l : j < to) (a : Arc) (is : a ≡ arc_at s (start + 8 * j)) where
-    pub inside : a.place < length m
-    inside = subst (λ (b : Arc). b.place < length m) (sym is) (o.run.places j l)
-
     pub has_weight : 1 ≤ a.weight
     has_weight = subst (λ (b : Arc). 1 ≤ b.weight) (sym is) (o.weights j w.begun l)
 
@@ -138,8 +122,3 @@ module _ {s : List ℕ} {start from to : ℕ} {m : List ℕ} (o : OneWay s start
     weigh {e} {weight} g ws r =
         let same = ap₂ (λ (p n : ℕ). min k (get_or m p 0 / n)) (ap (λ (b : Arc). b.place) is) ws in
         subst (λ (n : ℕ). Weighed s start from to m e n) (sym (r ∙ same)) (weighed_next w l g refl)
-
-  pub weighed_all : {j k : ℕ} → Weighed s start from to m j k → from < to → to ≤ j → MostTimes s start from to m k
-  weighed_all {j} {k} w l u =
-      let e : j ≡ to = omega (arith, w.within) in
-      subst (λ (n : ℕ). MostTimes s start from n m k) e (record { fits = w.fits; no_more = w.no_more (omega arith) })

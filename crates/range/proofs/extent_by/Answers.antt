@@ -1,6 +1,7 @@
+use Prim.Native.Nat.{ℕ}
 use mathlib.Core.Path.{ap, ◌∙◌}
 use native.Mathlib.Omega.{arith}
-use lib.ListN.{length}
+use Rattle.std.proofs.lemmas.List.{length-replicate}
 use Rattle.file_words.specs.Word.{Bytes}
 use Rattle.file.specs.Layout.{net_from}
 use Rattle.arcs_starts.proofs.Reached.{tabled}
@@ -9,41 +10,27 @@ use Rattle.promise.specs.Range.{range_told}
 use Rattle.range.proofs.Need.{is_extent, is_need}
 use Rattle.range.proofs.Passing.{known_list}
 use Rattle.range.proofs.extent_by.Goals as goal
-use Rattle.range.proofs.extent_by.Goals.{After-back, After-clear, After-starts, Start}
-
--- ---- the states: the arcs' starts tabled, the need cleared, the list gone through
-
-abbrev tabled_at : After-clear → After-starts
-tabled_at c = (goal.at.After-clear c).After-starts
-
-abbrev cleared_at : After-back → After-clear
-cleared_at c = (goal.at.After-back c).After-clear
-
-abbrev call : After-starts → Start
-call c = (goal.at.After-starts c).Start
 
 pub starts-requires : goal.starts-requires
-starts-requires c =
-    let s = c in
-    tabled s.args.file.now s.args.h (length s.args.table.now) s.requires.passed.sound s.requires.transitions_in_bounds
+starts-requires g c = tabled c.args.file.now c.args.h _ c.requires.passed.sound (omega (arith, length-replicate {A = ℕ} g.row.N 0, c.requires.transitions_in_bounds.0))
 
-pub back-requires : goal.back-requires
+pub back-requires-clause-ready : goal.back-requires-clause-ready
 unfolding Bytes
-back-requires c =
-    let clear = c in
-    let starts = tabled_at (goal.at.back-requires clear).After-clear in
-    let known = starts in
-    let s = call starts in
-    let bytes : Bytes s.args.file.now = λ i. omega (arith, known.type_inv.file i) in
-    let table = starts.starts.ensures in
-    let zeros = clear.clear.ensures in
-    record { ready = record { sound = s.requires.passed.sound; bytes = bytes; long = omega (arith, table.0, s.requires.transitions_in_bounds); starts = table.1; places = zeros.0 ∙ s.requires.passed.room }; known = known_list s.args.h s.args.list.now s.requires.passed.listed; by_index = zeros.1 }
+back-requires-clause-ready g c = record {
+  sound = c.requires.passed.sound;
+  bytes = λ i. omega (arith, c.type_inv.file i);
+  long = omega (arith, c.starts.ensures.0, length-replicate {A = ℕ} g.row.N 0, c.requires.transitions_in_bounds.0);
+  starts = c.starts.ensures.1;
+  places = c.fill.ensures.len ∙ c.requires.passed.room;
+}
 
-pub returns : goal.returns
-returns c =
-    let back = c in
-    let clear = cleared_at (goal.at.returns back).After-back in
-    let s = call (tabled_at clear) in
-    let N = net_from s.args.file.now s.args.h in
-    let needed = back.back.ensures in
-    record { result_value = c.judge.ensures ∙ ap range_told (is_extent N s.args.list.now needed (standing s.args.upper.now)); need_after = is_need N s.args.list.now needed (clear.clear.ensures.0 ∙ s.requires.passed.room) }
+pub back-requires-clause-known : goal.back-requires-clause-known
+back-requires-clause-known g c = known_list c.args.h c.args.list.now c.requires.passed.listed
+
+pub returns-clause-result_value : goal.returns-clause-result_value
+returns-clause-result_value g c =
+    c.judge.ensures ∙ ap range_told (is_extent (net_from c.args.file.now c.args.h) c.args.list.now c.back.ensures (standing c.args.upper.now))
+
+pub returns-clause-need_after : goal.returns-clause-need_after
+returns-clause-need_after g c =
+    is_need (net_from c.args.file.now c.args.h) c.args.list.now c.back.ensures (c.fill.ensures.len ∙ c.requires.passed.room)

@@ -1,10 +1,7 @@
-use Prim.Native.Nat.{ℕ, ◌-◌, ◌≤◌, ◌<◌}
+use Prim.Native.Nat.{ℕ, ◌≤◌, ◌<◌}
 use lib.ListN.{get_or}
 use Rattle.file.specs.Layout.{net_from}
 use Rattle.range.proofs.from_marking.Given as goal
 
 abbrev pub invariant-loop-p : goal.invariant-loop-p
-invariant-loop-p l = (l.p ≤ l.h.places) × ((q : ℕ) → q < l.p → (net_from l.file l.h).marking q ≤ get_or l.upper q 0)
-
-abbrev pub decreases-loop-p : goal.decreases-loop-p
-decreases-loop-p l = l.h.places - l.p
+invariant-loop-p l = (q : ℕ) → q < l.p → (net_from l.file l.h).marking q ≤ get_or l.upper q 0

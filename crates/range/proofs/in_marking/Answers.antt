@@ -1,25 +1,12 @@
 use mathlib.Core.Path.{sym}
 use native.Mathlib.Omega.{arith}
-use borrow.Author.Count.{below_none, below_more}
 use Rattle.net.specs.Range.{Covers}
 use Rattle.net.proofs.Range.{covers-is, lacks_is}
 use Rattle.range.proofs.in_marking.Goals as goal
 
-pub loop-p-init : goal.loop-p-init
-loop-p-init c = (omega arith, below_none _)
-
-pub returns-then-marking-need : goal.returns-then-marking-need
-returns-then-marking-need c =
-    let turn = c in
-    sym (lacks_is _ _ _ turn.loop-p.p c.loop-p-test.true (omega (arith, c.if-marking-need.true, c.marking.ensures.0)))
-
-pub loop-p-preserved : goal.loop-p-preserved
-loop-p-preserved c =
-    let turn = c in
-    (omega (arith, c.loop-p-test.true), below_more _ turn.loop-p.p turn.loop-p.invariant.1 (omega (arith, c.if-marking-need.false, c.marking.ensures.0)))
+pub returns-then-marking-needed : goal.returns-then-marking-needed
+returns-then-marking-needed c = sym (lacks_is _ _ _ c.loop-p.p (omega (arith, c.requires.1)) (omega (arith, c.marking.ensures.0)))
 
 pub returns : goal.returns
 unfolding Covers
-returns c =
-    let turn = c in
-    sym (covers-is _ _ _ (λ p l. turn.loop-p.invariant.1 p (omega (arith, l, c.loop-p-test.false))))
+returns c = sym (covers-is _ _ _ (λ p l. c.loop-p.invariant p (omega (arith, l, c.requires.1))))

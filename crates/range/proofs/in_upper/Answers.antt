@@ -1,28 +1,12 @@
 use mathlib.Core.Path.{sym}
 use native.Mathlib.Omega.{arith}
-use borrow.Author.Count.{below_none, below_more}
 use Rattle.net.specs.Range.{Covers}
 use Rattle.net.proofs.Range.{covers-is, lacks_is}
 use Rattle.range.proofs.in_upper.Goals as goal
 
-pub loop-p-init : goal.loop-p-init
-loop-p-init c = (omega arith, below_none _)
-
-pub overflow_cast-upper : goal.overflow_cast-upper
-overflow_cast-upper c = omega (arith, c.type_inv.upper c.loop-p.p)
-
-pub returns-then-upper-p : goal.returns-then-upper-p
-returns-then-upper-p c =
-    let turn = c in
-    sym (lacks_is _ _ _ turn.loop-p.p c.loop-p-test.true (omega (arith, c.if-upper-p.true)))
-
-pub loop-p-preserved : goal.loop-p-preserved
-loop-p-preserved c =
-    let turn = c in
-    (omega (arith, c.loop-p-test.true), below_more _ turn.loop-p.p turn.loop-p.invariant.1 (omega (arith, c.if-upper-p.false)))
+pub returns-then-from-needed : goal.returns-then-from-needed
+returns-then-from-needed c = sym (lacks_is _ _ _ c.loop-p.p (omega (arith, c.requires.1)) (omega (arith, c.from.ensures)))
 
 pub returns : goal.returns
 unfolding Covers
-returns c =
-    let turn = c in
-    sym (covers-is _ _ _ (λ p l. turn.loop-p.invariant.1 p (omega (arith, l, c.loop-p-test.false))))
+returns c = sym (covers-is _ _ _ (λ p l. c.loop-p.invariant p (omega (arith, l, c.requires.1))))

@@ -8,10 +8,7 @@ returns-then-in_marking c = ap range_told (sym (for_every _ _ _ (sym c.in_markin
 
 pub returns-then-in_upper : goal.returns-then-in_upper
 returns-then-in_upper c =
-    let a = c in
-    ap range_told (sym (for_partly _ _ _ (sym a.in_marking.ensures ∙ a.if-in_marking.false) (sym c.in_upper.ensures ∙ c.if-in_upper.true)))
+    ap range_told (sym (for_partly _ _ _ (sym c.in_marking.ensures ∙ c.if-in_marking.false) (sym c.in_upper.ensures ∙ c.if-in_upper.true)))
 
 pub returns : goal.returns
-returns c =
-    let a = c in
-    ap range_told (sym (for_never _ _ _ (sym a.in_marking.ensures ∙ a.if-in_marking.false) (sym c.in_upper.ensures ∙ c.if-in_upper.false)))
+returns c = ap range_told (sym (for_never _ _ _ (sym c.in_marking.ensures ∙ c.if-in_marking.false) (sym c.in_upper.ensures ∙ c.if-in_upper.false)))

@@ -3,36 +3,26 @@ use native.Mathlib.Omega.{arith}
 use Rattle.replay_firing.proofs.Firing.{Runs, runs, run_of}
 use Rattle.range.proofs.Need.{turned_back_lem}
 use Rattle.range.proofs.step_back.Goals as goal
-use Rattle.range.proofs.step_back.Goals.{After-entry-to, Start}
+use Rattle.range.proofs.step_back.Goals.{After-entry-to}
 
--- ---- the states: the call, the arcs of t known
-
-abbrev call : After-entry-to → Start
-call c = (goal.at.After-entry-to c).Start
-
-arcs_of : (c : After-entry-to) → let s = call c in Runs s.args.file.now s.args.h s.args.t c.entry-from.result c.entry-middle.result c.entry-to.result
-arcs_of c =
-    let s = call c in
-    runs s.requires.ready s.requires.t_lt_transitions c.entry-from.ensures.0 c.entry-middle.ensures.0 c.entry-to.ensures.0
+-- the arcs of t
+arcs_of : (c : After-entry-to) → Runs c.args.file.now c.args.h c.args.t c.entry-from.result c.entry-middle.result c.entry-to.result
+arcs_of c = runs c.requires.ready c.requires.t_lt_transitions c.entry-from.ensures.0 c.entry-middle.ensures.0 c.entry-to.ensures.0
 
 pub credit-requires : goal.credit-requires
 credit-requires c =
-    let s = call (goal.at.credit-requires c).After-entry-to in
     let x = arcs_of (goal.at.credit-requires c).After-entry-to in
-    run_of s.requires.ready s.requires.ready.places (omega (arith, x.second)) (omega (arith, x.within))
+    run_of c.requires.ready c.requires.ready.places (omega (arith, x.second)) (omega (arith, x.within))
 
-pub give-requires : goal.give-requires
-give-requires c =
-    let credit = c in
-    let known = credit in
-    let s = call (goal.at.give-requires known).After-entry-to in
-    let x = arcs_of (goal.at.give-requires known).After-entry-to in
-    let y = credit.credit.ensures in
-    record { run = run_of s.requires.ready (y.long ∙ s.requires.ready.places) (omega (arith, x.first)) (omega (arith, x.second, x.within)); by_index = λ p. omega (arith, y.at p, x.inputs p, x.taken p, x.few, s.requires.by_index p) }
+pub give-requires-clause-run : goal.give-requires-clause-run
+give-requires-clause-run c =
+    let x = arcs_of (goal.at.give-requires-clause-run c).After-entry-to in
+    run_of c.requires.ready (c.credit.ensures.long ∙ c.requires.ready.places) (omega (arith, x.first)) (omega (arith, x.second, x.within))
+
+pub give-requires-clause-by_index : goal.give-requires-clause-by_index
+give-requires-clause-by_index c =
+    let x = arcs_of (goal.at.give-requires-clause-by_index c).After-entry-to in
+    λ p. omega (arith, c.credit.ensures.at p, x.inputs p, x.taken p, x.few, c.requires.by_index p)
 
 pub returns : goal.returns
-returns c =
-    let give = c in
-    let credit = give in
-    let known = credit in
-    turned_back_lem (call (goal.at.returns known).After-entry-to).requires.ready (arcs_of (goal.at.returns known).After-entry-to) credit.credit.ensures give.give.ensures
+returns c = turned_back_lem c.requires.ready (arcs_of (goal.at.returns c).After-entry-to) c.credit.ensures c.give.ensures

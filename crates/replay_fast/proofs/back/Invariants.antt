@@ -1,11 +1,5 @@
-use Rattle.std.proofs.Common.{◌-◌, ◌≤◌}
-use Rattle.file_header.specs.declared.Header.{Header}
-use Rattle.replay_fast.specs.Moves.{MovesOf, Movable}
 use Rattle.replay_fast.proofs.Moving.{Moving}
 use Rattle.replay_fast.proofs.back.Given as goal
 
 abbrev pub invariant-loop-j : goal.invariant-loop-j
-invariant-loop-j l = (l.j ≤ l.to) × ((h : Header) → Movable l.file h l.from l.to l.initial.marking → MovesOf l.file h l.places l.changes → Moving 1 0 l.file h.arcstart l.from l.j l.initial.marking l.marking)
-
-abbrev pub decreases-loop-j : goal.decreases-loop-j
-decreases-loop-j l = l.to - l.j
+invariant-loop-j l = Moving 1 0 l.file l.fn.h.arcstart l.from l.j l.initial.marking l.marking

@@ -1,11 +1,7 @@
-use Rattle.std.proofs.Common.{◌-◌, ◌≤◌}
+use Rattle.std.proofs.Common.{◌≡◌, ℕ, ◌<◌, get_or}
 use Rattle.arcs_column.specs.Ways.{place_at}
 use Rattle.replay_fast.specs.Moves.{change_at}
-use Rattle.replay_fast.proofs.Filling.{Filled}
 use Rattle.replay_fast.proofs.moves_of.Given as goal
 
 abbrev pub invariant-loop-j : goal.invariant-loop-j
-invariant-loop-j l = (l.j ≤ l.arcs) × Filled (place_at l.file l.start) l.initial.places l.places l.j × Filled (change_at l.file l.start) l.initial.changes l.changes l.j
-
-abbrev pub decreases-loop-j : goal.decreases-loop-j
-decreases-loop-j l = l.arcs - l.j
+invariant-loop-j l = ((i : ℕ) → i < l.j → get_or l.places i 0 ≡ place_at l.file l.start i) × ((i : ℕ) → i < l.j → get_or l.changes i 0 ≡ change_at l.file l.start i)

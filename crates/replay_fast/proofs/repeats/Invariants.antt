@@ -3,7 +3,4 @@ use Rattle.replay_fast.specs.Moves.{repeats_to}
 use Rattle.replay_fast.proofs.repeats.Given as goal
 
 abbrev pub invariant-loop-j : goal.invariant-loop-j
-invariant-loop-j l = (1 ≤ l.j) × (l.j - 1 ≤ l.count - 1) × (l.n ≤ l.j - 1) × (l.n ≡ repeats_to l.places (l.j - 1))
-
-abbrev pub decreases-loop-j : goal.decreases-loop-j
-decreases-loop-j l = l.count - l.j
+invariant-loop-j l = (l.j - 1 ≤ l.count - 1) × (l.n ≤ l.j - 1) × (l.n ≡ repeats_to l.places (l.j - 1))

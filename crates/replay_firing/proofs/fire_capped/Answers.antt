@@ -1,40 +1,14 @@
-use Rattle.replay_steps.specs.Steps.{Ready}
-use Rattle.replay_firing.specs.Firing.{Left}
-use Rattle.replay_firing.proofs.Trying.{ready_after, left, filled_nowhere, filled_at}
+use Rattle.replay_firing.proofs.Trying.{ready_after, left, filled_none, filled_some}
 use Rattle.replay_firing.proofs.fire_capped.Goals as goal
-use Rattle.replay_firing.proofs.fire_capped.Goals.{After-fire, Start}
 
--- ---- the states: the call, the firing done
-
-abbrev call : After-fire → Start
-call c = (goal.at.After-fire c).Start
-
--- the marking that the firing left
-fired : (c : After-fire) → let fire = c in let s = call fire in
-    Ready s.args.file.now s.args.h s.args.table.now fire.fire.new.marking × Left s.args.file.now s.args.h s.args.t fire.fire.new.marking
-fired c =
-    let fire = c in
-    let s = call fire in
-    (ready_after s.requires.ready s.requires.firable fire.fire.ensures, left s.requires.ready s.requires.firable fire.fire.ensures)
-
-pub lowest_full-r-requires : goal.lowest_full-r-requires
-lowest_full-r-requires c = let told = fired (goal.at.lowest_full-r-requires c).After-fire in record { ready = told.0; left = told.1 }
+pub lowest_full-requires : goal.lowest_full-requires
+lowest_full-requires c = record { ready = ready_after c.requires.ready c.requires.firable c.fire.ensures; left = left c.requires.ready c.requires.firable c.fire.ensures }
 
 pub unfire-requires : goal.unfire-requires
-unfire-requires c = let told = fired (goal.at.unfire-requires c).After-fire in record { ready = told.0; left = told.1 }
+unfire-requires c = record { ready = ready_after c.requires.ready c.requires.firable c.fire.ensures; left = left c.requires.ready c.requires.firable c.fire.ensures }
 
-pub returns-in-At : goal.returns-in-At
-returns-in-At c =
-    let unfire = c in
-    let told = unfire in
-    let full = told in
-    let fire = full in
-    let s = call (goal.at.returns-in-At fire).After-fire in
-    filled_at s.requires.ready s.requires.firable fire.fire.ensures full.lowest_full-r.ensures told.in-At.is unfire.unfire.ensures
+pub returns-in_err-full : goal.returns-in_err-full
+returns-in_err-full c = rw c.from_residual.ensures (filled_none c.requires.ready c.requires.firable c.fire.ensures c.in_err-full.ensures)
 
 pub returns : goal.returns
-returns c =
-    let full = c in
-    let fire = full in
-    let s = call (goal.at.returns fire).After-fire in
-    filled_nowhere s.requires.ready s.requires.firable fire.fire.ensures full.lowest_full-r.ensures c.in_default.is
+returns c = filled_some c.requires.ready c.requires.firable c.fire.ensures c.in_ok-full.full c.in_ok-full.ensures c.unfire.ensures

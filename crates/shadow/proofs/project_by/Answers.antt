@@ -1,22 +1,12 @@
-use Rattle.shadow.proofs.Casting.{fireable, cast_by_lem}
+use Rattle.tables.proofs.Zeros.{zeros_at}
+use Rattle.shadow.proofs.Casting.{numbered, fireable, cast_by_lem}
 use Rattle.shadow.proofs.project_by.Goals as goal
-use Rattle.shadow.proofs.project_by.Goals.{After-numbers-arg-1, Start}
-
--- ---- the states: the call, the table made
-
-abbrev call : After-numbers-arg-1 → Start
-call c = (goal.at.After-numbers-arg-1 c).Start
 
 pub numbers-requires : goal.numbers-requires
-numbers-requires c = record { sound = ((call c).requires.given.sound, (call c).requires.given.kind); by_index = (call c).requires.by_index }
+numbers-requires g c = record { sound = (c.requires.0.sound, c.requires.0.kind); by_index = zeros_at g.row.N }
 
 pub write_fired-requires : goal.write_fired-requires
-write_fired-requires c =
-    let numbered = c in
-    fireable (call (goal.at.write_fired-requires numbered).After-numbers-arg-1).requires.given numbered.numbers.ensures
+write_fired-requires g c = fireable c.requires.0 (numbered g.row.N c.numbers.ensures)
 
 pub returns : goal.returns
-returns c =
-    let cast = c in
-    let numbered = cast in
-    cast_by_lem (call (goal.at.returns numbered).After-numbers-arg-1).requires.given numbered.numbers.ensures cast.write_fired.ensures
+returns g c = cast_by_lem c.requires.0 (numbered g.row.N c.numbers.ensures) c.write_fired.ensures

@@ -1,38 +1,26 @@
-use native.Mathlib.Omega.{arith}
-use Rattle.shadow.proofs.Runs.{given_by, due_few, apart_long, at_due, follows_apart}
+use Prim.Native.Nat.{ℕ}
+use mathlib.Core.List.{List, ◌++◌}
+use mathlib.Core.Path.{ap}
+use lib.ListN.{drop}
+use Rattle.refusals.proofs.Numbers.{passed_on}
+use Rattle.shadow.proofs.Runs.{given_by, follows_unreplayed, follows_unwritten, follows_apart}
 use Rattle.shadow.proofs.shadow_apart.Goals as goal
-use Rattle.shadow.proofs.shadow_apart.Goals.{After-project_fired-r, After-replay-o, Start}
 
--- ---- the states: the call, the plan replayed apart, the output list written
+pub returns-in_err-o : goal.returns-in_err-o
+returns-in_err-o c =
+    rw (passed_on _ c.from_residual.ensures.1)
+    (follows_unreplayed c.args.plan.now c.args.p _ c.args.list.now _ c.args.apart.now _ _ c.requires.roomy.apart_long c.requires.roomy.marking_long c.in_err-o.ensures.answer)
 
-abbrev call : After-replay-o → Start
-call c = (goal.at.After-replay-o c).Start
+pub project_fired-requires : goal.project_fired-requires
+project_fired-requires c =
+    (given_by c.args.plan.now c.args.p c.args.list.now _ c.requires.sound.0 c.requires.sound.1 c.in_ok-o.ensures.answer, c.requires.roomy.sound.placed.transitions)
 
-abbrev replayed : After-project_fired-r → After-replay-o
-replayed c = (goal.at.After-project_fired-r c).After-replay-o
-
-pub project_fired-r-requires : goal.project_fired-r-requires
-project_fired-r-requires c =
-    let done = c in
-    let s = call (goal.at.project_fired-r-requires done).After-replay-o in
-    (given_by s.args.plan.now s.args.p s.args.list.now _ s.requires.sound.0 s.requires.sound.1 done.replay-o.ensures.answer, s.requires.roomy.sound.placed.transitions)
-
-pub copy-requires : goal.copy-requires
-copy-requires c =
-    let due = c in
-    let cast = due in
-    let done = replayed (goal.at.copy-requires cast).After-project_fired-r in
-    let s = call done in
-    let few = due_few cast.project_fired-r.result s.args.p.places in
-    let long = apart_long s.args.plan.now s.args.p s.args.list.now s.args.apart.now s.requires.roomy.apart_long done.replay-o.ensures.marking in
-    (omega (arith, due.due-n.ensures, few, s.requires.roomy.apart_long, long), omega (arith, due.due-n.ensures, few, s.requires.roomy.marking_long))
+pub returns-in_err-r : goal.returns-in_err-r
+returns-in_err-r c =
+    rw (passed_on _ c.from_residual-in_err-r.ensures.1)
+    (follows_unwritten c.args.plan.now c.args.p _ c.args.list.now _ c.args.apart.now _ _ c.requires.roomy.apart_long c.requires.roomy.marking_long c.in_ok-o.ensures.answer c.in_err-r.ensures)
 
 pub returns : goal.returns
 returns c =
-    let copied = c in
-    let due = copied in
-    let cast = due in
-    let done = replayed (goal.at.returns cast).After-project_fired-r in
-    let s = call done in
-    follows_apart s.args.plan.now s.args.p _ s.args.list.now _ _ s.requires.roomy.apart_long s.requires.roomy.marking_long done.replay-o.ensures.answer done.replay-o.ensures.marking cast.project_fired-r.ensures
-    (at_due _ _ due.due-n.ensures copied.copy.ensures)
+    follows_apart c.args.plan.now c.args.p _ c.args.list.now _ c.args.apart.now _ _ c.requires.roomy.apart_long c.requires.roomy.marking_long c.in_ok-o.ensures.answer c.in_ok-o.ensures.marking c.in_ok-r.ensures
+    (ap (λ (x : List ℕ). x ++ drop c.args.p.places c.args.marking.now) c.copy_from_slice.ensures.after)

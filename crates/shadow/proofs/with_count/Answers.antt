@@ -11,6 +11,3 @@ returns-in-Short c = ap (λ (o : Outcome). with_count o c.args.count) (sym c.in-
 
 pub returns-in-Full : goal.returns-in-Full
 returns-in-Full c = ap (λ (o : Outcome). with_count o c.args.count) (sym c.in-Full.is)
-
-pub returns-in-Refused : goal.returns-in-Refused
-returns-in-Refused c = ap (λ (o : Outcome). with_count o c.args.count) (sym c.in-Refused.is)

@@ -1,3 +1,5 @@
+use mathlib.Core.Path.{ap}
+use Rattle.std.proofs.Common.{Ok}
 use native.Mathlib.Omega.{arith}
 use Rattle.shadow.proofs.Casting.{part-long, part-reached, few_chosen, cast_none, space_enough, cast_all}
 use Rattle.shadow.proofs.write_fired.Goals as goal
@@ -39,4 +41,4 @@ returns c =
     let written = c in
     let room = written in
     let end = ended (goal.at.returns room).After-lacks-lacking in
-    cast_all (call end).requires end.fired-end.ensures room.lacks-lacking.ensures room.if-lacking.false written.write-n.ensures.count written.write-n.ensures.output c.with_count.ensures
+    cast_all (call end).requires end.fired-end.ensures room.lacks-lacking.ensures room.if-lacking.false written.write-n.ensures.count written.write-n.ensures.output (ap Ok c.with_count.ensures)
