@@ -6,11 +6,11 @@ use mathlib.Core.Path.{◌≡◌, refl, sym, ap, ◌∙◌}
 use native.Mathlib.Omega.{arith}
 use native.Mathlib.Numerals.{add-one}
 use lib.Dec.{eqb, ltb, leb}
-use native.Mathlib.Nat.{add-zero}
 use Rattle.tables.proofs.Zeros.{zeros_at}
-use lib.ListN.{length, take, drop, get_or, set, replicate, length-take, drop_of_length-le, get_or-eq_default}
-use lib.Seq.{get_or-take, take_all, drop-cons, get_or-set_same, get_or-set_other}
-use borrow.Author.Tests.{lt-ltb, le-ltb, ltb-true, ltb-false, leb-false, eqb-true, eqb-false, eq-eqb, ne_eqb, not-false}
+use lib.ListN.{length, take, drop, get_or, replicate, length-take, drop_of_length-le, get_or-eq_default}
+use lib.Seq.{get_or-take, drop-cons}
+use borrow.Author.Tests.{lt-ltb, le-ltb, ltb-true, ltb-false, leb-false, eqb-true, eq-eqb, ne_eqb, not-false}
+use Rattle.std.specs.List.{list_any}
 use Rattle.net.proofs.Numbers.{by_cases}
 use Rattle.file_words.proofs.Laws.{or-false}
 use Rattle.promise.proofs.Replays.{differ}
@@ -39,9 +39,6 @@ module _ (q : ℕ) where
   pub carried_none : (t r : List ℕ) → carried_to q (take 0 t) (take 0 r) ≡ 0
   unfolding carried_to
   carried_none t r = refl
-
-  pub carried-all : (t r : List ℕ) (i : ℕ) → length t ≡ length r → length t ≤ i → carried_to q (take i t) (take i r) ≡ carried_to q t r
-  carried-all t r i e l = rw (take_all i t l, take_all i r (omega (arith, e)))
 
   -- a sum is at least each of its entries
   pub carried-least : (t r : List ℕ) (i : ℕ) → i < length t → i < length r → get_or t i 0 ≡ q → get_or r i 0 ≤ carried_to q t r
@@ -78,18 +75,8 @@ placed_at P (x ∷ t) (k ∷ r) zero p s l m n =
 placed_at P (x ∷ t) (k ∷ r) (suc i) p s l m n =
     placed_at P t r i (or-false (names_no_place P x) (any (names_no_place P) t) p).1 (or-false (eqb x 65535 && ltb 0 k) (strands t r) s).1 (omega arith) (omega arith) n
 
--- one sum grows
-pub add_at : (l : List ℕ) (q n p : ℕ) → q < length l → get_or (set l q (get_or l q 0 + n)) p 0 ≡ get_or l p 0 + counted (eqb q p) n
-add_at l q n p h = by_cases (eqb q p)
-    (λ e. let q≡ = eqb-true q p e in rw e (ap (λ (k : ℕ). get_or (set l q (get_or l q 0 + n)) k 0) (sym q≡) ∙ get_or-set_same l q _ 0 h ∙ ap (λ (k : ℕ). get_or l k 0 + n) q≡))
-    (λ e. rw e (get_or-set_other l q p _ 0 (λ z. eqb-false q p e (sym z)) ∙ sym (add-zero _)))
-
-pub add-off : (l : List ℕ) (q n p : ℕ) → length l ≤ q → p < length l → get_or l p 0 ≡ get_or l p 0 + counted (eqb q p) n
-add-off l q n p h k = rw (ne_eqb q p (λ e. omega (arith, e))) (sym (add-zero _))
-
 -- the sums after i entries
 pub record Adding (t r s₀ s : List ℕ) (i : ℕ) : Type 0 where
-  pub within : i ≤ length t
   pub long : length s ≡ length s₀
   pub at : (q : ℕ) → q < length s → get_or s q 0 ≡ carried_to q (take i t) (take i r)
   pub low : (q : ℕ) → get_or s q 0 ≤ i * 4294967295
@@ -97,20 +84,15 @@ pub record Adding (t r s₀ s : List ℕ) (i : ℕ) : Type 0 where
 module _ {t r s₀ : List ℕ} (passed : Passed t r s₀) where
   pub adding-none : Adding t r s₀ s₀ 0
   adding-none = record {
-    within = omega arith;
     long = refl;
     at = λ q l. passed.zeros q ∙ sym (carried_none q t r);
     low = λ q. omega (arith, passed.zeros q);
   }
 
   module _ {s : List ℕ} {i : ℕ} (a : Adding t r s₀ s i) where
-    pub adding-fits : (n : ℕ) → n ≤ 4294967295 → (q : ℕ) → get_or s q 0 + n < 18446744073709551616
-    adding-fits n h q = omega (arith, a.low q, a.within, passed.few)
-
     pub adding-next : {s' : List ℕ} → i < length t → get_or r i 0 ≤ 4294967295 → length s' ≡ length s
         → ((p : ℕ) → p < length s → get_or s' p 0 ≡ get_or s p 0 + counted (eqb (get_or t i 0) p) (get_or r i 0)) → Adding t r s₀ s' (i + 1)
     adding-next {s'} l h e f = record {
-      within = omega arith;
       long = e ∙ a.long;
       at = λ q k. f q (omega (arith, e)) ∙ ap (λ (x : ℕ). x + counted (eqb (get_or t i 0) q) (get_or r i 0)) (a.at q (omega (arith, e))) ∙ sym (carried-next q t r i passed.long l);
       low = λ q. by_cases (ltb q (length s))
@@ -121,13 +103,6 @@ module _ {t r s₀ : List ℕ} (passed : Passed t r s₀) where
         counted-le : (b : Bool) (n : ℕ) → counted b n ≤ n
         counted-le true n = omega arith
         counted-le false n = omega arith
-
-    pub adding-all : length t ≤ i → AddsUp t r s₀ s true
-    adding-all l = record {
-      long = a.long;
-      all = λ e q k. a.at q k ∙ carried-all q t r i passed.long l;
-      above = λ e. differ (sym e);
-    }
 
     pub adding-above : i < length t → 4294967295 < get_or r i 0 → AddsUp t r s₀ s false
     adding-above l h =
@@ -140,6 +115,12 @@ module _ {t r s₀ : List ℕ} (passed : Passed t r s₀) where
           above = λ e. (q, omega (arith, k, a.long), omega (arith, h, carried-least q t r i l m refl));
         }
 
+-- a test of a list, by two names
+any_listed : (f : ℕ → Bool) (l : List ℕ) → list_any f l ≡ any f l
+unfolding any
+any_listed f [] = refl
+any_listed f (x ∷ l) = ap (λ (b : Bool). f x || b) (any_listed f l)
+
 -- the table, by the way out
 module _ (old new : ℕ) (running table : List ℕ) where
   pub running_wrong : (length running ≡ old → ⊥) → true ≡ table_wrong old new running table
@@ -150,9 +131,9 @@ module _ (old new : ℕ) (running table : List ℕ) where
   unfolding table_wrong
   length-wrong e d = rw (eq-eqb (length running) old e, ne_eqb (length table) old d)
 
-  pub entries-wrong : {b : Bool} → length running ≡ old → length table ≡ old → b ≡ any (names_no_place new) table → b ≡ table_wrong old new running table
+  pub entries-wrong : {b : Bool} → length running ≡ old → length table ≡ old → b ≡ list_any (names_no_place new) table → b ≡ table_wrong old new running table
   unfolding table_wrong
-  entries-wrong e f k = rw (eq-eqb (length running) old e, eq-eqb (length table) old f) k
+  entries-wrong e f k = rw (eq-eqb (length running) old e, eq-eqb (length table) old f) (k ∙ any_listed (names_no_place new) table)
 
   -- and what is known where it is not wrong
   pub right : table_wrong old new running table ≡ false → (length running ≡ old) × (length table ≡ old) × (any (names_no_place new) table ≡ false)

@@ -2,7 +2,8 @@
 
 // Carries a running marking to the places of another plan, by a table.
 ghost use Rattle.std.specs.Prelude.{◌≡◌, ◌&&◌, ℕ, ◌+◌, ◌<◌, ◌≤◌, eqb, ltb, length, get_or};
-ghost use Rattle.net.specs.Numbers.{any};
+ghost use Rattle.std.specs.List.{list_any};
+ghost use Rattle.refusals.specs.Numbers.{refusal_number};
 ghost use Rattle.net.specs.Net.{counted, tokens};
 ghost use Rattle.file.specs.Layout.{net_from};
 ghost use Rattle.file.specs.Facts.{Sound};
@@ -11,6 +12,7 @@ ghost use Rattle.promise.specs.Transfer.{carried_to, names_no_place, table_wrong
 ghost use Rattle.carry.specs.Sums.{Passed, AddsUp, sums_refusal};
 
 use file_header::Header;
+use refusals::Refusal;
 use tables::{LARGE, wide};
 
 // Neither a place of a plan that has so many nor 65,535?
@@ -22,17 +24,9 @@ fn no_place(places: usize, x: usize) -> bool
 
 // Has the table such an entry?
 fn has_unknown(table: &[u16], places: usize) -> bool
-    ensures { result ≡ any (names_no_place places) table.now }
+    ensures { result ≡ list_any (names_no_place places) table.now }
 {
-    let mut i: usize = 0;
-    while i < table.len() {
-        let x = wide(table[i]);
-        if no_place(places, x) {
-            return true;
-        }
-        i += 1;
-    }
-    false
+    table.iter().any(|x| no_place(places, wide(*x)))
 }
 
 // Has the running marking or the table a wrong length, or the table an entry that is no place?
@@ -60,14 +54,10 @@ fn stranded(table: &[u16], running: &[u64]) -> bool
     requires { length table.now ≡ length running.now }
     ensures { result ≡ strands table.now running.now }
 {
-    let mut i: usize = 0;
-    while i < table.len() {
-        let x = wide(table[i]);
-        let n = running[i];
-        if no_target(x, n) {
+    for (i, x) in table.iter().enumerate() {
+        if no_target(wide(*x), running[i]) {
             return true;
         }
-        i += 1;
     }
     false
 }
@@ -87,31 +77,17 @@ fn add_up(table: &[u16], running: &[u64], sums: &mut [u64]) -> bool
     requires { Passed table.now running.now sums.old }
     ensures { AddsUp table.now running.now sums.old sums.new result }
 {
-    let mut i: usize = 0;
-    while i < table.len() {
+    for (i, x) in table.iter().enumerate() {
         let n = running[i];
         if 4294967295 < n {
             return false;
         }
-        add(sums, wide(table[i]), n);
-        i += 1;
+        add(sums, wide(*x), n);
     }
     true
 }
 
-// Writes the sums to the marking, which has as many entries.
-fn copy(sums: &[u64], marking: &mut [u64])
-    requires { length marking.old ≡ length sums.now }
-    ensures { marking.new ≡ sums.now }
-{
-    let mut q: usize = 0;
-    while q < sums.len() {
-        marking[q] = sums[q];
-        q += 1;
-    }
-}
-
-// The sums, in a list that is lent with an entry for each new place: 24, 13, or they are written.
+// The sums, in a list that is lent with an entry for each new place: refused by 24 or 13, or they are written.
 fn carry_in(
     new: &[u8],
     h: Header,
@@ -119,28 +95,28 @@ fn carry_in(
     table: &[u16],
     sums: &mut [u64],
     marking: &mut [u64],
-) -> u32
+) -> Result<(), Refusal>
     requires sound { Sound new.now h }
     requires sums_len { length sums.old ≡ h.places }
     requires passed { Passed table.now running.now sums.old }
-    ensures value { result ≡ sums_refusal (net_from new.now h) running.now table.now (length marking.old) }
-    ensures marking_after { marking.new ≡ written result (tokens (net_from new.now h) (λ q. carried_to q table.now running.now)) marking.old }
+    ensures value { refusal_number result ≡ sums_refusal (net_from new.now h) running.now table.now (length marking.old) }
+    ensures marking_after { marking.new ≡ written (refusal_number result) (tokens (net_from new.now h) (λ q. carried_to q table.now running.now)) marking.old }
 {
     if !add_up(table, running, sums) {
-        return 24;
+        return Err(Refusal::Tokens);
     }
     if inputs_starts::overfull(new, h, sums) {
-        return 24;
+        return Err(Refusal::Tokens);
     }
     let places = h.places;
     if marking.len() < places {
-        return 13;
+        return Err(Refusal::Buffer);
     }
-    copy(sums, &mut marking[..places]);
-    0
+    marking[..places].copy_from_slice(sums);
+    Ok(())
 }
 
-// Carries the running marking of a plan of `old` places to the places of a new one: 0, 22, 23, 24 or 13.
+// Carries the running marking of a plan of `old` places to the places of a new one: refused by 22, 23, 24 or 13.
 pub fn carry(
     old: usize,
     new: &[u8],
@@ -148,17 +124,17 @@ pub fn carry(
     running: &[u64],
     table: &[u16],
     marking: &mut [u64],
-) -> u32
+) -> Result<(), Refusal>
     requires bound { old ≤ 1024 }
     requires sound { Sound new.now h }
-    ensures answer { result ≡ carry_refusal old (net_from new.now h) running.now table.now (length marking.old) }
-    ensures marking { marking.new ≡ written result (tokens (net_from new.now h) (λ q. carried_to q table.now running.now)) marking.old }
+    ensures answer { refusal_number result ≡ carry_refusal old (net_from new.now h) running.now table.now (length marking.old) }
+    ensures marking { marking.new ≡ written (refusal_number result) (tokens (net_from new.now h) (λ q. carried_to q table.now running.now)) marking.old }
 {
     if table_wrong(old, h.places, running, table) {
-        return 22;
+        return Err(Refusal::Entries);
     }
     if stranded(table, running) {
-        return 23;
+        return Err(Refusal::Stranded);
     }
     let places = h.places;
     let mut sums = [0u64; LARGE];

@@ -54,9 +54,6 @@ module _ (s : List ℕ) (start : ℕ) where
     abbrev pub joined_from : ℕ → List Arc
     joined_from j = joined (arcs_from s (start + 8 * j) (n - j))
 
-    pub joined-all : joined (arcs_from s start n) ≡ joined_from 0
-    joined-all = let e : start ≡ start + 8 * 0 = omega arith in let d : n ≡ n - 0 = omega arith in λ i. joined (arcs_from s (e i) (d i))
-
     joined-next : (j : ℕ) → j < n → joined_from j ≡ joined_to (arc_at s (start + 8 * j)) (joined_from (j + 1))
     unfolding joined
     joined-next j l =

@@ -3,12 +3,16 @@ use Prim.Native.Nat.{ℕ, zero, suc, ◌+◌, ◌-◌, ◌*◌, ◌≤◌, ◌<�
 use mathlib.Core.Bool.{Bool}
 use mathlib.Core.List.{List, ◌∷◌}
 use mathlib.Core.Logic.{◌≢◌}
-use mathlib.Core.Path.{◌≡◌, refl, sym, ap, ◌∙◌}
+use mathlib.Core.Path.{◌≡◌, sym, ap, ◌∙◌}
 use native.Mathlib.Omega.{arith}
 use lib.Dec.{ltb}
 use lib.ListN.{length}
 use lib.Seq.{sets}
 use borrow.Author.Tests.{lt-ltb, le-ltb}
+use Rattle.std.specs.Prelude.{Result, Ok, Err}
+use Rattle.refusals.specs.Numbers.{number}
+use Rattle.refusals.specs.declared.Refusal.{Refusal}
+use Rattle.refusals.specs.declared.Refusal.TheVariants.{Weight}
 use Rattle.net.specs.Normal.{joined, normal_of}
 use Rattle.net.specs.declared.Arc.{Arc}
 use Rattle.file_words.specs.Refusal.{refuse}
@@ -22,17 +26,13 @@ use Rattle.file_writing.proofs.Bytes.{length-arcs}
 use Rattle.file_writing.proofs.PlanTrip.{length-plan}
 use Rattle.promise.specs.Normal.{weights_refusal}
 use Rattle.promise.proofs.Joined.{joined_length, weights_25}
-use Rattle.arcs_groups.specs.Groups.{Stands, GroupEnd, run_weight}
-use Rattle.tables.proofs.Storing.{Storing, storing_all, storing_as, storing_none}
+use Rattle.arcs_groups.specs.Groups.{GroupEnd, run_weight}
+use Rattle.tables.proofs.Storing.{Storing, storing_as, storing_none}
 use Rattle.slice_put.proofs.Placing.{arc-stored}
-use Rattle.plan_put.proofs.Laws.{plan_stored}
-use Rattle.plan_put.specs.Told.{room_refusal, Answers}
-use Rattle.plan_put.specs.declared.File.{File}
-use Rattle.plan_put.specs.declared.File.TheVariants.{Refused}
+use Rattle.plan_put.proofs.Laws.{plan_stored, refused}
+use Rattle.plan_put.specs.Told.{Answers}
 use Rattle.normal.specs.Counted.{heavy_or, lent_refusal}
-use Rattle.normal.specs.declared.Joined.{Joined}
-use Rattle.normal.specs.declared.Joined.TheVariants.{Arcs, Heavy}
-use Rattle.normal.proofs.Groups.{group_arc, joined_from, joined-all, joined-none, group_joined}
+use Rattle.normal.proofs.Groups.{group_arc, joined_from, joined-none, group_joined}
 
 module _ (s : List ℕ) (h : Header) where
   -- the arcs from j on, joined
@@ -42,16 +42,8 @@ module _ (s : List ℕ) (h : Header) where
   abbrev pub all : List Arc
   all = joined (net_from s h).arcs
 
-  whole : all ≡ left 0
-  whole = joined-all s h.arcstart h.arcs
-
   pub few : Sound s h → length all ≤ 4096
   few sound = omega (arith, joined_length (net_from s h).arcs, length-arcs_from s h.arcstart h.arcs, sound.placed.arcs)
-
-  pub stands : {j : ℕ} → Sound s h → j < h.arcs → Stands s h.arcstart j h.arcs
-  stands sound l =
-      let p = sound.placed in
-      record { some = l; few = p.arcs; fit = omega (arith, p.arcs_fit, p.origins_fit); short = p.short }
 
   -- ---- counting: `total` arcs are left of those before arc j, and none of them is heavy
 
@@ -60,9 +52,6 @@ module _ (s : List ℕ) (h : Header) where
     pub fewer : total ≤ j
     pub count : total + length (left j) ≡ length all
     pub light : weights_refusal (left j) ≡ weights_refusal all
-
-  pub counting_none : Counting 0 0
-  counting_none = record { reach = omega arith; fewer = omega arith; count = omega (arith, ap length whole); light = ap weights_refusal (sym whole) }
 
   module _ {j total e w : ℕ} (c : Counting j total) (g : GroupEnd s h.arcstart j h.arcs e) (f : w ≡ run_weight s h.arcstart j (e - j)) where
     next : left j ≡ group_arc s h.arcstart j e ∷ left e
@@ -73,7 +62,7 @@ module _ (s : List ℕ) (h : Header) where
     unfolding weights_refusal
     by_group = sym c.light ∙ ap weights_refusal next ∙ ap (λ (x : ℕ). refuse (ltb 65535 x) 25 (weights_refusal (left e))) (sym f)
 
-    pub heavy : 65535 < w → Heavy ≡ heavy_or (weights_refusal all) (length all)
+    pub heavy : 65535 < w → Err Weight ≡ heavy_or (weights_refusal all) (length all)
     heavy l =
         let r : weights_refusal all ≡ 25 = by_group ∙ ap (λ (b : Bool). refuse b 25 (weights_refusal (left e))) (lt-ltb 65535 w l) in
         ap (λ (n : ℕ). heavy_or n (length all)) (sym r)
@@ -86,21 +75,18 @@ module _ (s : List ℕ) (h : Header) where
       light = sym (by_group ∙ ap (λ (b : Bool). refuse b 25 (weights_refusal (left e))) (le-ltb 65535 w l));
     }
 
-  pub counting_all : {j total : ℕ} → Counting j total → h.arcs ≤ j → Arcs total ≡ heavy_or (weights_refusal all) (length all)
+  pub counting_all : {j total : ℕ} → Counting j total → h.arcs ≤ j → Ok total ≡ heavy_or (weights_refusal all) (length all)
   unfolding weights_refusal
   counting_all {j} {total} c l =
       let none = joined-none s h.arcstart h.arcs j l in
       let r : weights_refusal all ≡ 0 = sym c.light ∙ ap weights_refusal none in
       let n : total ≡ length all = omega (arith, c.count, ap length none) in
-      ap Arcs n ∙ ap (λ (k : ℕ). heavy_or k (length all)) (sym r)
+      ap Ok n ∙ ap (λ (k : ℕ). heavy_or k (length all)) (sym r)
 
   -- ---- writing: what is left of the arcs is to be stored in `buffer` from `at` on
 
   abbrev pub Writing : List ℕ → ℕ → List ℕ → ℕ → ℕ → Type 0
   Writing buffer₀ start buffer at j = Storing buffer₀ start (arcs_bytes all) buffer at (arcs_bytes (left j))
-
-  pub writing_none : (buffer : List ℕ) (start : ℕ) → Writing buffer start buffer start 0
-  writing_none buffer start = storing_as (storing_all buffer start (arcs_bytes all)) (ap arcs_bytes whole)
 
   module _ {j e : ℕ} (g : GroupEnd s h.arcstart j h.arcs e) {buffer₀ buffer : List ℕ} {start at : ℕ} (w : Writing buffer₀ start buffer at j) where
     following : left j ≡ group_arc s h.arcstart j e ∷ left e
@@ -142,25 +128,13 @@ module _ (s : List ℕ) (h : Header) where
   abbrev pub file : List ℕ
   file = plan_bytes 2 (normal_of (net_from s h))
 
-  -- what the count told
-  pub arcs_told : {r : Joined} {n : ℕ} → r ≡ heavy_or (weights_refusal all) (length all) → r ≡ Arcs n → (weights_refusal all ≡ 0) × (n ≡ length all)
-  arcs_told e f = go (weights_refusal all) (sym f ∙ e)
-    where
-      go : {n : ℕ} (k : ℕ) → Arcs n ≡ heavy_or k (length all) → (k ≡ 0) × (n ≡ length all)
-      go zero g = (refl, cc)
-      go (suc k) g = let z : ◌≡◌ {A = ℕ} 0 1 = cc in absurd (omega arith)
-
-  heavy_told : {r : Joined} → r ≡ heavy_or (weights_refusal all) (length all) → r ≡ Heavy → weights_refusal all ≢ 0
+  heavy_told : {r : Result ℕ Refusal} {w : Refusal} → r ≡ heavy_or (weights_refusal all) (length all) → r ≡ Err w → (weights_refusal all ≢ 0) × (w ≡ Weight)
   heavy_told e f = go (weights_refusal all) (sym f ∙ e)
     where
-      go : (k : ℕ) → Heavy ≡ heavy_or k (length all) → k ≢ 0
+      go : {w : Refusal} (k : ℕ) → Err w ≡ heavy_or k (length all) → (k ≢ 0) × (w ≡ Weight)
       go zero g = let z : ◌≡◌ {A = ℕ} 0 1 = cc in absurd (omega arith)
-      go (suc k) g = λ q. omega arith
+      go (suc k) g = (λ q. omega arith, cc)
 
   -- 25
-  pub heavy_answers : {r : Joined} (entry : List ℕ) → r ≡ heavy_or (weights_refusal all) (length all) → r ≡ Heavy → Answers (lent_refusal (net_from s h) (length entry)) file entry entry (Refused 25)
-  heavy_answers entry e f = rw (weights_25 all (heavy_told e f)) (record { answer = refl; buffer = refl })
-
-  -- or else the writer's answer
-  pub light_answers : {entry exit : List ℕ} {r : File} → weights_refusal all ≡ 0 → Answers (room_refusal (length entry) file) file entry exit r → Answers (lent_refusal (net_from s h) (length entry)) file entry exit r
-  light_answers e a = rw e a
+  pub heavy_answers : {r : Result ℕ Refusal} {w : Refusal} (entry : List ℕ) → r ≡ heavy_or (weights_refusal all) (length all) → r ≡ Err w → Answers (lent_refusal (net_from s h) (length entry)) file entry entry (Err w)
+  heavy_answers {w = w} entry e f = let t = heavy_told e f in rw (weights_25 all t.0) (refused file entry w (ap number t.1))

@@ -16,17 +16,10 @@ use arcs_groups::group;
 use file_arcs::arc;
 use file_header::{CAPS, Header};
 use net::Arc;
-use plan_put::File;
+use refusals::Refusal;
 
-// How many arcs are left once parallel ones are joined; or that one of these weighs more than 65,535.
-#[derive(Clone, Copy)]
-pub enum Joined {
-    Arcs(usize),
-    Heavy,
-}
-
-// Goes over the arcs once, group by group.
-fn count(plan: &[u8], h: Header) -> Joined
+// How many arcs are left once parallel ones are joined; refused where one of these weighs more than 65,535. Goes over the arcs once, group by group.
+fn count(plan: &[u8], h: Header) -> Result<usize, Refusal>
     requires { Sound plan.now h }
     ensures { result ≡ heavy_or (weights_refusal (joined (net_from plan.now h).arcs)) (length (joined (net_from plan.now h).arcs)) }
 {
@@ -35,12 +28,12 @@ fn count(plan: &[u8], h: Header) -> Joined
     while j < h.arcs {
         let all = group(plan, h.arcstart, j, h.arcs);
         if 65535 < all.weight {
-            return Joined::Heavy;
+            return Err(Refusal::Weight);
         }
         total += 1;
         j = all.end;
     }
-    Joined::Arcs(total)
+    Ok(total)
 }
 
 // Writes the places in edition 2.
@@ -49,12 +42,10 @@ fn write_places(plan: &[u8], h: Header, buffer: &mut [u8])
     requires places_in_bounds { 8 * h.places ≤ length buffer.old }
     ensures { buffer.new ≡ sets buffer.old 0 (places_bytes 2 (net_from plan.now h).marking (net_from plan.now h).cap 0 h.places) }
 {
-    let mut p: usize = 0;
-    while p < h.places {
+    for p in 0..h.places {
         let tokens = file::marking(plan, h, p);
         let most = file::cap(plan, h, p);
         slice_put::put_place(CAPS, p, tokens, most, buffer);
-        p += 1;
     }
 }
 
@@ -82,31 +73,28 @@ fn write_arcs(plan: &[u8], h: Header, start: usize, buffer: &mut [u8])
 }
 
 // Writes the file of a plan with so many arcs left, where the buffer has room for it.
-fn write_parts(plan: &[u8], h: Header, arcs: usize, buffer: &mut [u8]) -> File
+fn write_parts(plan: &[u8], h: Header, arcs: usize, buffer: &mut [u8]) -> Result<u32, Refusal>
     requires sound { Sound plan.now h }
     requires arcs_value { arcs ≡ length (joined (net_from plan.now h).arcs) }
     ensures { Answers (room_refusal (length buffer.old) (plan_bytes 2 (normal_of (net_from plan.now h)))) (plan_bytes 2 (normal_of (net_from plan.now h))) buffer.old buffer.new result }
 {
     let start = 8 * h.places;
     if buffer.len() < start + 8 * arcs + 16 {
-        return File::Refused(13);
+        return Err(Refusal::Buffer);
     }
     write_places(plan, h, buffer);
     write_arcs(plan, h, start, buffer);
     let end = plan_put::put_end(CAPS, h.places, h.transitions, arcs, buffer);
     let bytes = end as u32;
-    File::Length(bytes)
+    Ok(bytes)
 }
 
 // Writes the normal form of a plan that was read. Refused: 25 where a joined weight is above 65,535; 13 where the buffer is shorter than the file.
-pub fn write(plan: &[u8], h: Header, buffer: &mut [u8]) -> File
+pub fn write(plan: &[u8], h: Header, buffer: &mut [u8]) -> Result<u32, Refusal>
     requires { Sound plan.now h }
     ensures answer { file_numbers result ≡ file_answer (lent_refusal (net_from plan.now h) (length buffer.old)) (length (plan_bytes 2 (normal_of (net_from plan.now h)))) }
     ensures buffer { buffer.new ≡ written (lent_refusal (net_from plan.now h) (length buffer.old)) (plan_bytes 2 (normal_of (net_from plan.now h))) buffer.old }
 {
-    let left = count(plan, h);
-    let Joined::Arcs(arcs) = left else {
-        return File::Refused(25);
-    };
+    let arcs = count(plan, h)?;
     write_parts(plan, h, arcs, buffer)
 }

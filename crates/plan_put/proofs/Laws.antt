@@ -1,20 +1,23 @@
 -- Places, arcs and trailer stored one after the other are the plan's file.
-use Prim.Native.Nat.{ℕ, zero, suc, ◌+◌, ◌*◌, ◌≤◌, ◌<◌}
-use mathlib.Core.Bool.{false}
+use Prim.Native.Nat.{ℕ, ◌+◌, ◌*◌, ◌≤◌, ◌<◌}
+use mathlib.Core.Bool.{true, false}
 use mathlib.Core.List.{List, ◌++◌}
-use mathlib.Core.Logic.{◌≢◌}
-use mathlib.Core.Path.{◌≡◌, refl, ◌∙◌}
+use mathlib.Core.Path.{◌≡◌, refl, sym, subst, ◌∙◌}
 use native.Mathlib.Omega.{arith}
 use lib.ListN.{length, length-append}
 use lib.Seq.{sets}
 use borrow.Author.Tests.{lt-ltb, le-ltb}
+use Rattle.std.specs.Prelude.{Ok, Err}
+use Rattle.refusals.specs.Numbers.{number}
+use Rattle.refusals.specs.declared.Refusal.{Refusal}
+use Rattle.refusals.specs.declared.Refusal.TheVariants.{Buffer}
+use Rattle.refusals.proofs.Numbers.{number_above}
 use Rattle.net.specs.Net.{Net}
 use Rattle.file_header.specs.Layout.{places_length}
 use Rattle.file_writing.specs.Writing.{places_bytes, arcs_bytes, plan_body, trailer_bytes, plan_bytes}
 use Rattle.file_writing.proofs.Bytes.{length-places, length-arcs}
 use Rattle.tables.proofs.Sets.{sets_after, sets_first}
 use Rattle.plan_put.specs.Told.{room_refusal, Answers}
-use Rattle.plan_put.specs.declared.File.TheVariants.{Length, Refused}
 
 -- ---- the file
 
@@ -38,15 +41,16 @@ module _ (e : ℕ) (N : Net) where
 -- ---- the answers
 
 module _ (file entry : List ℕ) where
-  pub no_room : length entry < length file → Answers (room_refusal (length entry) file) file entry entry (Refused 13)
+  pub no_room : length entry < length file → Answers (room_refusal (length entry) file) file entry entry (Err Buffer)
   no_room h = record { answer = rw (lt-ltb (length entry) (length file) h); buffer = rw (lt-ltb (length entry) (length file) h) }
 
-  pub room : {exit : List ℕ} {k : ℕ} → length file ≤ length entry → exit ≡ sets entry 0 file → k ≡ length file → Answers (room_refusal (length entry) file) file entry exit (Length k)
+  pub room : {exit : List ℕ} {k : ℕ} → length file ≤ length entry → exit ≡ sets entry 0 file → k ≡ length file → Answers (room_refusal (length entry) file) file entry exit (Ok k)
   room h f e = record {
     answer = rw (le-ltb (length entry) (length file) h) (λ i. record { refused = false; refusal = 0; length = e i });
     buffer = rw (le-ltb (length entry) (length file) h) (f ∙ sets_first file entry h);
   }
 
-  pub refused : (n : ℕ) → n ≢ 0 → Answers n file entry entry (Refused n)
-  refused zero h = absurd (h refl)
-  refused (suc n) h = record { answer = refl; buffer = refl }
+  pub refused : {n : ℕ} (e : Refusal) → number e ≡ n → Answers n file entry entry (Err e)
+  refused e f =
+      let above = number_above e in
+      subst (λ (n : ℕ). Answers n file entry entry (Err e)) (sym above.1 ∙ f) (record { answer = λ i. record { refused = true; refusal = above.1 i; length = 0 }; buffer = refl })

@@ -1,19 +1,12 @@
 #![tactic(auto)]
 
-// The end of a plan file of either edition, and the answer of a call that writes one. Places and arcs are put by slice_put.
+// The end of a plan file of either edition. Places and arcs are put by slice_put. A call that writes a plan answers the file's length or a refusal: specs/Told.antt has its numbers.
 ghost use Rattle.std.specs.Prelude.{◌≡◌, ◌+◌, ◌*◌, ◌<◌, ◌≤◌, length};
 ghost use Rattle.std.proofs.lemmas.List.Edits.{sets};
 ghost use Rattle.file_header.specs.Layout.{places_length};
 ghost use Rattle.file_writing.specs.Writing.{trailer_bytes};
 
 use file_header::places_length;
-
-// What a call that writes a plan answers: the file's length, or a refusal.
-#[derive(Clone, Copy)]
-pub enum File {
-    Length(u32),
-    Refused(u32),
-}
 
 // The trailer after so many places and arcs; the file's length.
 pub fn put_end(

@@ -32,6 +32,10 @@ pub none_yet : (f : ℕ → Bool) → 0 ≡ length (selected f 0 0)
 unfolding selected
 none_yet f = refl
 
+pub one_or_none : (b : Bool) → choose b 1 0 < 2
+one_or_none true = omega arith
+one_or_none false = omega arith
+
 pub counted_next : (f : ℕ → Bool) (n i k : ℕ) → n ≡ length (selected f 0 i) → k ≡ choose (f i) 1 0 → n + k ≡ length (selected f 0 (i + 1))
 counted_next f n i k w counts = by_cases (f i)
     (λ e. omega (arith, w, counts ∙ ap (λ (b : Bool). choose b 1 0) e, ap length (with_it f i e), length-append (selected f 0 i) (i ∷ [])))
@@ -98,7 +102,6 @@ still_one f m i e x l =
 
 -- of the numbers below m those that pass f are wanted, `count` of them; the first n entries have those below i
 pub record Filled (f : ℕ → Bool) (m count : ℕ) (out₀ out : List ℕ) (n i : ℕ) : Type 0 where
-  pub within : i ≤ m
   pub written : n ≡ length (selected f 0 i)
   pub total : count ≡ length (selected f 0 m)
   pub room : count ≤ length out₀
@@ -109,13 +112,13 @@ pub record Filled (f : ℕ → Bool) (m count : ℕ) (out₀ out : List ℕ) (n 
 module _ (f : ℕ → Bool) (m count : ℕ) (out₀ : List ℕ) where
   pub filled_none : count ≡ length (selected f 0 m) → count ≤ length out₀ → Filled f m count out₀ out₀ 0 0
   unfolding selected
-  filled_none e l = record { within = omega arith; written = refl; total = e; room = l; long = refl; front = λ k h. absurd (omega arith); rest = λ k h. refl }
+  filled_none e l = record { written = refl; total = e; room = l; long = refl; front = λ k h. absurd (omega arith); rest = λ k h. refl }
 
   module _ (out : List ℕ) (n i : ℕ) (x : Filled f m count out₀ out n i) where
     pub few : n ≤ i
     few = omega (arith, x.written, length-selected f 0 i)
 
-    module _ (before : i < m) (l : n < count) where
+    module _ (l : n < count) where
       module _ (k : ℕ) (counts : k ≡ choose (f i) 1 0) where
         chosen-front : f i ≡ true → (j : ℕ) → j < n + k → get_or (set out n i) j 0 ≡ get_or (selected f 0 (i + 1)) j 0
         chosen-front e j h = go (dec_lt j n)
@@ -137,7 +140,6 @@ module _ (f : ℕ → Bool) (m count : ℕ) (out₀ : List ℕ) where
 
         pub filled_next : Filled f m count out₀ (set out n i) (n + k) (i + 1)
         filled_next = record {
-          within = omega arith;
           written = counted_next f n i k x.written counts;
           total = x.total;
           room = x.room;
@@ -146,10 +148,10 @@ module _ (f : ℕ → Bool) (m count : ℕ) (out₀ : List ℕ) where
           rest = λ j h. get_or-set_other out n j i 0 (λ r. omega arith) ∙ x.rest j h;
         }
 
-    module _ (l : m ≤ i) where
+    module _ (e : i ≡ m) where
       -- all are seen
       all : selected f 0 i ≡ selected f 0 m
-      all = let e : i ≡ m = omega (arith, x.within) in ap (selected f 0) e
+      all = ap (selected f 0) e
 
       pub n_is : n ≡ count
       n_is = omega (arith, x.written, x.total, ap length all)

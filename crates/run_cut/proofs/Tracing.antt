@@ -1,14 +1,11 @@
 -- Going back with the tables lent: from the cleared tables to the sets of the run cut.
 use Prim.Native.Nat.{ℕ, ◌*◌, ◌≤◌}
-use mathlib.Core.Bool.{true, false, ◌&&◌}
+use mathlib.Core.Bool.{false}
 use mathlib.Core.List.{List}
 use mathlib.Core.Path.{◌≡◌, sym, ap, ◌∙◌}
 use native.Mathlib.Omega.{arith}
-use lib.Dec.{leb}
 use lib.ListN.{length, replicate, length-replicate}
-use borrow.Author.Tests.{leb-true}
 use Rattle.net.specs.Numbers.{among, Rising}
-use Rattle.net.proofs.Numbers.{and-true}
 use Rattle.file_header.specs.declared.Header.{Header}
 use Rattle.file.proofs.Criterion.{passed}
 use Rattle.file.proofs.Rows.{rising_from}
@@ -19,13 +16,6 @@ use Rattle.slice.specs.Kept.{kept_slice}
 use Rattle.run_feed.specs.Back.{Known, Entered, end_of, Back}
 use Rattle.run_feed.proofs.Ends.{begun, finished_places, finished_transitions, finished_slice, finished_positions, finished_end}
 use Rattle.run_cut.specs.Parts.{Given, Lent, Cleared, Empty, chosen_by, FedBy}
-
--- a plan that a size of tables holds
-pub sized : (p a t n m : ℕ) → (leb p n && leb a m) && leb t n ≡ true → (p ≤ n) × (a ≤ m) × (t ≤ n)
-sized p a t n m e =
-    let both = and-true (leb p n && leb a m) (leb t n) e in
-    let first = and-true (leb p n) (leb a m) both.0 in
-    (leb-true p n first.0, leb-true a m first.1, leb-true t n both.1)
 
 -- tables with nothing in them
 pub lent : (h : Header) (n m : ℕ) → h.places ≤ n → h.arcs ≤ m → h.transitions ≤ n → Lent h (replicate (2 * n) 0) (replicate m 0) (replicate n 0)

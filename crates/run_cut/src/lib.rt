@@ -1,7 +1,7 @@
 #![tactic(auto)]
 
 // The cut for one recorded run (document 02, A1): the slice of what fed the places of the criterion, and the positions of the firings that did.
-ghost use Rattle.std.specs.Prelude.{◌≡◌, ◌++◌, ◌≤◌, ◌<◌, ltb, length, drop};
+ghost use Rattle.std.specs.Prelude.{◌≡◌, ◌++◌, ◌*◌, ◌≤◌, ◌<◌, ltb, length, drop};
 ghost use Rattle.net.specs.Net.{replay as replay_of};
 ghost use Rattle.file.specs.Facts.{Sound};
 ghost use Rattle.file.specs.Layout.{net_from};
@@ -16,16 +16,22 @@ ghost use Rattle.run_cut.specs.Told.{answer_to, Answers};
 ghost use Rattle.run_cut.specs.Parts.{Given, Lent, Cleared, Empty, chosen_by, Reached, FedBy};
 
 use file_header::Header;
+use refusals::Refusal;
 use replay::Outcome;
-use slice::Cut;
 use tables::{LARGE, LARGE_ARCS, MIDDLE, MIDDLE_ARCS, SMALL, SMALL_ARCS, entry};
 
-// What it answers: the file's length, the kept places and transitions, and how many positions were chosen; where the list sticks; or a refusal.
-#[derive(Clone, Copy)]
+// Rows of arcs: two a place.
+const SMALL_ROWS: usize = 2 * SMALL;
+
+const MIDDLE_ROWS: usize = 2 * MIDDLE;
+
+const LARGE_ROWS: usize = 2 * LARGE;
+
+// What it answers where nothing is refused: the file's length, the kept places and transitions, and how many positions were chosen; or where the list sticks.
+#[derive(Clone, Copy, Debug, PartialEq, Eq)]
 pub enum RunCut {
     Written(u32, u32, u32, u32),
     Sticks(u32, u32, u32),
-    Refused(u32),
 }
 
 // Firing i counts where it is below the entry of its transition.
@@ -41,11 +47,9 @@ fn counted(list: &[u16], last: &[u16], end: usize) -> usize
     ensures { result ≡ length (chosen_by list.now last.now) }
 {
     let mut n: usize = 0;
-    let mut k: usize = 0;
-    while k < end {
+    for k in 0..end {
         let t = list[k] as usize;
         n += share(k, entry(last, t));
-        k += 1;
     }
     n
 }
@@ -67,12 +71,10 @@ fn write_positions(list: &[u16], last: &[u16], end: usize, positions: &mut [u16]
     ensures { (result ≡ length (chosen_by list.now last.now)) × (positions.new ≡ chosen_by list.now last.now ++ drop (length (chosen_by list.now last.now)) positions.old) }
 {
     let mut n: usize = 0;
-    let mut i: usize = 0;
-    while i < end {
+    for i in 0..end {
         positions[n] = i as u16;
         let t = list[i] as usize;
         n += share(i, entry(last, t));
-        i += 1;
     }
     n
 }
@@ -89,21 +91,18 @@ fn write<'a>(
     end: usize,
     buffer: &mut [u8],
     positions: &mut [u16],
-) -> RunCut
+) -> Result<RunCut, Refusal>
     requires given { Given plan.now h criterion.now list.now }
     requires fed_by { FedBy plan.now h criterion.now list.now last.now (kept_pair places.now transitions.now) end }
     ensures { Answers plan.now h criterion.now list.now (run_outcome h.edition (net_from plan.now h) criterion.now list.now (length buffer.old) (length positions.old)) buffer.old buffer.new positions.old positions.new result }
 {
     if lacks(list, last, end, positions.len()) {
-        return RunCut::Refused(13);
+        return Err(Refusal::Buffer);
     }
-    let slice = slice::write(plan, h, places, transitions, buffer);
-    let Cut::Written(bytes, np, nt) = slice else {
-        return RunCut::Refused(13);
-    };
+    let cut = slice::write(plan, h, places, transitions, buffer)?;
     let count = write_positions(list, last, end, positions);
     let chosen = count as u32;
-    RunCut::Written(bytes, np, nt, chosen)
+    Ok(RunCut::Written(cut.length, cut.places, cut.transitions, chosen))
 }
 
 // What fed the criterion, by tables that the caller lends: its places and transitions are added to two empty sets, and `last` gets one more than the last chosen firing of each transition.
@@ -153,7 +152,7 @@ fn write_by(
     last: &mut [u16],
     buffer: &mut [u8],
     positions: &mut [u16],
-) -> RunCut
+) -> Result<RunCut, Refusal>
     requires given { Given plan.now h criterion.now list.now }
     requires lent { Lent h head.old next.old first.old × Cleared h last.old }
     ensures { Answers plan.now h criterion.now list.now (run_outcome h.edition (net_from plan.now h) criterion.now list.now (length buffer.old) (length positions.old)) buffer.old buffer.new positions.old positions.new result }
@@ -186,64 +185,24 @@ fn write_by(
     )
 }
 
-// With tables for 16 places and transitions and 64 arcs.
-fn write_small(
+// With tables for N places and transitions, ROWS rows, two a place, and ARCS arcs.
+fn write_sized<const N: usize, const ROWS: usize, const ARCS: usize>(
     plan: &[u8],
     h: Header,
     criterion: &[u16],
     list: &[u16],
     buffer: &mut [u8],
     positions: &mut [u16],
-) -> RunCut
-    requires { Given plan.now h criterion.now list.now × (h.places ≤ 16) × (h.arcs ≤ 64) × (h.transitions ≤ 16) }
+) -> Result<RunCut, Refusal>
+    requires given { Given plan.now h criterion.now list.now }
+    requires reach { (2 * h.places ≤ ROWS) × (h.arcs ≤ ARCS) × (h.transitions ≤ N) }
+    requires size { (N ≤ 1024) × (ROWS ≤ 2048) × (ARCS ≤ 4096) }
     ensures { Answers plan.now h criterion.now list.now (run_outcome h.edition (net_from plan.now h) criterion.now list.now (length buffer.old) (length positions.old)) buffer.old buffer.new positions.old positions.new result }
 {
-    let mut head = [0u32; 2 * SMALL];
-    let mut next = [0u32; SMALL_ARCS];
-    let mut first = [0u16; SMALL];
-    let mut last = [0u16; SMALL];
-    write_by(
-        plan, h, criterion, list, &mut head, &mut next, &mut first, &mut last, buffer, positions,
-    )
-}
-
-// With tables for 128 places and transitions and 512 arcs.
-fn write_middle(
-    plan: &[u8],
-    h: Header,
-    criterion: &[u16],
-    list: &[u16],
-    buffer: &mut [u8],
-    positions: &mut [u16],
-) -> RunCut
-    requires { Given plan.now h criterion.now list.now × (h.places ≤ 128) × (h.arcs ≤ 512) × (h.transitions ≤ 128) }
-    ensures { Answers plan.now h criterion.now list.now (run_outcome h.edition (net_from plan.now h) criterion.now list.now (length buffer.old) (length positions.old)) buffer.old buffer.new positions.old positions.new result }
-{
-    let mut head = [0u32; 2 * MIDDLE];
-    let mut next = [0u32; MIDDLE_ARCS];
-    let mut first = [0u16; MIDDLE];
-    let mut last = [0u16; MIDDLE];
-    write_by(
-        plan, h, criterion, list, &mut head, &mut next, &mut first, &mut last, buffer, positions,
-    )
-}
-
-// With tables for 1,024 places and transitions and 4,096 arcs.
-fn write_large(
-    plan: &[u8],
-    h: Header,
-    criterion: &[u16],
-    list: &[u16],
-    buffer: &mut [u8],
-    positions: &mut [u16],
-) -> RunCut
-    requires { Given plan.now h criterion.now list.now }
-    ensures { Answers plan.now h criterion.now list.now (run_outcome h.edition (net_from plan.now h) criterion.now list.now (length buffer.old) (length positions.old)) buffer.old buffer.new positions.old positions.new result }
-{
-    let mut head = [0u32; 2 * LARGE];
-    let mut next = [0u32; LARGE_ARCS];
-    let mut first = [0u16; LARGE];
-    let mut last = [0u16; LARGE];
+    let mut head = [0u32; ROWS];
+    let mut next = [0u32; ARCS];
+    let mut first = [0u16; N];
+    let mut last = [0u16; N];
     write_by(
         plan, h, criterion, list, &mut head, &mut next, &mut first, &mut last, buffer, positions,
     )
@@ -257,21 +216,25 @@ fn write_fed(
     list: &[u16],
     buffer: &mut [u8],
     positions: &mut [u16],
-) -> RunCut
+) -> Result<RunCut, Refusal>
     requires { Given plan.now h criterion.now list.now }
     ensures { Answers plan.now h criterion.now list.now (run_outcome h.edition (net_from plan.now h) criterion.now list.now (length buffer.old) (length positions.old)) buffer.old buffer.new positions.old positions.new result }
 {
     if (h.places <= SMALL) & (h.arcs <= SMALL_ARCS) & (h.transitions <= SMALL) {
-        return write_small(plan, h, criterion, list, buffer, positions);
+        return write_sized::<SMALL, SMALL_ROWS, SMALL_ARCS>(
+            plan, h, criterion, list, buffer, positions,
+        );
     }
     if (h.places <= MIDDLE) & (h.arcs <= MIDDLE_ARCS) & (h.transitions <= MIDDLE) {
-        return write_middle(plan, h, criterion, list, buffer, positions);
+        return write_sized::<MIDDLE, MIDDLE_ROWS, MIDDLE_ARCS>(
+            plan, h, criterion, list, buffer, positions,
+        );
     }
-    write_large(plan, h, criterion, list, buffer, positions)
+    write_sized::<LARGE, LARGE_ROWS, LARGE_ARCS>(plan, h, criterion, list, buffer, positions)
 }
 
 // How the list fares from the plan's marking. The marking that it ends with is not asked for.
-fn fares(plan: &[u8], h: Header, list: &[u16]) -> Outcome
+fn fares(plan: &[u8], h: Header, list: &[u16]) -> Result<Outcome, Refusal>
     requires { Sound plan.now h }
     ensures { outcome_numbers result ≡ replay_or (list_refusal h.transitions list.now) (replay_of (net_from plan.now h) list.now).answer }
 {
@@ -295,15 +258,14 @@ pub fn run(
     list: &[u16],
     buffer: &mut [u8],
     positions: &mut [u16],
-) -> RunCut
+) -> Result<RunCut, Refusal>
     requires { Sound plan.now h × (criterion_refusal h.places criterion.now ≡ 0) }
     ensures { Answers plan.now h criterion.now list.now (answer_to plan.now h criterion.now list.now (length buffer.old) (length positions.old)) buffer.old buffer.new positions.old positions.new result }
 {
-    let outcome = fares(plan, h, list);
+    let outcome = fares(plan, h, list)?;
     match outcome {
-        Outcome::Refused(k) => RunCut::Refused(k),
-        Outcome::Short(i, p, n) => RunCut::Sticks(i, p, n),
-        Outcome::Full(i, p, n) => RunCut::Sticks(i, p, n),
+        Outcome::Short(i, p, n) => Ok(RunCut::Sticks(i, p, n)),
+        Outcome::Full(i, p, n) => Ok(RunCut::Sticks(i, p, n)),
         Outcome::Fired => write_fed(plan, h, criterion, list, buffer, positions),
     }
 }

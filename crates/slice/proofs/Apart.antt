@@ -1,22 +1,17 @@
 -- No two answers have the same numbers.
-use mathlib.Core.Path.{◌≡◌, refl, sym, ap, ◌∙◌}
-use mathlib.Core.Bool.{Bool, true, false}
+use mathlib.Core.Path.{◌≡◌, sym, ap}
+use Rattle.std.specs.Prelude.{Ok, Err}
+use Rattle.refusals.proofs.Numbers.{number_apart}
 use Rattle.promise.specs.Calls.{CutAnswer}
-use Rattle.slice.specs.Kept.{cut_numbers, ToldApart}
-use Rattle.slice.specs.declared.Cut.{Cut}
-use Rattle.slice.specs.declared.Cut.TheVariants.{Written, Refused}
+use Rattle.promise.proofs.Replays.{differ}
+use Rattle.slice.specs.Kept.{ToldApart}
+use Rattle.slice.specs.declared.Written.{Written}
 
-abbrev by : Bool → CutAnswer → Cut
-by true a = Refused a.refusal
-by false a = Written a.length a.places a.transitions
-
--- the answer that has these numbers
-abbrev cut_from : CutAnswer → Cut
-cut_from a = by a.refused a
-
-recovered : (r : Cut) → cut_from (cut_numbers r) ≡ r
-recovered (Written n p t) = refl
-recovered (Refused k) = refl
+abbrev written_from : CutAnswer → Written
+written_from a = record { length = a.length; places = a.places; transitions = a.transitions }
 
 pub told-apart : ToldApart
-told-apart a b e = sym (recovered a) ∙ ap cut_from e ∙ recovered b
+told-apart (Ok v) (Ok w) e = ap Ok (let same : v ≡ w = ap written_from e in same)
+told-apart (Ok v) (Err f) e = differ (ap (λ (x : CutAnswer). x.refused) e)
+told-apart (Err d) (Ok w) e = differ (sym (ap (λ (x : CutAnswer). x.refused) e))
+told-apart (Err d) (Err f) e = ap Err (number_apart d f (ap (λ (x : CutAnswer). x.refusal) e))

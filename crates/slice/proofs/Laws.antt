@@ -7,6 +7,9 @@ use native.Mathlib.Omega.{arith}
 use lib.ListN.{length, get_or, take, length-append}
 use lib.Seq.{sets, length-sets}
 use borrow.Author.Tests.{lt-ltb, le-ltb}
+use Rattle.std.specs.Prelude.{Result, Ok, Err}
+use Rattle.refusals.specs.declared.Refusal.{Refusal}
+use Rattle.refusals.specs.declared.Refusal.TheVariants.{Buffer}
 use Rattle.net.specs.Numbers.{among, selected}
 use Rattle.net.specs.Net.{Net}
 use Rattle.net.specs.Slice.{Slice, restrict, on_kept, keeping}
@@ -33,8 +36,7 @@ use Rattle.sets.specs.declared.KeptSets.{KeptSets}
 use Rattle.slice_members.proofs.Selected.{selected-below, count_selected}
 use Rattle.slice.specs.Kept.{Within, Answers, kept_slice}
 use Rattle.slice.specs.Parts.{Listable, Lists, MembersListed, Tables}
-use Rattle.slice.specs.declared.Cut.{Cut}
-use Rattle.slice.specs.declared.Cut.TheVariants.{Written, Refused}
+use Rattle.slice.specs.declared.Written.{Written}
 
 -- the words that have the numbers below n
 abbrev pub words_for : ℕ → ℕ
@@ -73,7 +75,7 @@ module _ (s : List ℕ) (h : Header) (kept : KeptSets) {places transitions : Lis
         transitions_known = member-known kept.transitions h.transitions w.transitions;
       }))
 
-  pub slice_kept : {entry exit : List ℕ} {r : Cut} → Answers h.edition (keeping (net_from s h) (take p places) (take t transitions)) entry exit r → Answers h.edition (kept_slice s h kept) entry exit r
+  pub slice_kept : {entry exit : List ℕ} {r : Result Written Refusal} → Answers h.edition (keeping (net_from s h) (take p places) (take t transitions)) entry exit r → Answers h.edition (kept_slice s h kept) entry exit r
   unfolding kept_slice
   slice_kept {entry} {exit} {r} = subst (λ (S : Slice). Answers h.edition S entry exit r) (λ i. keeping (net_from s h) (ps.members i) (ts.members i))
 
@@ -92,6 +94,9 @@ module _ (s : List ℕ) (h : Header) (sound : Sound s h) (ps ts places transitio
 
   pub arcs_are : kept_arcs places transitions (arcs_from s h.arcstart h.arcs) ≡ restrict ps ts (net_from s h).arcs
   arcs_are = arcs_restricted ps ts places transitions s tables.places_own tables.transitions_own h.arcstart h.arcs arcs_known
+
+  pub arcs_length : length (arcs_bytes (kept_arcs places transitions (arcs_from s h.arcstart h.arcs))) ≡ 8 * length (restrict ps ts (net_from s h).arcs)
+  arcs_length = omega (arith, length-arcs (kept_arcs places transitions (arcs_from s h.arcstart h.arcs)), ap length arcs_are)
 
 restrict-length : (ps ts : List ℕ) (l : List Arc) → length (restrict ps ts l) ≤ length l
 unfolding restrict
@@ -190,11 +195,11 @@ module _ (e : ℕ) (N : Net) (ps ts : List ℕ) where
 
 -- the answers
 module _ (e : ℕ) (S : Slice) (entry : List ℕ) where
-  pub no_room : length entry < length (slice_bytes e S) → Answers e S entry entry (Refused 13)
+  pub no_room : length entry < length (slice_bytes e S) → Answers e S entry entry (Err Buffer)
   no_room h = record { answer = rw (lt-ltb (length entry) (length (slice_bytes e S)) h); buffer = rw (lt-ltb (length entry) (length (slice_bytes e S)) h) }
 
   pub room : (exit : List ℕ) (k p t : ℕ) → length (slice_bytes e S) ≤ length entry → exit ≡ sets entry 0 (slice_bytes e S) → k ≡ length (slice_bytes e S) → p ≡ S.net.places → t ≡ S.net.transitions
-      → Answers e S entry exit (Written k p t)
+      → Answers e S entry exit (Ok (record { length = k; places = p; transitions = t }))
   room exit k p t h f ke pe te = record {
     answer = rw (le-ltb (length entry) (length (slice_bytes e S)) h) (λ i. record { refused = false; refusal = 0; length = ke i; places = pe i; transitions = te i });
     buffer = rw (le-ltb (length entry) (length (slice_bytes e S)) h) (f ∙ sets_first (slice_bytes e S) entry h);

@@ -12,13 +12,15 @@ ghost use Rattle.slice.specs.Kept.{cut_numbers, kept_pair, kept_slice, room_refu
 ghost use Rattle.slice.specs.Parts.{Cleared, Listable, Lists, MembersListed, Tables};
 
 use file_header::Header;
+use refusals::Refusal;
 use tables::{LARGE, MIDDLE, SMALL};
 
-// What a cut answers: the file's length and the number of kept places and of kept transitions, or a refusal.
-#[derive(Clone, Copy)]
-pub enum Cut {
-    Written(u32, u32, u32),
-    Refused(u32),
+// What a cut wrote: the file's length and the number of kept places and of kept transitions.
+#[derive(Clone, Copy, Debug, PartialEq, Eq)]
+pub struct Written {
+    pub length: u32,
+    pub places: u32,
+    pub transitions: u32,
 }
 
 // Writes the file: its parts one after the other.
@@ -30,7 +32,7 @@ fn write_parts(
     places: &[u16],
     transitions: &[u16],
     buffer: &mut [u8],
-) -> Cut
+) -> Result<Written, Refusal>
     requires sound { Sound plan.now h }
     requires lists { Lists h ps.now ts.now }
     requires tables { Tables h ps.now ts.now places.now transitions.now }
@@ -57,7 +59,11 @@ fn write_parts(
     let bytes = (body + 16) as u32;
     let kept_places = ps.len() as u32;
     let kept_transitions = ts.len() as u32;
-    Cut::Written(bytes, kept_places, kept_transitions)
+    Ok(Written {
+        length: bytes,
+        places: kept_places,
+        transitions: kept_transitions,
+    })
 }
 
 // Writes the file where the buffer has room for it. Arcs are counted only where all of the plan's would not fit.
@@ -69,7 +75,7 @@ fn write_if_room(
     places: &[u16],
     transitions: &[u16],
     buffer: &mut [u8],
-) -> Cut
+) -> Result<Written, Refusal>
     requires sound { Sound plan.now h }
     requires lists { Lists h ps.now ts.now }
     requires tables { Tables h ps.now ts.now places.now transitions.now }
@@ -81,7 +87,7 @@ fn write_if_room(
     }
     let arcs = slice_arcs::count_arcs(plan, h.arcstart, h.arcs, places, transitions);
     if buffer.len() < rest + 8 * arcs {
-        return Cut::Refused(13);
+        return Err(Refusal::Buffer);
     }
     write_parts(plan, h, ps, ts, places, transitions, buffer)
 }
@@ -95,7 +101,7 @@ fn write_lists(
     places: &mut [u16],
     transitions: &mut [u16],
     buffer: &mut [u8],
-) -> Cut
+) -> Result<Written, Refusal>
     requires sound { Sound plan.now h }
     requires lists { Lists h ps.now ts.now }
     requires cleared { Cleared h.places places.old × Cleared h.transitions transitions.old }
@@ -128,7 +134,7 @@ fn write_sets(
     pn: &mut [u16],
     tn: &mut [u16],
     buffer: &mut [u8],
-) -> Cut
+) -> Result<Written, Refusal>
     requires sound { Sound plan.now h }
     requires within { Within (kept_pair places.now transitions.now) h }
     requires places_in_bounds { (h.places ≤ length ps.old) × (h.transitions ≤ length ts.old) }
@@ -140,82 +146,24 @@ fn write_sets(
     write_lists(plan, h, &ps[..np], &ts[..nt], pn, tn, buffer)
 }
 
-// With tables for 16 places and transitions.
-fn write_small(
+// With tables for N places and transitions.
+fn write_sized<const N: usize>(
     plan: &[u8],
     h: Header,
     places: &[u64; 16],
     transitions: &[u64; 16],
     buffer: &mut [u8],
-) -> Cut
+) -> Result<Written, Refusal>
     requires sound { Sound plan.now h }
     requires within { Within (kept_pair places.now transitions.now) h }
-    requires places_bound { (h.places ≤ 16) × (h.transitions ≤ 16) }
+    requires places_bound { (h.places ≤ N) × (h.transitions ≤ N) }
+    requires size { N ≤ 1024 }
     ensures { Answers h.edition (kept_slice plan.now h (kept_pair places.now transitions.now)) buffer.old buffer.new result }
 {
-    let mut ps = [0u16; SMALL];
-    let mut ts = [0u16; SMALL];
-    let mut pn = [0u16; SMALL];
-    let mut tn = [0u16; SMALL];
-    write_sets(
-        plan,
-        h,
-        places,
-        transitions,
-        &mut ps,
-        &mut ts,
-        &mut pn,
-        &mut tn,
-        buffer,
-    )
-}
-
-// With tables for 128 places and transitions.
-fn write_middle(
-    plan: &[u8],
-    h: Header,
-    places: &[u64; 16],
-    transitions: &[u64; 16],
-    buffer: &mut [u8],
-) -> Cut
-    requires sound { Sound plan.now h }
-    requires within { Within (kept_pair places.now transitions.now) h }
-    requires places_bound { (h.places ≤ 128) × (h.transitions ≤ 128) }
-    ensures { Answers h.edition (kept_slice plan.now h (kept_pair places.now transitions.now)) buffer.old buffer.new result }
-{
-    let mut ps = [0u16; MIDDLE];
-    let mut ts = [0u16; MIDDLE];
-    let mut pn = [0u16; MIDDLE];
-    let mut tn = [0u16; MIDDLE];
-    write_sets(
-        plan,
-        h,
-        places,
-        transitions,
-        &mut ps,
-        &mut ts,
-        &mut pn,
-        &mut tn,
-        buffer,
-    )
-}
-
-// With tables for 1,024 places and transitions.
-fn write_large(
-    plan: &[u8],
-    h: Header,
-    places: &[u64; 16],
-    transitions: &[u64; 16],
-    buffer: &mut [u8],
-) -> Cut
-    requires sound { Sound plan.now h }
-    requires within { Within (kept_pair places.now transitions.now) h }
-    ensures { Answers h.edition (kept_slice plan.now h (kept_pair places.now transitions.now)) buffer.old buffer.new result }
-{
-    let mut ps = [0u16; LARGE];
-    let mut ts = [0u16; LARGE];
-    let mut pn = [0u16; LARGE];
-    let mut tn = [0u16; LARGE];
+    let mut ps = [0u16; N];
+    let mut ts = [0u16; N];
+    let mut pn = [0u16; N];
+    let mut tn = [0u16; N];
     write_sets(
         plan,
         h,
@@ -237,7 +185,7 @@ pub fn write<'a>(
     places: &'a [u64; 16],
     transitions: &'a [u64; 16],
     buffer: &mut [u8],
-) -> Cut
+) -> Result<Written, Refusal>
     requires sound { Sound plan.now h }
     requires within { Within (kept_pair places.now transitions.now) h }
     ensures answer { cut_numbers result ≡ cut_answer (room_refusal h.edition (length buffer.old) (kept_slice plan.now h (kept_pair places.now transitions.now))) (length (slice_bytes h.edition (kept_slice plan.now h (kept_pair places.now transitions.now)))) (kept_slice plan.now h (kept_pair places.now transitions.now)) }
@@ -245,13 +193,13 @@ pub fn write<'a>(
 {
     if h.places <= SMALL {
         if h.transitions <= SMALL {
-            return write_small(plan, h, places, transitions, buffer);
+            return write_sized::<SMALL>(plan, h, places, transitions, buffer);
         }
     }
     if h.places <= MIDDLE {
         if h.transitions <= MIDDLE {
-            return write_middle(plan, h, places, transitions, buffer);
+            return write_sized::<MIDDLE>(plan, h, places, transitions, buffer);
         }
     }
-    write_large(plan, h, places, transitions, buffer)
+    write_sized::<LARGE>(plan, h, places, transitions, buffer)
 }

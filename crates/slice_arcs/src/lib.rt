@@ -35,13 +35,11 @@ pub fn count_arcs(
     ensures { result ≡ length (kept_arcs places.now transitions.now (arcs_from plan.now start count)) }
 {
     let mut total: usize = 0;
-    let mut j: usize = 0;
-    while j < count {
+    for j in 0..count {
         let a = file_arcs::arc(plan, start + 8 * j);
         let t = a.transition;
         let p = a.place;
         total += one_if_kept(transitions[t], places[p]);
-        j += 1;
     }
     total
 }
@@ -79,13 +77,11 @@ pub fn write_arcs(
     ensures { ArcsWritten buffer.old first (arcs_bytes (kept_arcs places.now transitions.now (arcs_from plan.now start count))) buffer.new result }
 {
     let mut at = first;
-    let mut j: usize = 0;
-    while j < count {
+    for j in 0..count {
         let a = file_arcs::arc(plan, start + 8 * j);
         let t = a.transition;
         let p = a.place;
         at = write_arc(a, transitions[t], places[p], at, buffer);
-        j += 1;
     }
     at
 }

@@ -32,10 +32,8 @@ pub fn members(words: &[u64; 16], count: usize, list: &mut [u16])
     ensures { list.new ≡ sets list.old 0 (selected (member words.now) 0 (count * 64)) }
 {
     let mut n: usize = 0;
-    let mut i: usize = 0;
-    while i < count {
+    for i in 0..count {
         n = word_members(words[i], i * 64, n, list);
-        i += 1;
     }
 }
 
@@ -44,9 +42,7 @@ pub fn positions(list: &[u16], table: &mut [u16])
     requires { Listed list.now table.old }
     ensures { (length table.new ≡ length table.old) × Own list.now table.new }
 {
-    let mut i: usize = 0;
-    while i < list.len() {
-        table[list[i] as usize] = (i + 1) as u16;
-        i += 1;
+    for (i, x) in list.iter().enumerate() {
+        table[*x as usize] = (i + 1) as u16;
     }
 }

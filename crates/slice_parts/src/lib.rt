@@ -18,13 +18,11 @@ pub fn write_places(plan: &[u8], h: Header, ps: &[u16], buffer: &mut [u8])
     requires ps_in_bounds { places_length h.edition (length ps.now) ≤ length buffer.old }
     ensures { buffer.new ≡ sets buffer.old 0 (kept_place_bytes h.edition (net_from plan.now h) ps.now) }
 {
-    let mut i: usize = 0;
-    while i < ps.len() {
-        let p = ps[i] as usize;
+    for (i, x) in ps.iter().enumerate() {
+        let p = *x as usize;
         let tokens = file::marking(plan, h, p);
         let most = file::cap(plan, h, p);
         slice_put::put_place(h.edition, i, tokens, most, buffer);
-        i += 1;
     }
 }
 
@@ -33,9 +31,7 @@ pub fn write_origins(list: &[u16], start: usize, buffer: &mut [u8])
     requires { start + 2 * length list.now ≤ length buffer.old }
     ensures { buffer.new ≡ sets buffer.old start (origins_bytes list.now) }
 {
-    let mut i: usize = 0;
-    while i < list.len() {
-        slice_put::put16(buffer, start + 2 * i, list[i] as usize);
-        i += 1;
+    for (i, x) in list.iter().enumerate() {
+        slice_put::put16(buffer, start + 2 * i, *x as usize);
     }
 }

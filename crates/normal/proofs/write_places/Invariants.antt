@@ -1,4 +1,4 @@
-use Prim.Native.Nat.{◌-◌, ◌*◌, ◌≤◌}
+use Prim.Native.Nat.{◌*◌}
 use Rattle.file.specs.Layout.{net_from}
 use Rattle.file_writing.specs.Writing.{places_bytes}
 use Rattle.tables.proofs.Storing.{Storing}
@@ -8,7 +8,4 @@ use Rattle.normal.proofs.write_places.Given as goal
 abbrev pub invariant-loop-p : goal.invariant-loop-p
 invariant-loop-p l =
     let N = net_from l.plan l.h in
-    (l.p ≤ l.h.places) × Storing l.initial.buffer 0 (places_bytes 2 N.marking N.cap 0 l.h.places) l.buffer (8 * l.p) (places_from 2 N.marking N.cap l.h.places l.p)
-
-abbrev pub decreases-loop-p : goal.decreases-loop-p
-decreases-loop-p l = l.h.places - l.p
+    Storing l.initial.buffer 0 (places_bytes 2 N.marking N.cap 0 l.h.places) l.buffer (8 * l.p) (places_from 2 N.marking N.cap l.h.places l.p)

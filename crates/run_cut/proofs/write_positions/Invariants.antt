@@ -1,4 +1,3 @@
-use Prim.Native.Nat.{◌-◌}
 use lib.ListN.{length}
 use Rattle.net.specs.Numbers.{selected}
 use Rattle.run_cut.proofs.Filling.{chosen_in, Filled}
@@ -6,6 +5,3 @@ use Rattle.run_cut.proofs.write_positions.Given as goal
 
 abbrev pub invariant-loop-i : goal.invariant-loop-i
 invariant-loop-i l = Filled (chosen_in l.list l.last) l.end (length (selected (chosen_in l.list l.last) 0 l.end)) l.initial.positions l.positions l.n l.i
-
-abbrev pub decreases-loop-i : goal.decreases-loop-i
-decreases-loop-i l = l.end - l.i

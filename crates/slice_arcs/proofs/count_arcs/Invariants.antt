@@ -1,4 +1,4 @@
-use Prim.Native.Nat.{◌+◌, ◌-◌, ◌≤◌}
+use Prim.Native.Nat.{◌+◌, ◌≤◌}
 use mathlib.Core.Path.{◌≡◌}
 use lib.ListN.{length}
 use Rattle.file_arcs.specs.Layout.{arcs_from}
@@ -8,7 +8,4 @@ use Rattle.slice_arcs.proofs.count_arcs.Given as goal
 
 abbrev pub invariant-loop-j : goal.invariant-loop-j
 invariant-loop-j l =
-    (l.j ≤ l.count) × (l.total ≤ l.j) × (l.total + length (kept_arcs l.places l.transitions (arcs_at l.plan l.start l.j l.count)) ≡ length (kept_arcs l.places l.transitions (arcs_from l.plan l.start l.count)))
-
-abbrev pub decreases-loop-j : goal.decreases-loop-j
-decreases-loop-j l = l.count - l.j
+    (l.total ≤ l.j) × (l.total + length (kept_arcs l.places l.transitions (arcs_at l.plan l.start l.j l.count)) ≡ length (kept_arcs l.places l.transitions (arcs_from l.plan l.start l.count)))

@@ -1,4 +1,3 @@
-use Prim.Native.Nat.{◌-◌, ◌≤◌}
 use Rattle.file_arcs.specs.Layout.{arcs_from}
 use Rattle.file_writing.specs.Writing.{arcs_bytes}
 use Rattle.slice_arcs.specs.Between.{kept_arcs}
@@ -8,7 +7,4 @@ use Rattle.slice_arcs.proofs.write_arcs.Given as goal
 
 abbrev pub invariant-loop-j : goal.invariant-loop-j
 invariant-loop-j l =
-    (l.j ≤ l.count) × Writing l.initial.buffer l.first (arcs_bytes (kept_arcs l.places l.transitions (arcs_from l.plan l.start l.count))) l.buffer l.at (arcs_bytes (kept_arcs l.places l.transitions (arcs_at l.plan l.start l.j l.count)))
-
-abbrev pub decreases-loop-j : goal.decreases-loop-j
-decreases-loop-j l = l.count - l.j
+    Writing l.initial.buffer l.first (arcs_bytes (kept_arcs l.places l.transitions (arcs_from l.plan l.start l.count))) l.buffer l.at (arcs_bytes (kept_arcs l.places l.transitions (arcs_at l.plan l.start l.j l.count)))

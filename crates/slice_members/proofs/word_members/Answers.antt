@@ -3,9 +3,9 @@ use mathlib.Core.List.{◌∷◌}
 use mathlib.Core.Path.{◌≡◌, ap, ◌∙◌}
 use native.Mathlib.Omega.{arith}
 use lib.Bits.{bit_and, and_le_l}
-use lib.Count.{count_trailing_zeros, trailing_le}
+use lib.Count.{count_trailing_zeros}
 use lib.ListN.{length}
-use Rattle.tables.proofs.Storing.{storing_all, storing_as, storing_one, storing_none, storing_end}
+use Rattle.tables.proofs.Storing.{storing_as, storing_one, storing_none, storing_end}
 use Rattle.slice_members.specs.List.{bits_from}
 use Rattle.slice_members.proofs.Selected.{bits_none, bits_rest}
 use Rattle.slice_members.proofs.word_members.Goals as goal
@@ -22,29 +22,8 @@ next_length : (c : In-loop-w)
     ≡ 1 + length (bits_from c.args.base (bit_and c.loop-w.w (c.loop-w.w - 1)))
 next_length c = omega (arith, ap length (next c))
 
-pub loop-w-init : goal.loop-w-init
-loop-w-init c = (c.ranges.word.fits, storing_all _ _ _)
-
-pub overflow_cast-z : goal.overflow_cast-z
-overflow_cast-z c = omega (arith, trailing_le 64 c.loop-w.w)
-
-pub overflow_add-list : goal.overflow_add-list
-overflow_add-list c = omega (arith, trailing_le 64 c.loop-w.w)
-
-pub overflow_cast-list : goal.overflow_cast-list
-overflow_cast-list c = omega (arith, trailing_le 64 c.loop-w.w, c.requires.base_bound)
-
-pub offset_bounds-list-n : goal.offset_bounds-list-n
-offset_bounds-list-n c = omega (arith, next_length c, c.loop-w.invariant.1.long, c.loop-w.invariant.1.count, c.requires.word_in_bounds)
-
 pub bounds-list-n : goal.bounds-list-n
 bounds-list-n c = omega (arith, next_length c, c.loop-w.invariant.1.long, c.loop-w.invariant.1.count, c.requires.word_in_bounds)
-
-pub overflow_add-n : goal.overflow_add-n
-overflow_add-n c = omega (arith, next_length c, c.loop-w.invariant.1.count, c.requires.word_in_bounds)
-
-pub overflow_sub-w : goal.overflow_sub-w
-overflow_sub-w c = omega (arith, c.loop-w-test.true)
 
 pub loop-w-smaller : goal.loop-w-smaller
 loop-w-smaller c = omega (arith, next_length c)

@@ -1,4 +1,3 @@
-use Prim.Native.Nat.{◌-◌, ◌≤◌}
 use lib.ListN.{length, get_or}
 use Rattle.file.specs.Layout.{net_from}
 use Rattle.file_header.specs.Layout.{places_length}
@@ -10,7 +9,4 @@ use Rattle.slice_parts.proofs.write_places.Given as goal
 abbrev pub invariant-loop-i : goal.invariant-loop-i
 invariant-loop-i l =
     let N = net_from l.plan l.h in
-    (l.i ≤ length l.ps) × Storing l.initial.buffer 0 (kept_place_bytes l.h.edition N l.ps) l.buffer (places_length l.h.edition l.i) (places_from l.h.edition (λ k. N.marking (get_or l.ps k 0)) (λ k. N.cap (get_or l.ps k 0)) (length l.ps) l.i)
-
-abbrev pub decreases-loop-i : goal.decreases-loop-i
-decreases-loop-i l = length l.ps - l.i
+    Storing l.initial.buffer 0 (kept_place_bytes l.h.edition N l.ps) l.buffer (places_length l.h.edition l.i) (places_from l.h.edition (λ k. N.marking (get_or l.ps k 0)) (λ k. N.cap (get_or l.ps k 0)) (length l.ps) l.i)
