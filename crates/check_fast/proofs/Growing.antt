@@ -11,7 +11,7 @@ use lib.Seq.{length-take-le, take-suc, get_or-set_same, get_or-set_other}
 use borrow.Author.Tests.{eqb-true, eqb-false}
 use Rattle.net.specs.Numbers.{among}
 use Rattle.net.specs.Net.{Net}
-use Rattle.net.proofs.Numbers.{by_cases, by_order}
+use Rattle.net.proofs.Numbers.{by_cases}
 use Rattle.file.specs.Facts.{RisingFrom}
 use Rattle.numbering.proofs.Entries.{among-other, position-other, among-new, position-new, once}
 use Rattle.check_fast.specs.Entries.{numbered, Numbered, flagged, marked, Marked, bound, Bound}
@@ -111,22 +111,6 @@ pub record BoundTo (N : Net) (before : List ℕ) (p : ℕ) (table : List ℕ) : 
   pub rest : (x : ℕ) → p ≤ x → get_or table x 0 ≡ get_or before x 0
 
 module _ (N : Net) (before : List ℕ) where
-  pub bound-start : BoundTo N before 0 before
-  bound-start = record { long = refl; done = λ x l. absurd (omega arith); rest = λ x l. refl }
-
-  pub bound-next : (p : ℕ) (table : List ℕ) → BoundTo N before p table → p < length table → (v : ℕ) → v ≡ bound (N.cap p) (get_or table p 0) → BoundTo N before (p + 1) (set table p v)
-  bound-next p table b l v e = record {
-    long = length-set table p v ∙ b.long;
-    done = λ x h. by_order x p
-        (λ d. get_or-set_other table p x v 0 (λ z. omega arith) ∙ b.done x d)
-        (λ d. ap (λ (k : ℕ). get_or (set table p v) k 0) d ∙ get_or-set_same table p v 0 l ∙ e ∙ ap (bound (N.cap p)) (b.rest p (omega arith)) ∙ ap (λ (k : ℕ). bound (N.cap k) (get_or before k 0)) (sym d))
-        (λ d. absurd (omega arith));
-    rest = λ x h. get_or-set_other table p x v 0 (λ z. omega arith) ∙ b.rest x (omega arith);
-  }
-
-  pub bound_all : (p : ℕ) (table : List ℕ) → BoundTo N before p table → N.places ≤ p → Bound N before table
-  bound_all p table b l = record { long = b.long; at = λ x h. b.done x (omega arith) }
-
   -- no place has a cap
   pub bound-none : ((x : ℕ) → N.cap x ≡ 0) → Bound N before before
   bound-none none = record { long = refl; at = λ x h. rw (none x) }

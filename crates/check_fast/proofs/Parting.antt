@@ -109,14 +109,6 @@ pub record Level (plan : List ℕ) (hp : Header) (slice : List ℕ) (hs : Header
       ≡ same_arcs (arcs_of n (left slice hs k)) (arcs_of n (restrict (slice_from slice hs).place_origins (slice_from slice hs).transition_origins (left plan hp j)))
 
 module _ (plan : List ℕ) (hp : Header) (slice : List ℕ) (hs : Header) where
-  pub level_start : Level plan hp slice hs 0 0
-  level_start = record {
-    within = omega arith;
-    behind = omega arith;
-    runs = λ n. ap (λ (l : List Arc). same_arcs (arcs_of n l) (arcs_of n (restrict (slice_from slice hs).place_origins (slice_from slice hs).transition_origins (net_from plan hp).arcs))) (whole slice hs)
-        ∙ ap (λ (m : List Arc). same_arcs (arcs_of n (left slice hs 0)) (arcs_of n (restrict (slice_from slice hs).place_origins (slice_from slice hs).transition_origins m))) (whole plan hp);
-  }
-
   module _ (j k : ℕ) (x : Level plan hp slice hs j k) where
     -- one more of the plan, left out
     pub level_out : j < hp.arcs → (among (arc_at plan (hp.arcstart + 8 * j)).place (slice_from slice hs).place_origins && among (arc_at plan (hp.arcstart + 8 * j)).transition (slice_from slice hs).transition_origins) ≡ false
@@ -192,7 +184,7 @@ module _ (plan : List ℕ) (hp : Header) (slice : List ℕ) (hs : Header) (plann
 
   found : (t r : ℕ) → r ≡ t → breaks (rule4 (net_from plan hp) (slice_from slice hs)) t ≡ true → ((u : ℕ) → u < t → breaks (rule4 (net_from plan hp) (slice_from slice hs)) u ≡ false) → r < hp.transitions → r ≡ breaker (rule4 (net_from plan hp) (slice_from slice hs))
   unfolding rule4
-  found t r e b lower l = breaker-found _ hp.transitions r refl (record { within = omega arith; none = λ u m. lower u (omega arith) }) l (ap (breaks (rule4 (net_from plan hp) (slice_from slice hs))) e ∙ b)
+  found t r e b lower l = breaker-found _ hp.transitions r refl (λ u m. lower u (omega arith)) l (ap (breaks (rule4 (net_from plan hp) (slice_from slice hs))) e ∙ b)
 
   -- the slice's next arc is of a lower transition than the plan's, or the plan has none left
   pub parted_slice : k < hs.arcs → (j < hp.arcs → origin < (arc_at plan (hp.arcstart + 8 * j)).transition) → (r : ℕ) → r ≡ origin → r < hp.transitions → r ≡ breaker (rule4 (net_from plan hp) (slice_from slice hs))

@@ -88,10 +88,6 @@ like a b q = record {
   fourth = same_bits (a / 8796093022208) (b / 8796093022208) (sym (xor_shr a b 43) ∙ q.fourth);
 }
 
-pub counted-one : (b : Bool) → counted b 1 ≤ 1
-counted-one true = omega arith
-counted-one false = omega arith
-
 -- ---- rows of arcs
 
 row_whole : (s : List ℕ) (start n : ℕ) → arcs_from s (start + 8 * 0) (n - 0) ≡ arcs_from s start n
@@ -110,14 +106,6 @@ pub settled_less : (plan : List ℕ) (hp : Header) (slice : List ℕ) (hs : Head
 settled_less plan hp slice hs Q a d d' l s = record { fine = fine_less d d' l s.fine; out = s.out }
 
 module _ (plan : List ℕ) (hp : Header) (slice : List ℕ) (hs : Header) (Q : List ℕ) where
-  pub walked_start : Walked plan hp slice hs Q 0 0 0 11
-  walked_start = record {
-    within = omega arith;
-    behind = omega arith;
-    fine = λ i l. absurd (omega arith);
-    same = λ l d e. sym (row_whole slice hs.arcstart hs.arcs) ∙ e ∙ ap (restrict (slice_from slice hs).place_origins (slice_from slice hs).transition_origins) (row_whole plan hp.arcstart hp.arcs);
-  }
-
   module _ (j k differs d : ℕ) (x : Walked plan hp slice hs Q j k differs d) where
     -- all arcs are gone through
     pub walked_end : hp.arcs ≤ j → k ≡ hs.arcs → quiet_of differs ≡ true → Passed plan hp slice hs Q d

@@ -29,7 +29,6 @@ ghost use Rattle.check_fast.specs.Pass.{Ready, joined_of, kept_of, odd_of, quiet
 use file_arcs::{DIRECTION, PLACE, arc_of, word};
 use file_header::{CAPS, Header};
 use file_words::get16;
-use tables::wide;
 
 // The entries of a place and of a transition that are left out.
 pub const LEFT_PLACE: usize = 1024 * PLACE + 15 * DIRECTION;
@@ -58,11 +57,9 @@ fn number(file: &[u8], start: usize, count: usize, unit: usize, table: &mut [usi
     requires unit_bound { unit ≤ 4294967296 }
     ensures { Numbered unit (words_from file.now start count) table.old table.new }
 {
-    let mut i: usize = 0;
-    while i < count {
+    for i in 0..count {
         let origin = get16(file, start + 2 * i);
         table[origin] = unit * (1024 + i - origin);
-        i += 1;
     }
 }
 
@@ -71,13 +68,10 @@ fn all_kept(criterion: &[u16], places: &[usize]) -> bool
     requires { Reached criterion.now (length places.now) }
     ensures { result ≡ true → (i : ℕ) → i < length criterion.now → get_or places.now (get_or criterion.now i 0) 0 ≡ left_place → ⊥ }
 {
-    let mut i: usize = 0;
-    while i < criterion.len() {
-        let q = wide(criterion[i]);
-        if places[q] == LEFT_PLACE {
+    for place in criterion {
+        if places[usize::from(*place)] == LEFT_PLACE {
             return false;
         }
-        i += 1;
     }
     true
 }
@@ -87,11 +81,9 @@ fn mark(criterion: &[u16], places: &mut [usize])
     requires { Reached criterion.now (length places.old) }
     ensures { Marked criterion.now places.old places.new }
 {
-    let mut i: usize = 0;
-    while i < criterion.len() {
-        let q = wide(criterion[i]);
+    for place in criterion {
+        let q = usize::from(*place);
         places[q] = places[q] / 262144 * 262144 + 131072;
-        i += 1;
     }
 }
 
@@ -120,12 +112,9 @@ fn mark_capped(plan: &[u8], hp: Header, places: &mut [usize])
     if hp.edition != CAPS {
         return;
     }
-    let count = hp.places;
-    let mut p: usize = 0;
-    while p < count {
+    for p in 0..hp.places {
         let v = places[p];
         places[p] = bounded(v, file::cap(plan, hp, p));
-        p += 1;
     }
 }
 
@@ -257,12 +246,6 @@ fn doubt_at(
     6
 }
 
-fn lower(a: usize, b: usize) -> usize
-    ensures { (result ≤ a) × (result ≤ b) }
-{
-    if a < b { a } else { b }
-}
-
 // The first rule in doubt after a closer look, 11 where none is. Where one is already, no effect is looked up; where the pass is tired, the rules 6 to 10 are in doubt.
 fn look(
     plan: &[u8],
@@ -281,10 +264,7 @@ fn look(
     ensures { 4 < result → Settled plan.now hp slice.now hs criterion.now result (arc_at plan.now (hp.arcstart + 8 * j)) }
 {
     if tired {
-        return lower(
-            6,
-            doubt_at(plan, hp, slice, hs, criterion, j, places, transitions),
-        );
+        return doubt_at(plan, hp, slice, hs, criterion, j, places, transitions).min(6);
     }
     if doubt < 11 {
         return doubt_at(plan, hp, slice, hs, criterion, j, places, transitions);
@@ -314,10 +294,9 @@ fn stretch(
     let start = hp.arcstart;
     let first = hs.arcstart;
     let doubt = from.doubt;
-    let mut j = from.arc;
     let mut k = from.own;
     let mut differs = from.differs;
-    while j < hp.arcs {
+    for j in from.arc..hp.arcs {
         if hs.arcs < k {
             return Walk {
                 arc: j,
@@ -338,10 +317,9 @@ fn stretch(
         }
         differs = differs | unlike(z, word(slice, first + 8 * k));
         k += step(z);
-        j += 1;
     }
     Walk {
-        arc: j,
+        arc: hp.arcs,
         own: k,
         differs,
         doubt,
@@ -369,6 +347,7 @@ fn pass(
     };
     let mut at = stretch(plan, hp, slice, hs, criterion, places, transitions, start);
     let mut seen: usize = 0;
+    // Not over a range: a turn goes on by one stretch of arcs.
     while at.arc < hp.arcs {
         if hs.arcs < at.own {
             return 4;
@@ -393,10 +372,9 @@ fn pass(
             arc: at.arc + 1,
             own: at.own,
             differs: at.differs,
-            doubt: lower(at.doubt, doubt),
+            doubt: at.doubt.min(doubt),
         };
-        let next = stretch(plan, hp, slice, hs, criterion, places, transitions, from);
-        at = next;
+        at = stretch(plan, hp, slice, hs, criterion, places, transitions, from);
         seen += 1;
     }
     if quiet(at.differs) & (at.own == hs.arcs) {
@@ -446,12 +424,6 @@ fn origin(slice: &[u8], hs: Header, k: usize) -> usize
     get16(slice, hs.originstart + 2 * hs.places + 2 * (w % 65536))
 }
 
-fn earlier(a: usize, b: usize) -> usize
-    ensures { (a ≤ b → result ≡ a) × (b < a → result ≡ b) }
-{
-    if b < a { b } else { a }
-}
-
 // Rule 4 where an arc is not the one due, in the same tables: the lowest transition that breaks it. Past all transitions where none was found.
 pub fn first_other(
     plan: &[u8],
@@ -466,16 +438,14 @@ pub fn first_other(
     ensures { result < hp.transitions → result ≡ breaker (rule4 (net_from plan.now hp) (slice_from slice.now hs)) }
 {
     let start = hp.arcstart;
-    let mut j: usize = 0;
     let mut k: usize = 0;
-    while j < hp.arcs {
+    for j in 0..hp.arcs {
         let w = word(plan, start + 8 * j);
         let next = meet(joined(w, places, transitions), slice, hs, k);
         if hs.arcs < next {
-            return earlier(w % 65536, origin(slice, hs, k));
+            return origin(slice, hs, k).min(w % 65536);
         }
         k = next;
-        j += 1;
     }
     origin(slice, hs, k)
 }

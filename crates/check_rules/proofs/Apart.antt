@@ -1,30 +1,24 @@
 -- No two outcomes have the same numbers.
 use Prim.Native.Nat.{ℕ, ◌-◌}
 use mathlib.Core.Path.{◌≡◌, refl, sym, ap, ◌∙◌}
-use mathlib.Core.Bool.{Bool, true, false}
 use mathlib.Core.List.{List, [], ◌∷◌}
 use lib.ListN.{get_or}
 use Rattle.promise.specs.Calls.{Checked}
 use Rattle.check_rules.specs.Answer.{outcome_numbers, OutcomesApart}
 use Rattle.check_rules.specs.declared.Outcome.{Outcome}
-use Rattle.check_rules.specs.declared.Outcome.TheVariants.{Accepted, Refused, UnknownPlace, UnknownTransition, OtherMarking, OtherArcs, CriterionMissing, ChangerMissing, InputMissing, RaiserMissing, OutputMissing, CapChangerMissing}
+use Rattle.check_rules.specs.declared.Outcome.TheVariants.{Accepted, UnknownPlace, UnknownTransition, OtherMarking, OtherArcs, CriterionMissing, ChangerMissing, InputMissing, RaiserMissing, OutputMissing, CapChangerMissing}
 
 -- accepted, then the rules in order
 abbrev cases : List (ℕ → Outcome)
 cases =
     (λ n. Accepted) ∷ UnknownPlace ∷ UnknownTransition ∷ OtherMarking ∷ OtherArcs ∷ CriterionMissing ∷ ChangerMissing ∷ InputMissing ∷ RaiserMissing ∷ OutputMissing ∷ CapChangerMissing ∷ []
 
-abbrev by : Bool → ℕ → ℕ → Outcome
-by true code number = Refused code
-by false code number = get_or cases (code - 100) (λ n. Accepted) number
-
 -- the outcome that has these numbers
 abbrev outcome_of : Checked → Outcome
-outcome_of c = by c.refused c.code c.number
+outcome_of c = get_or cases (c.code - 100) (λ n. Accepted) c.number
 
 recovered : (o : Outcome) → outcome_of (outcome_numbers o) ≡ o
 recovered Accepted = refl
-recovered (Refused n) = refl
 recovered (UnknownPlace n) = refl
 recovered (UnknownTransition n) = refl
 recovered (OtherMarking n) = refl

@@ -2,12 +2,11 @@
 use Rattle.std.specs.Prelude.{true, false, ◌≡◌}
 use Rattle.promise.specs.Calls.{Checked}
 use Rattle.check_rules.specs.declared.Outcome.{Outcome}
-use Rattle.check_rules.specs.declared.Outcome.TheVariants.{Accepted, Refused, UnknownPlace, UnknownTransition, OtherMarking, OtherArcs, CriterionMissing, ChangerMissing, InputMissing, RaiserMissing, OutputMissing, CapChangerMissing}
+use Rattle.check_rules.specs.declared.Outcome.TheVariants.{Accepted, UnknownPlace, UnknownTransition, OtherMarking, OtherArcs, CriterionMissing, ChangerMissing, InputMissing, RaiserMissing, OutputMissing, CapChangerMissing}
 
--- "0 accepted, 1 to 13 a refusal, 100 plus the rule otherwise" (16 too: document 02, A9), then the place or transition that breaks it
+-- "0 accepted, .., 100 plus the rule otherwise", then the place or transition that breaks it
 abbrev pub outcome_numbers : Outcome → Checked
 outcome_numbers Accepted = record { refused = false; code = 0; number = 0 }
-outcome_numbers (Refused n) = record { refused = true; code = n; number = 0 }
 outcome_numbers (UnknownPlace n) = record { refused = false; code = 101; number = n }
 outcome_numbers (UnknownTransition n) = record { refused = false; code = 102; number = n }
 outcome_numbers (OtherMarking n) = record { refused = false; code = 103; number = n }

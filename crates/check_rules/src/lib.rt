@@ -15,11 +15,10 @@ ghost use Rattle.check_rules.specs.Room.{rules_from4, rules_from6, rules_from9, 
 
 use file_header::Header;
 
-// "accepted, or the broken rule with its number": each rule with the place or transition that breaks it. A call that is turned back has the refusal's number.
-#[derive(Clone, Copy)]
+// "accepted, or the broken rule with its number": each rule with the place or transition that breaks it.
+#[derive(Clone, Copy, Debug, PartialEq, Eq)]
 pub enum Outcome {
     Accepted,
-    Refused(u32),
     UnknownPlace(u16),
     UnknownTransition(u16),
     OtherMarking(u16),

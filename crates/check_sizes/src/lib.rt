@@ -1,7 +1,7 @@
 #![tactic(auto)]
 
 // Rules 4 to 10 in tables that are not much larger than the nets.
-ghost use Rattle.std.specs.Prelude.{◌≡◌, true, ◌<◌};
+ghost use Rattle.std.specs.Prelude.{◌≡◌, true, ◌*◌, ◌<◌, ◌≤◌};
 ghost use Rattle.net.specs.Checker.{breaker, verdict_from, rule4};
 ghost use Rattle.file.specs.Layout.{net_from, slice_from};
 ghost use Rattle.promise.specs.Calls.{told};
@@ -24,44 +24,13 @@ fn within(hp: Header, hs: Header, n: usize) -> bool
     (hp.places <= n) & (hp.transitions <= n) & (hs.transitions <= n)
 }
 
-// Rules 4 to 10 for nets of at most 128 places and 128 transitions; `doubt` is the first rule that is in doubt.
-fn middle_outcome(
-    doubt: usize,
-    plan: &[u8],
-    hp: Header,
-    slice: &[u8],
-    hs: Header,
-    criterion: &[u16],
-) -> Outcome
-    requires judged { Judged plan.now hp slice.now hs criterion.now }
-    requires within { Within 128 hp hs }
-    requires agreed { Agreed doubt (net_from plan.now hp) (slice_from slice.now hs) criterion.now }
-    ensures { outcome_numbers result ≡ told (verdict_from 4 (rules_from4 (net_from plan.now hp) (slice_from slice.now hs) criterion.now)) }
-{
-    let mut table = [0u16; 2 * MIDDLE + 1];
-    let mut runs = [0u16; 2 * MIDDLE + 1];
-    let mut ownp = [0u16; MIDDLE];
-    let mut ownt = [0u16; MIDDLE];
-    let mut limit = [0u32; MIDDLE];
-    let mut column = [AT_REST; MIDDLE];
-    lent_outcome(
-        doubt,
-        plan,
-        hp,
-        slice,
-        hs,
-        criterion,
-        &mut table,
-        &mut runs,
-        &mut ownp,
-        &mut ownt,
-        &mut limit,
-        &mut column,
-    )
-}
+// The entries of a table of starts, for so many transitions.
+const MIDDLE_STARTS: usize = 2 * MIDDLE + 1;
 
-// The same for all nets.
-fn large_outcome(
+const LARGE_STARTS: usize = 2 * LARGE + 1;
+
+// Rules 4 to 10 for nets of at most N places and N transitions; `doubt` is the first rule that is in doubt.
+fn outcome_within<const N: usize, const STARTS: usize>(
     doubt: usize,
     plan: &[u8],
     hp: Header,
@@ -70,15 +39,17 @@ fn large_outcome(
     criterion: &[u16],
 ) -> Outcome
     requires judged { Judged plan.now hp slice.now hs criterion.now }
+    requires within { Within N hp hs }
+    requires starts { (2 * N < STARTS) × (STARTS ≤ 2049) }
     requires agreed { Agreed doubt (net_from plan.now hp) (slice_from slice.now hs) criterion.now }
     ensures { outcome_numbers result ≡ told (verdict_from 4 (rules_from4 (net_from plan.now hp) (slice_from slice.now hs) criterion.now)) }
 {
-    let mut table = [0u16; 2 * LARGE + 1];
-    let mut runs = [0u16; 2 * LARGE + 1];
-    let mut ownp = [0u16; LARGE];
-    let mut ownt = [0u16; LARGE];
-    let mut limit = [0u32; LARGE];
-    let mut column = [AT_REST; LARGE];
+    let mut table = [0u16; STARTS];
+    let mut runs = [0u16; STARTS];
+    let mut ownp = [0u16; N];
+    let mut ownt = [0u16; N];
+    let mut limit = [0u32; N];
+    let mut column = [AT_REST; N];
     lent_outcome(
         doubt,
         plan,
@@ -109,9 +80,9 @@ pub fn sized(
     ensures { outcome_numbers result ≡ told (verdict_from 4 (rules_from4 (net_from plan.now hp) (slice_from slice.now hs) criterion.now)) }
 {
     if within(hp, hs, MIDDLE) {
-        return middle_outcome(doubt, plan, hp, slice, hs, criterion);
+        return outcome_within::<MIDDLE, MIDDLE_STARTS>(doubt, plan, hp, slice, hs, criterion);
     }
-    large_outcome(doubt, plan, hp, slice, hs, criterion)
+    outcome_within::<LARGE, LARGE_STARTS>(doubt, plan, hp, slice, hs, criterion)
 }
 
 // What is known of the rules 4 to 10: the first that is in doubt, 11 where none is; and the lowest transition that breaks rule 4, past all where none is known.
@@ -147,16 +118,23 @@ fn further(
     Found { doubt, other }
 }
 
-// What one pass tells of the rules 4 to 10, for nets of at most 16 places and 16 transitions.
-fn small_agrees(plan: &[u8], hp: Header, slice: &[u8], hs: Header, criterion: &[u16]) -> Found
+// What one pass tells of the rules 4 to 10, for nets of at most N places and N transitions.
+fn agrees_within<const N: usize>(
+    plan: &[u8],
+    hp: Header,
+    slice: &[u8],
+    hs: Header,
+    criterion: &[u16],
+) -> Found
     requires judged { Judged plan.now hp slice.now hs criterion.now }
     requires known_in { KnownIn hp (slice_from slice.now hs) }
-    requires within { Within 16 hp hs }
+    requires within { Within N hp hs }
+    requires size { N ≤ 1024 }
     ensures agreed { Agreed result.doubt (net_from plan.now hp) (slice_from slice.now hs) criterion.now }
     ensures other_value { result.other < hp.transitions → result.other ≡ breaker (rule4 (net_from plan.now hp) (slice_from slice.now hs)) }
 {
-    let mut places = [LEFT_PLACE; SMALL];
-    let mut transitions = [LEFT_TRANSITION; SMALL];
+    let mut places = [LEFT_PLACE; N];
+    let mut transitions = [LEFT_TRANSITION; N];
     let doubt = check_fast::agrees(
         plan,
         hp,
@@ -169,50 +147,7 @@ fn small_agrees(plan: &[u8], hp: Header, slice: &[u8], hs: Header, criterion: &[
     further(doubt, plan, hp, slice, hs, criterion, &places, &transitions)
 }
 
-// The same for at most 128 of each.
-fn middle_agrees(plan: &[u8], hp: Header, slice: &[u8], hs: Header, criterion: &[u16]) -> Found
-    requires judged { Judged plan.now hp slice.now hs criterion.now }
-    requires known_in { KnownIn hp (slice_from slice.now hs) }
-    requires within { Within 128 hp hs }
-    ensures agreed { Agreed result.doubt (net_from plan.now hp) (slice_from slice.now hs) criterion.now }
-    ensures other_value { result.other < hp.transitions → result.other ≡ breaker (rule4 (net_from plan.now hp) (slice_from slice.now hs)) }
-{
-    let mut places = [LEFT_PLACE; MIDDLE];
-    let mut transitions = [LEFT_TRANSITION; MIDDLE];
-    let doubt = check_fast::agrees(
-        plan,
-        hp,
-        slice,
-        hs,
-        criterion,
-        &mut places,
-        &mut transitions,
-    );
-    further(doubt, plan, hp, slice, hs, criterion, &places, &transitions)
-}
-
-// The same for all nets.
-fn large_agrees(plan: &[u8], hp: Header, slice: &[u8], hs: Header, criterion: &[u16]) -> Found
-    requires judged { Judged plan.now hp slice.now hs criterion.now }
-    requires known_in { KnownIn hp (slice_from slice.now hs) }
-    ensures agreed { Agreed result.doubt (net_from plan.now hp) (slice_from slice.now hs) criterion.now }
-    ensures other_value { result.other < hp.transitions → result.other ≡ breaker (rule4 (net_from plan.now hp) (slice_from slice.now hs)) }
-{
-    let mut places = [LEFT_PLACE; LARGE];
-    let mut transitions = [LEFT_TRANSITION; LARGE];
-    let doubt = check_fast::agrees(
-        plan,
-        hp,
-        slice,
-        hs,
-        criterion,
-        &mut places,
-        &mut transitions,
-    );
-    further(doubt, plan, hp, slice, hs, criterion, &places, &transitions)
-}
-
-// The same for nets that are not small.
+// The same for nets that are not small, in tables of two sizes.
 fn wide_agrees(plan: &[u8], hp: Header, slice: &[u8], hs: Header, criterion: &[u16]) -> Found
     requires judged { Judged plan.now hp slice.now hs criterion.now }
     requires known_in { KnownIn hp (slice_from slice.now hs) }
@@ -220,9 +155,9 @@ fn wide_agrees(plan: &[u8], hp: Header, slice: &[u8], hs: Header, criterion: &[u
     ensures other_value { result.other < hp.transitions → result.other ≡ breaker (rule4 (net_from plan.now hp) (slice_from slice.now hs)) }
 {
     if within(hp, hs, MIDDLE) {
-        return middle_agrees(plan, hp, slice, hs, criterion);
+        return agrees_within::<MIDDLE>(plan, hp, slice, hs, criterion);
     }
-    large_agrees(plan, hp, slice, hs, criterion)
+    agrees_within::<LARGE>(plan, hp, slice, hs, criterion)
 }
 
 // The same where there are many places, and where there are many transitions: two functions, so that the compiler keeps the large tables out of the small net's frame.
@@ -257,5 +192,5 @@ pub fn agreeing(plan: &[u8], hp: Header, slice: &[u8], hs: Header, criterion: &[
     if (SMALL < hp.transitions) | (SMALL < hs.transitions) {
         return many_transitions(plan, hp, slice, hs, criterion);
     }
-    small_agrees(plan, hp, slice, hs, criterion)
+    agrees_within::<SMALL>(plan, hp, slice, hs, criterion)
 }

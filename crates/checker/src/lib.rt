@@ -11,26 +11,25 @@ ghost use Rattle.rules_tables.specs.Agreed.{Agreed};
 ghost use Rattle.check_rules.specs.Answer.{outcome_numbers};
 ghost use Rattle.check_rules.specs.Room.{rules_from4, Judged};
 ghost use Rattle.check_sizes.specs.Sizes.{KnownIn};
-ghost use Rattle.checker.specs.Answer.{numbers_of};
+ghost use Rattle.checker.specs.Answer.{numbers_of, verdict_numbers};
 
 pub use check_rules::Outcome;
 use check_sizes::{agreeing, sized};
 use file_header::Header;
+use refusals::Refusal;
 use tables::{LARGE, SMALL};
 
-#[derive(Clone, Copy)]
+#[derive(Clone, Copy, Debug, PartialEq, Eq)]
 pub struct Verdict {
     pub outcome: Outcome,
 }
 
-// 0 accepted, below 100 a refusal, 100 plus the rule otherwise.
-pub fn code(v: Verdict) -> u32
-    ensures { result ≡ (numbers_of v).code }
+// 0 accepted, 100 plus the rule otherwise.
+fn rule_code(o: Outcome) -> u32
+    ensures { result ≡ (outcome_numbers o).code }
 {
-    let outcome = v.outcome;
-    match outcome {
+    match o {
         Outcome::Accepted => 0,
-        Outcome::Refused(n) => n,
         Outcome::UnknownPlace(_) => 101,
         Outcome::UnknownTransition(_) => 102,
         Outcome::OtherMarking(_) => 103,
@@ -45,23 +44,41 @@ pub fn code(v: Verdict) -> u32
 }
 
 // The place or transition that breaks the rule; 0 where none is broken.
-pub fn number(v: Verdict) -> u32
-    ensures { result ≡ (numbers_of v).number }
+fn breaker(o: Outcome) -> u32
+    ensures { result ≡ (outcome_numbers o).number }
 {
-    let outcome = v.outcome;
-    match outcome {
+    match o {
         Outcome::Accepted => 0,
-        Outcome::Refused(_) => 0,
-        Outcome::UnknownPlace(n) => n as u32,
-        Outcome::UnknownTransition(n) => n as u32,
-        Outcome::OtherMarking(n) => n as u32,
-        Outcome::OtherArcs(n) => n as u32,
-        Outcome::CriterionMissing(n) => n as u32,
-        Outcome::ChangerMissing(n) => n as u32,
-        Outcome::InputMissing(n) => n as u32,
-        Outcome::RaiserMissing(n) => n as u32,
-        Outcome::OutputMissing(n) => n as u32,
-        Outcome::CapChangerMissing(n) => n as u32,
+        Outcome::UnknownPlace(n) => u32::from(n),
+        Outcome::UnknownTransition(n) => u32::from(n),
+        Outcome::OtherMarking(n) => u32::from(n),
+        Outcome::OtherArcs(n) => u32::from(n),
+        Outcome::CriterionMissing(n) => u32::from(n),
+        Outcome::ChangerMissing(n) => u32::from(n),
+        Outcome::InputMissing(n) => u32::from(n),
+        Outcome::RaiserMissing(n) => u32::from(n),
+        Outcome::OutputMissing(n) => u32::from(n),
+        Outcome::CapChangerMissing(n) => u32::from(n),
+    }
+}
+
+// What a check answers, as one number: 0 accepted, below 100 a refusal, 100 plus the rule otherwise.
+pub fn code(r: Result<Verdict, Refusal>) -> u32
+    ensures { result ≡ (numbers_of r).code }
+{
+    match r {
+        Ok(v) => rule_code(v.outcome),
+        Err(e) => e.number(),
+    }
+}
+
+// The place or transition that breaks the rule; 0 where none is broken.
+pub fn number(r: Result<Verdict, Refusal>) -> u32
+    ensures { result ≡ (numbers_of r).number }
+{
+    match r {
+        Ok(v) => breaker(v.outcome),
+        Err(_) => 0,
     }
 }
 
@@ -139,7 +156,7 @@ fn whole_outcome(plan: &[u8], hp: Header, slice: &[u8], hs: Header, criterion: &
 // The verdict for a plan, a slice and a criterion, none of them turned back.
 pub fn judge(plan: &[u8], hp: Header, slice: &[u8], hs: Header, criterion: &[u16]) -> Verdict
     requires { Judged plan.now hp slice.now hs criterion.now }
-    ensures { numbers_of result ≡ told (verdict (net_from plan.now hp) (slice_from slice.now hs) criterion.now) }
+    ensures { verdict_numbers result ≡ told (verdict (net_from plan.now hp) (slice_from slice.now hs) criterion.now) }
 {
     let found = whole_outcome(plan, hp, slice, hs, criterion);
     Verdict { outcome: found }
@@ -156,7 +173,7 @@ fn judge_in(plan: &[u8], hp: Header, slice: &[u8], hs: Header, q: &[u8], list: &
 {
     let count = q.len() / 2;
     inputs_criterion::decode(q, count, list);
-    code(judge(plan, hp, slice, hs, &list[..count]))
+    rule_code(judge(plan, hp, slice, hs, &list[..count]).outcome)
 }
 
 // A criterion of so many bytes has a small list.

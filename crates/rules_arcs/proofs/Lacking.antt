@@ -5,13 +5,13 @@ use mathlib.Core.Path.{◌≡◌, refl, sym, ap, ◌∙◌, subst}
 use mathlib.Core.List.{List}
 use native.Mathlib.Omega.{arith}
 use lib.Dec.{T, eqb, ltb, ltb→lt, lt→ltb, not_T, T_not}
-use borrow.Author.Tests.{eq-eqb, ne_eqb, eqb-true, eqb-false}
+use borrow.Author.Tests.{eq-eqb, eqb-true, eqb-false}
 use lib.ListN.{length, get_or}
 use Rattle.net.specs.Numbers.{among, any, selected}
 use Rattle.net.specs.Net.{Net, input, output, takes_from, adds_to, capped, weight_on}
 use Rattle.net.specs.Slice.{Slice}
 use Rattle.net.specs.Checker.{breaks, rule7, rule9, lacks_input, lacks_output}
-use Rattle.net.proofs.Numbers.{by_cases, by_order, holds, fails, is_true, is_false, and_both, and_left, and_right, and-true, same_test, any-has, any-finds, below-has, below-passes}
+use Rattle.net.proofs.Numbers.{by_cases, holds, fails, is_true, is_false, and_both, and_left, and_right, same_test, any-has, any-finds, below-has, below-passes}
 use Rattle.file_arcs.specs.Layout.{arc_at}
 use Rattle.file.specs.Layout.{net_from, slice_from}
 use Rattle.file_header.specs.declared.Header.{Header}
@@ -27,9 +27,6 @@ lacking N S d wanted t = any (λ p. (wanted p && ltb 0 (weight_on d p t N.arcs))
 
 -- a place that is left out and has a cap, by its entry in the table of own numbers
 module _ (N : Net) (p : ℕ) (ownp : List ℕ) (n : ℕ) (e : n ≡ get_or ownp p 0) where
-  pub capped-kept : (n ≡ 0 → ⊥) → false ≡ (eqb (get_or ownp p 0) 0 && capped N p)
-  capped-kept o = rw (ne_eqb (get_or ownp p 0) 0 (λ z. o (e ∙ z)))
-
   pub capped-here : n ≡ 0 → (c : ℕ) → c ≡ N.cap p → not (eqb c 0) ≡ (eqb (get_or ownp p 0) 0 && capped N p)
   unfolding capped
   capped-here z c q = rw (eq-eqb (get_or ownp p 0) 0 (sym e ∙ z), ← q) (same_test (not (eqb c 0)) (ltb 0 c)
@@ -37,41 +34,12 @@ module _ (N : Net) (p : ℕ) (ownp : List ℕ) (n : ℕ) (e : n ≡ get_or ownp 
       (λ h. not_T (eqb c 0) (λ k. omega (arith, ltb→lt 0 c h, eqb-true c 0 (is_true (eqb c 0) k)))))
 
 -- arcs gone through one by one, of which none so far is at such a place
-module _ (plan : List ℕ) (hp : Header) (from to : ℕ) (ownp : List ℕ) where
+module _ (plan : List ℕ) (hp : Header) (from : ℕ) (ownp : List ℕ) where
   abbrev pub hit : ℕ → Bool
   hit i = let p = (arc_at plan (hp.arcstart + 8 * i)).place in eqb (get_or ownp p 0) 0 && capped (net_from plan hp) p
 
-  pub record NoHit (j : ℕ) : Type 0 where
-    pub least : from ≤ j
-    pub most : j ≤ to
-    pub none : (i : ℕ) → from ≤ i → i < j → hit i ≡ false
-
-  pub hit_start : from ≤ to → NoHit from
-  hit_start l = record { least = omega arith; most = l; none = λ i a b. absurd (omega arith) }
-
-  pub hit_next : (j : ℕ) → NoHit j → j < to → hit j ≡ false → NoHit (j + 1)
-  hit_next j x l e = record {
-    least = omega (arith, x.least);
-    most = omega arith;
-    none = λ i a b. by_order i j (λ d. x.none i a d) (λ d. ap hit d ∙ e) (λ d. absurd (omega arith));
-  }
-
-  pub hit_found : (j : ℕ) → NoHit j → j < to → hit j ≡ true → Unkept plan hp.arcstart from to (capped (net_from plan hp)) ownp true
-  hit_found j x l e =
-      let p = (arc_at plan (hp.arcstart + 8 * j)).place in
-      let both = and-true (eqb (get_or ownp p 0) 0) (capped (net_from plan hp) p) e in
-      record {
-        found = λ k. (j, x.least, l, holds _ both.1, eqb-true _ _ both.0);
-        none = λ k. absurd (let z : ◌≡◌ {A = ℕ} 0 1 = cc in omega arith);
-      }
-
-  pub hit_none : (j : ℕ) → NoHit j → to ≤ j → Unkept plan hp.arcstart from to (capped (net_from plan hp)) ownp false
-  hit_none j x l = record {
-    found = λ k. absurd (let z : ◌≡◌ {A = ℕ} 0 1 = cc in omega arith);
-    none = λ k i a b c z.
-        let p = (arc_at plan (hp.arcstart + 8 * i)).place in
-        fails (hit i) (x.none i a (omega (arith, x.most))) (and_both (eqb (get_or ownp p 0) 0) (capped (net_from plan hp) p) (holds _ (eq-eqb _ _ z)) c);
-  }
+  abbrev pub NoHit : ℕ → Type 0
+  NoHit j = (i : ℕ) → from ≤ i → i < j → hit i ≡ false
 
 double_not : (b : Bool) → not (not b) ≡ b
 double_not true = refl

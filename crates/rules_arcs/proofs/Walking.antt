@@ -183,13 +183,8 @@ module _ (plan : List ℕ) (at : ℕ) (slice : List ℕ) (hs : Header) (k upto :
 
 -- the runs agree exactly where what is left of them does
 pub record Walked (plan : List ℕ) (start from to : ℕ) (slice : List ℕ) (hs : Header) (first upto j k : ℕ) : Type 0 where
-  pub after : from ≤ j
-  pub within : j ≤ to
   pub rising : k ≤ upto
   pub same : same_arcs (arcs_left slice hs first upto) (kept slice hs (arcs_from plan (start + 8 * from) (to - from))) ≡ same_arcs (arcs_left slice hs k upto) (kept slice hs (arcs_from plan (start + 8 * j) (to - j)))
-
-pub walked_start : (plan : List ℕ) (start from to : ℕ) (slice : List ℕ) (hs : Header) (first upto : ℕ) → from ≤ to → first ≤ upto → Walked plan start from to slice hs first upto from first
-walked_start plan start from to slice hs first upto l m = record { after = omega arith; within = l; rising = m; same = refl }
 
 module _ (plan : List ℕ) (start from to : ℕ) (slice : List ℕ) (hs : Header) (first upto j k : ℕ) (x : Walked plan start from to slice hs first upto j k) where
   cons : j < to → arcs_from plan (start + 8 * j) (to - j) ≡ arc_at plan (start + 8 * j) ∷ arcs_from plan (start + 8 * (j + 1)) (to - (j + 1))
@@ -198,8 +193,6 @@ module _ (plan : List ℕ) (start from to : ℕ) (slice : List ℕ) (hs : Header
   module _ (r : ℕ) (l : j < to) (s : Step (arc_at plan (start + 8 * j)) slice hs k upto r) where
     pub walked_next : r ≤ upto → Walked plan start from to slice hs first upto (j + 1) r
     walked_next d = record {
-      after = omega (arith, x.after);
-      within = omega arith;
       rising = d;
       same = x.same ∙ ap (λ (m : List Arc). same_arcs (arcs_left slice hs k upto) (kept slice hs m)) (cons l) ∙ s.agrees d (arcs_from plan (start + 8 * (j + 1)) (to - (j + 1)));
     }

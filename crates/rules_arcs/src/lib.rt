@@ -1,6 +1,7 @@
 #![tactic(auto)]
 
 // The checker's rules 4, 7 and 9: a kept transition's arcs, its input places, and its capped output places.
+// A number past all stands for none: the clauses name it so, by `breaker` of the checker's rules.
 ghost use Rattle.std.specs.Prelude.{◌≡◌, true, not, ◌&&◌, ℕ, ◌+◌, ◌*◌, ◌-◌, ◌<◌, ◌≤◌, length, get_or, eqb};
 ghost use Rattle.net.specs.Net.{capped};
 ghost use Rattle.net.specs.Checker.{breaks, breaker, rule4, rule7, rule9, same_arcs};
@@ -19,13 +20,11 @@ fn unkept(plan: &[u8], start: usize, from: usize, to: usize, ownp: &[u16]) -> bo
     requires { Run plan.now start from to (length ownp.now) }
     ensures { Unkept plan.now start from to (λ p. true) ownp.now result }
 {
-    let mut j = from;
-    while j < to {
+    for j in from..to {
         let a = file_arcs::arc(plan, start + 8 * j);
         if entry(ownp, a.place) == 0 {
             return true;
         }
-        j += 1;
     }
     false
 }
@@ -66,14 +65,12 @@ pub fn input_missing(
     requires { Matched plan.now hp table.now slice.now hs ownp.now ownt.now }
     ensures { result ≡ breaker (rule7 (net_from plan.now hp) (slice_from slice.now hs)) }
 {
-    let mut t: usize = 0;
-    while t < hp.transitions {
+    for t in 0..hp.transitions {
         if lacks_input(plan, hp, table, slice, hs, ownp, ownt, t) {
             return t;
         }
-        t += 1;
     }
-    t
+    hp.transitions
 }
 
 // Is the place left out, and has it a cap?
@@ -97,13 +94,11 @@ fn capped_unkept(plan: &[u8], hp: Header, from: usize, to: usize, ownp: &[u16]) 
     ensures { Unkept plan.now hp.arcstart from to (capped (net_from plan.now hp)) ownp.now result }
 {
     let start = hp.arcstart;
-    let mut j = from;
-    while j < to {
+    for j in from..to {
         let a = file_arcs::arc(plan, start + 8 * j);
         if capped_left(plan, hp, ownp, a.place) {
             return true;
         }
-        j += 1;
     }
     false
 }
@@ -144,14 +139,12 @@ pub fn output_missing(
     requires { Matched plan.now hp table.now slice.now hs ownp.now ownt.now }
     ensures { result ≡ breaker (rule9 (net_from plan.now hp) (slice_from slice.now hs)) }
 {
-    let mut t: usize = 0;
-    while t < hp.transitions {
+    for t in 0..hp.transitions {
         if lacks_output(plan, hp, table, slice, hs, ownp, ownt, t) {
             return t;
         }
-        t += 1;
     }
-    t
+    hp.transitions
 }
 
 // Is the slice's word v the plan's word w with these own numbers? One comparison: all eight bytes at once.
@@ -211,15 +204,13 @@ fn other_run(
     requires against { Against slice.now hs first upto ownp.now }
     ensures { result ≡ not (same_arcs (arcs_left slice.now hs first upto) (kept slice.now hs (arcs_from plan.now (start + 8 * from) (to - from)))) }
 {
-    let mut j = from;
     let mut k = first;
-    while j < to {
+    for j in from..to {
         let next = step(plan, start + 8 * j, slice, hs, k, upto, ownp, own);
         if upto < next {
             return true;
         }
         k = next;
-        j += 1;
     }
     k != upto
 }
@@ -279,12 +270,10 @@ pub fn other_arcs(
     requires starts { Starts slice.now hs runs.now }
     ensures { result ≡ breaker (rule4 (net_from plan.now hp) (slice_from slice.now hs)) }
 {
-    let mut t: usize = 0;
-    while t < hp.transitions {
+    for t in 0..hp.transitions {
         if differs(plan, hp, table, slice, hs, runs, ownp, ownt, t) {
             return t;
         }
-        t += 1;
     }
-    t
+    hp.transitions
 }

@@ -1,5 +1,5 @@
 -- Columns that are written entry by entry.
-use Prim.Native.Nat.{ℕ, zero, suc, ◌+◌, ◌≤◌, ◌<◌}
+use Prim.Native.Nat.{ℕ, zero, suc, ◌+◌, ◌<◌}
 use mathlib.Core.Bool.{Bool, true, false, ◌||◌}
 use mathlib.Core.Path.{◌≡◌, refl, sym, ap, ◌∙◌}
 use mathlib.Core.List.{List, [], ◌∷◌}
@@ -8,23 +8,10 @@ use native.Mathlib.Decide.{ℕ_discrete}
 use native.Mathlib.Numerals.{add-one}
 use lib.Dec.{eqb}
 use lib.ListN.{length, get_or, take, set, length-set}
-use lib.Seq.{get_or-set_same, get_or-set_other, take_all}
+use lib.Seq.{get_or-set_same, get_or-set_other}
 use borrow.Author.Tests.{eq-eqb, ne_eqb}
 use Rattle.net.specs.Numbers.{among}
-use Rattle.net.proofs.Numbers.{by_order}
 use Rattle.rules_effects.specs.Movers.{limit_on}
-
--- writing keeps the length
-pub still_long : (l : List ℕ) (i v n : ℕ) → length l ≡ n → length (set l i v) ≡ n
-still_long l i v n e = length-set l i v ∙ e
-
--- one entry more
-pub written : (f : ℕ → ℕ) (l : List ℕ) (i v : ℕ) → i < length l → ((p : ℕ) → p < i → get_or l p 0 ≡ f p) → v ≡ f i → (p : ℕ) → p < i + 1 → get_or (set l i v) p 0 ≡ f p
-written f l i v inside h e p u =
-    by_order p i
-    (λ d. get_or-set_other l i p v 0 (λ z. omega arith) ∙ h p d)
-    (λ d. ap (λ (k : ℕ). get_or (set l i v) k 0) d ∙ get_or-set_same l i v 0 inside ∙ e ∙ ap f (sym d))
-    (λ d. absurd (omega arith))
 
 or_again : (a b c : Bool) → (a || (b || c)) ≡ ((a || b) || c)
 or_again true b c = refl
@@ -42,13 +29,12 @@ among-more x (y ∷ l) (suc i) h = ap (λ (b : Bool). eqb x y || b) (among-more 
 
 -- the limits of the first i places of the criterion are 0
 pub record Marked (Q was : List ℕ) (i : ℕ) (is : List ℕ) : Type 0 where
-  pub within : i ≤ length Q
   pub long : length is ≡ length was
   pub at : (p : ℕ) → p < length was → get_or is p 0 ≡ limit_on (among p (take i Q)) 0 (get_or was p 0)
 
 pub marked-none : (Q was : List ℕ) → Marked Q was 0 was
 unfolding among
-marked-none Q was = record { within = omega arith; long = refl; at = λ p l. refl }
+marked-none Q was = record { long = refl; at = λ p l. refl }
 
 limit_first : (b : Bool) (m : ℕ) → limit_on (b || true) 0 m ≡ 0
 limit_first true m = refl
@@ -60,7 +46,6 @@ limit_second false m = refl
 
 pub marked_more : (Q was : List ℕ) (i : ℕ) (is : List ℕ) → Marked Q was i is → i < length Q → (q : ℕ) → q ≡ get_or Q i 0 → q < length was → Marked Q was (i + 1) (set is q 0)
 marked_more Q was i is x l q e inside = record {
-  within = omega arith;
   long = length-set is q 0 ∙ x.long;
   at = λ p u. go p u (ℕ_discrete p q);
 }
@@ -75,6 +60,3 @@ marked_more Q was i is x l q e inside = record {
     go p u (no d) =
         get_or-set_other is q p 0 0 d ∙ x.at p u
         ∙ sym (ap (λ (b : Bool). limit_on b 0 (get_or was p 0)) (more p ∙ ap (λ (b : Bool). among p (take i Q) || b) (ne_eqb p (get_or Q i 0) (λ z. d (z ∙ sym e)))) ∙ limit_second (among p (take i Q)) (get_or was p 0))
-
-pub marked_all : (Q was : List ℕ) (i : ℕ) (is : List ℕ) → Marked Q was i is → length Q ≤ i → (p : ℕ) → p < length was → get_or is p 0 ≡ limit_on (among p Q) 0 (get_or was p 0)
-marked_all Q was i is x l p u = x.at p u ∙ ap (λ (k : List ℕ). limit_on (among p k) 0 (get_or was p 0)) (take_all i Q l)

@@ -1,6 +1,7 @@
 #![tactic(auto)]
 
 // The checker's rules 6, 8 and 10: what the transitions left out do to places of the criterion, to kept places and to kept capped places.
+// A number past all stands for none: the clauses name it so, by `breaker` of the checker's rules.
 ghost use Rattle.std.specs.Prelude.{◌≡◌, not, ◌&&◌, ℕ, ◌<◌, ◌≤◌, length, get_or, eqb};
 ghost use Rattle.net.specs.Numbers.{among, first};
 ghost use Rattle.net.specs.Checker.{breaker, rule6, rule8, rule10};
@@ -84,40 +85,24 @@ fn first_mover(
     ensures value { result ≡ first (λ t. moved (net_from plan.now hp) limit.now t && not (among t (slice_from slice.now hs).transition_origins)) 0 hp.transitions }
     ensures resting_2 { Resting hp.places column.new }
 {
-    let mut t: usize = 0;
-    while t < hp.transitions {
+    for t in 0..hp.transitions {
         if left_out_moves(plan, hp, table, slice, hs, ownp, ownt, t, limit, column) {
             return t;
         }
-        t += 1;
     }
-    t
+    hp.transitions
 }
 
 // The limit that nothing passes: 2 ^ 32 - 1.
 const NO_LIMIT: u32 = 4294967295;
-
-// Sets every limit to the one that nothing passes.
-fn unlimited(limit: &mut [u32])
-    ensures { (p : ℕ) → p < length limit.new → get_or limit.new p 0 ≡ 4294967295 }
-{
-    let mut i: usize = 0;
-    while i < limit.len() {
-        limit[i] = NO_LIMIT;
-        i += 1;
-    }
-}
 
 // Sets the limits of the criterion's places to 0, which every change passes.
 fn limit_criterion(criterion: &[u16], limit: &mut [u32])
     requires { (i : ℕ) → i < length criterion.now → get_or criterion.now i 0 < length limit.old }
     ensures { (p : ℕ) → p < length limit.old → get_or limit.new p 0 ≡ limit_on (among p criterion.now) 0 (get_or limit.old p 0) }
 {
-    let mut i: usize = 0;
-    while i < criterion.len() {
-        let p = entry(criterion, i);
-        limit[p] = 0;
-        i += 1;
+    for place in criterion {
+        limit[usize::from(*place)] = 0;
     }
 }
 
@@ -134,10 +119,8 @@ fn limit_kept(places: usize, ownp: &[u16], limit: &mut [u32])
     requires places_in_bounds_2 { places ≤ length limit.old }
     ensures { (p : ℕ) → p < places → get_or limit.new p 0 ≡ limit_on (eqb (get_or ownp.now p 0) 0) 4294967295 1073741824 }
 {
-    let mut p: usize = 0;
-    while p < places {
+    for p in 0..places {
         limit[p] = raise_limit(entry(ownp, p));
-        p += 1;
     }
 }
 
@@ -158,12 +141,8 @@ fn limit_capped(plan: &[u8], hp: Header, ownp: &[u16], limit: &mut [u32])
     requires places_in_bounds_2 { hp.places ≤ length limit.old }
     ensures { (p : ℕ) → p < hp.places → get_or limit.new p 0 ≡ change_limit (get_or ownp.now p 0) ((net_from plan.now hp).cap p) }
 {
-    let places = hp.places;
-    let mut p: usize = 0;
-    while p < places {
-        let own = entry(ownp, p);
-        limit[p] = change_limit(own, file::cap(plan, hp, p));
-        p += 1;
+    for p in 0..hp.places {
+        limit[p] = change_limit(entry(ownp, p), file::cap(plan, hp, p));
     }
 }
 
@@ -188,7 +167,7 @@ pub fn changer_missing(
     ensures value { result ≡ breaker (rule6 (net_from plan.now hp) (slice_from slice.now hs) criterion.now) }
     ensures resting_2 { Resting hp.places column.new }
 {
-    unlimited(limit);
+    limit.fill(NO_LIMIT);
     limit_criterion(criterion, limit);
     first_mover(plan, hp, table, slice, hs, ownp, ownt, limit, column)
 }

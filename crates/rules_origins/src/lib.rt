@@ -1,6 +1,7 @@
 #![tactic(auto)]
 
 // The checker's rules 1, 2, 3 and 5: origins that the plan knows, markings and caps, and the criterion.
+// A number past all stands for none: the clauses name it so, by `breaker` of the checker's rules.
 ghost use Rattle.std.specs.Prelude.{◌≡◌, ◌+◌, ◌*◌, ◌<◌, ◌≤◌, length};
 ghost use Rattle.net.specs.Net.{Net, Uncapped};
 ghost use Rattle.net.specs.Slice.{Slice};
@@ -14,21 +15,18 @@ ghost use Rattle.rules_origins.specs.Known.{Known, first_unknown, same_at};
 
 use file_header::{CAPS, Header};
 use file_words::get16;
-use tables::wide;
 
 // Scans `count` origins for the first that is not below `limit`; `count` where none is.
 fn scan(slice: &[u8], start: usize, count: usize, limit: usize) -> usize
     requires { Origins slice.now start count }
     ensures { result ≡ first_unknown limit (words_from slice.now start count) count }
 {
-    let mut j: usize = 0;
-    while j < count {
+    for j in 0..count {
         if limit <= get16(slice, start + 2 * j) {
             return j;
         }
-        j += 1;
     }
-    j
+    count
 }
 
 // The same: origins rise, so where the last is below, all are.
@@ -79,15 +77,12 @@ fn other_tokens(plan: &[u8], hp: Header, slice: &[u8], hs: Header) -> usize
     ensures { result ≡ breaker (rule3 (net_from plan.now hp) (slice_from slice.now hs)) }
 {
     let start = hs.originstart;
-    let count = hs.places;
-    let mut i: usize = 0;
-    while i < count {
+    for i in 0..hs.places {
         let p = get16(slice, start + 2 * i);
         let tokens = file::marking(plan, hp, p);
         if file::marking(slice, hs, i) != tokens {
             return p;
         }
-        i += 1;
     }
     hp.places
 }
@@ -113,14 +108,11 @@ fn other_place(plan: &[u8], hp: Header, slice: &[u8], hs: Header) -> usize
     ensures { result ≡ breaker (rule3 (net_from plan.now hp) (slice_from slice.now hs)) }
 {
     let start = hs.originstart;
-    let count = hs.places;
-    let mut i: usize = 0;
-    while i < count {
+    for i in 0..hs.places {
         let origin = get16(slice, start + 2 * i);
         if !alike(plan, hp, origin, slice, hs, i) {
             return origin;
         }
-        i += 1;
     }
     hp.places
 }
@@ -149,13 +141,11 @@ pub fn criterion_missing(criterion: &[u16], places: usize, ownp: &[u16]) -> usiz
     requires places_in_bounds { places ≤ length ownp.now }
     ensures { (N : Net) (S : Slice) → N.places ≡ places → Own S.place_origins ownp.now → result ≡ breaker (rule5 N S criterion.now) }
 {
-    let mut k: usize = 0;
-    while k < criterion.len() {
-        let q = wide(criterion[k]);
+    for place in criterion {
+        let q = usize::from(*place);
         if ownp[q] == 0 {
             return q;
         }
-        k += 1;
     }
     places
 }

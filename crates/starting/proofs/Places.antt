@@ -1,4 +1,5 @@
 -- A slice file whose markings are written over is the slice file of the net that starts there.
+use Rattle.std.specs.Prelude.{Result}
 use Prim.Native.Nat.{ℕ, zero, suc, ◌+◌, ◌-◌, ◌*◌, ◌/◌, ◌%◌, ◌≤◌, ◌<◌}
 use mathlib.Core.Bool.{Bool, true, false}
 use mathlib.Core.List.{List, [], ◌∷◌, ◌++◌, append_assoc}
@@ -29,7 +30,8 @@ use Rattle.sets.specs.Member.{bit, member}
 use Rattle.sets.proofs.Bits.{bit-zero}
 use Rattle.sets.specs.declared.KeptSets.{KeptSets}
 use Rattle.slice.specs.Kept.{cut_numbers, kept_slice, room_refusal, Answers}
-use Rattle.slice.specs.declared.Cut.{Cut}
+use Rattle.slice.specs.declared.Written.{Written}
+use Rattle.refusals.specs.declared.Refusal.{Refusal}
 use Rattle.starting.specs.Cuts.{given, passed_bytes, NoneKept}
 
 -- ---- a place in either edition
@@ -45,17 +47,8 @@ module _ (e tokens most : ℕ) where
   pub place-plain : (e ≡ 2 → ⊥) → bytes32 tokens ≡ place_bytes (eqb e 2) tokens most
   place-plain d = ap (λ (b : Bool). place_bytes b tokens most) (sym (ne_eqb e 2 d))
 
-pub next-capped : (e at : ℕ) → e ≡ 2 → at + 8 ≡ at + pick (eqb e 2) 8 4
-next-capped e at d = ap (λ (b : Bool). at + pick b 8 4) (sym (eq-eqb e 2 d))
-
-pub next-plain : (e at : ℕ) → (e ≡ 2 → ⊥) → at + 4 ≡ at + pick (eqb e 2) 8 4
-next-plain e at d = ap (λ (b : Bool). at + pick b 8 4) (sym (ne_eqb e 2 d))
-
 pub given_yes : (b : Bool) (l : List ℕ) → b ≡ true → l ≡ given b l
 given_yes b l e = ap (λ (x : Bool). given x l) (sym e)
-
-pub given-no : (b : Bool) (l : List ℕ) → b ≡ false → [] ≡ given b l
-given-no b l e = ap (λ (x : Bool). given x l) (sym e)
 
 -- a word that is 0 has no member
 pub none_kept : (words : List ℕ) (p q : ℕ) → get_or words (p / 64) 0 ≡ 0 → q ≤ (p / 64 + 1) * 64 → NoneKept words p q
@@ -92,9 +85,6 @@ module _ (e : ℕ) (M C : ℕ → ℕ) where
     module _ (n : ℕ) where
       abbrev pub left : ℕ → List ℕ
       left p = passed_bytes e M C test p (n - p)
-
-      pub left-all : passed_bytes e M C test 0 n ≡ left 0
-      left-all = let z : n ≡ n - 0 = omega arith in ap (passed_bytes e M C test 0) z
 
       pub left-next : (p : ℕ) → p < n → left p ≡ given (test p) (place_bytes (eqb e 2) (M p) (C p)) ++ left (p + 1)
       unfolding passed_bytes
@@ -159,7 +149,7 @@ module _ (e : ℕ) (M : Marking) (N : Net) (ps ts : List ℕ) where
       ∙ ap (λ (k : ℕ). cut_answer k (length (slice_bytes e own)) moved) (room_same n)
       ∙ ap (λ (l : ℕ). cut_answer (room_refusal e n moved) l moved) file_long
 
-  module _ {entry b : List ℕ} {r : Cut} (a : Answers e own entry b r) where
+  module _ {entry b : List ℕ} {r : Result Written Refusal} (a : Answers e own entry b r) where
     abbrev k : ℕ
     k = room_refusal e (length entry) own
 
@@ -220,7 +210,7 @@ passed_kept e M N test n =
     ∙ sym (places_same e (λ i. M (get_or ps i 0)) (on_kept ps M) (λ i. N.cap (get_or ps i 0)) (on_kept ps N.cap) 0 (length ps)
     (λ i l. (below_at (length ps) (λ k. M (get_or ps k 0)) (0 + i) (omega arith), below_at (length ps) (λ k. N.cap (get_or ps k 0)) (0 + i) (omega arith))))
 
-pub as_kept : (s : List ℕ) (h : Header) (kept : KeptSets) {entry exit : List ℕ} {r : Cut} → Answers h.edition (kept_slice s h kept) entry exit r
+pub as_kept : (s : List ℕ) (h : Header) (kept : KeptSets) {entry exit : List ℕ} {r : Result Written Refusal} → Answers h.edition (kept_slice s h kept) entry exit r
     → Answers h.edition (keeping (net_from s h) (selected (member kept.places) 0 h.places) (selected (member kept.transitions) 0 h.transitions)) entry exit r
 unfolding kept_slice
 as_kept s h kept a = a

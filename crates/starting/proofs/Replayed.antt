@@ -21,7 +21,7 @@ use Rattle.inputs_lists.proofs.Passing.{list_short, list_known}
 use Rattle.inputs_starts.specs.Startable.{Startable}
 use Rattle.inputs_starts.proofs.Calls.{entries, started-at}
 use Rattle.replay_steps.specs.Steps.{held, Listed}
-use Rattle.replay.specs.Told.{outcome_numbers}
+use Rattle.replay.specs.Told.{ended_numbers}
 use Rattle.replay.specs.Steps.{Ended}
 use Rattle.replay.specs.declared.Outcome.{Outcome}
 
@@ -66,9 +66,9 @@ module _ {d : Due} {s : List ℕ} {h : Header} {start : List ℕ} (r : Startable
   }
 
   pub ended-started : ((i : ℕ) → byte_at s i < 256) → (ts : List ℕ) {m : List ℕ} (o : Outcome) → Ended s h ts start m o
-      → (outcome_numbers o ≡ replay_told (replay (net_from (started_from s h start) h) ts).answer) × (m ≡ tokens (net_from (started_from s h start) h) (replay (net_from (started_from s h start) h) ts).marking)
+      → (ended_numbers o ≡ replay_told (replay (net_from (started_from s h start) h) ts).answer) × (m ≡ tokens (net_from (started_from s h start) h) (replay (net_from (started_from s h start) h) ts).marking)
   ended-started b ts {m} o x =
-      subst⁻¹ (λ (N : Net). (outcome_numbers o ≡ replay_told (replay N ts).answer) × (m ≡ tokens N (replay N ts).marking)) (started-at r b) (
+      subst⁻¹ (λ (N : Net). (ended_numbers o ≡ replay_told (replay N ts).answer) × (m ≡ tokens N (replay N ts).marking)) (started-at r b) (
       let N = starting_at (standing start) (net_from s h) in
       let e = sym (from_start (standing start) (net_from s h) ts) in (
         x.0 ∙ ap (λ (R : Replay). replay_told R.answer) e,

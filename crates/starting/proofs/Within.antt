@@ -1,4 +1,5 @@
 -- What a cut keeps is in the plan, and does not depend on its marking; a cut from a start is that of the file in which the start stands.
+use Rattle.std.specs.Prelude.{Result}
 use Prim.Native.Nat.{ℕ, ◌<◌}
 use mathlib.Core.List.{List}
 use mathlib.Core.Path.{◌≡◌, refl, subst, subst⁻¹}
@@ -20,7 +21,8 @@ use Rattle.cut.specs.Kept.{draws_all, growth_of, Kept}
 use Rattle.cut.specs.declared.Kind.{Kind}
 use Rattle.cut.specs.declared.Kind.TheVariants.{Safety, Branching}
 use Rattle.slice.specs.Kept.{kept_slice, Within, Answers}
-use Rattle.slice.specs.declared.Cut.{Cut}
+use Rattle.slice.specs.declared.Written.{Written}
+use Rattle.refusals.specs.declared.Refusal.{Refusal}
 use Rattle.starting.specs.Cuts.{Cuts}
 
 pub within : (k : Kind) (s : List ℕ) (h : Header) (Q : List ℕ) (kept : KeptSets) → Kept (growth_of (draws_all k) (net_from s h) Q) kept → Within kept h
@@ -34,13 +36,13 @@ unfolding safety branching growth changes raises takes_from adds_to capped input
 growth-same Safety M N Q = refl
 growth-same Branching M N Q = refl
 
-as_slice : (s : List ℕ) (h : Header) (kept : KeptSets) {entry exit : List ℕ} {r : Cut}
+as_slice : (s : List ℕ) (h : Header) (kept : KeptSets) {entry exit : List ℕ} {r : Result Written Refusal}
     → Answers h.edition (keeping (net_from s h) (selected (member kept.places) 0 h.places) (selected (member kept.transitions) 0 h.transitions)) entry exit r
     → Answers h.edition (kept_slice s h kept) entry exit r
 unfolding kept_slice
 as_slice s h kept a = a
 
-pub cut_started : (k : Kind) {d : Due} {s : List ℕ} {h : Header} {start Q entry exit : List ℕ} {r : Cut} (kept : KeptSets) → Startable d s h start → ((i : ℕ) → byte_at s i < 256)
+pub cut_started : (k : Kind) {d : Due} {s : List ℕ} {h : Header} {start Q entry exit : List ℕ} {r : Result Written Refusal} (kept : KeptSets) → Startable d s h start → ((i : ℕ) → byte_at s i < 256)
     → Kept (growth_of (draws_all k) (net_from s h) Q) kept
     → Answers h.edition (keeping (starting_at (standing start) (net_from s h)) (selected (member kept.places) 0 h.places) (selected (member kept.transitions) 0 h.transitions)) entry exit r
     → Cuts k (started_from s h start) h Q entry exit r

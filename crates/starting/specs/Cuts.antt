@@ -1,5 +1,5 @@
 -- What a cut from a start does: the sets that are kept, and their slice written.
-use Rattle.std.specs.Prelude.{ℕ, zero, suc, ◌≤◌, ◌<◌, Bool, true, false, List, [], ◌++◌, ◌≡◌, eqb}
+use Rattle.std.specs.Prelude.{Result, ℕ, zero, suc, ◌≤◌, ◌<◌, Bool, true, false, List, [], ◌++◌, ◌≡◌, eqb}
 use Rattle.file.specs.Layout.{net_from}
 use Rattle.file_header.specs.declared.Header.{Header}
 use Rattle.file_writing.specs.Writing.{place_bytes}
@@ -8,9 +8,10 @@ use Rattle.sets.specs.declared.KeptSets.{KeptSets}
 use Rattle.cut.specs.Kept.{draws_all, growth_of, Kept}
 use Rattle.cut.specs.declared.Kind.{Kind}
 use Rattle.slice.specs.Kept.{kept_slice, Answers}
-use Rattle.slice.specs.declared.Cut.{Cut}
+use Rattle.slice.specs.declared.Written.{Written}
+use Rattle.refusals.specs.declared.Refusal.{Refusal}
 
-pub record Cuts (k : Kind) (s : List ℕ) (h : Header) (Q entry exit : List ℕ) (r : Cut) : Type 0 where
+pub record Cuts (k : Kind) (s : List ℕ) (h : Header) (Q entry exit : List ℕ) (r : Result Written Refusal) : Type 0 where
   pub kept : KeptSets
   pub sets : Kept (growth_of (draws_all k) (net_from s h) Q) kept
   pub answers : Answers h.edition (kept_slice s h kept) entry exit r

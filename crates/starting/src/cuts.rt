@@ -14,12 +14,13 @@ ghost use Rattle.promise.specs.Together.{standing};
 ghost use Rattle.promise.specs.Starts.{starting_at, started_from};
 ghost use Rattle.sets.specs.Member.{member};
 ghost use Rattle.inputs_starts.specs.Startable.{Startable};
-ghost use Rattle.slice.specs.Kept.{cut_numbers, kept_pair, Within, Answers};
+ghost use Rattle.slice.specs.Kept.{kept_pair, Within, Answers};
 ghost use Rattle.starting.specs.Cuts.{given, passed_bytes, NoneKept, Cuts};
 
 use cut::Kind;
 use file_header::{CAPS, Header};
-use slice::Cut;
+use refusals::Refusal;
+use slice::Written;
 
 // Writes what a place holds, and its cap in the edition that has caps; answers where the next place goes.
 fn put_place(plan: &[u8], h: Header, p: usize, tokens: u64, at: usize, buffer: &mut [u8]) -> usize
@@ -84,21 +85,11 @@ fn put_start(plan: &[u8], h: Header, start: &[u64], places: &[u64; 16], buffer: 
 {
     let mut at: usize = 0;
     let mut p: usize = 0;
+    // Not over a range: `pass` skips words in which no place is kept.
     while p < h.places {
         let q = pass(places, p, h.places);
-        let next = put_kept(plan, h, places, q, start[q], at, buffer);
-        at = next;
+        at = put_kept(plan, h, places, q, start[q], at, buffer);
         p = q + 1;
-    }
-}
-
-// Is a cut refused?
-fn refused(answer: Cut) -> bool
-    ensures { result ≡ (cut_numbers answer).refused }
-{
-    match answer {
-        Cut::Written(_, _, _) => false,
-        Cut::Refused(_) => true,
     }
 }
 
@@ -110,18 +101,15 @@ fn write<'a>(
     places: &'a [u64; 16],
     transitions: &'a [u64; 16],
     buffer: &mut [u8],
-) -> Cut
+) -> Result<Written, Refusal>
     requires sound { Sound plan.now h }
     requires start_len { length start.now ≡ h.places }
     requires within { Within (kept_pair places.now transitions.now) h }
     ensures { Answers h.edition (keeping (starting_at (standing start.now) (net_from plan.now h)) (selected (member places.now) 0 h.places) (selected (member transitions.now) 0 h.transitions)) buffer.old buffer.new result }
 {
-    let done = slice::write(plan, h, places, transitions, buffer);
-    if refused(done) {
-        return done;
-    }
+    let done = slice::write(plan, h, places, transitions, buffer)?;
     put_start(plan, h, start, places, buffer);
-    done
+    Ok(done)
 }
 
 // The cut.
@@ -132,7 +120,7 @@ pub fn cut(
     criterion: &[u16],
     kind: Kind,
     buffer: &mut [u8],
-) -> Cut
+) -> Result<Written, Refusal>
     requires startable { Startable Plan plan.now h start.now }
     requires criterion_value { criterion_refusal h.places criterion.now ≡ 0 }
     ensures { Cuts kind (started_from plan.now h start.now) h criterion.now buffer.old buffer.new result }

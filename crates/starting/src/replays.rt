@@ -8,37 +8,26 @@ ghost use Rattle.promise.specs.Firing.{replay_told, replay_or};
 ghost use Rattle.promise.specs.Starts.{started_from};
 ghost use Rattle.inputs_starts.specs.Startable.{Startable};
 ghost use Rattle.replay_steps.specs.Steps.{Underway};
-ghost use Rattle.replay.specs.Told.{outcome_numbers, held_back};
+ghost use Rattle.replay.specs.Told.{ended_numbers, outcome_numbers, held_back};
 ghost use Rattle.starting.specs.Replays.{Replayable};
 
 use file_header::Header;
+use refusals::Refusal;
 use replay::Outcome;
-
-// Copies the start to a marking that is as long.
-fn load(start: &[u64], marking: &mut [u64])
-    requires { length marking.old ≡ length start.now }
-    ensures { marking.new ≡ start.now }
-{
-    let mut p: usize = 0;
-    while p < start.len() {
-        marking[p] = start[p];
-        p += 1;
-    }
-}
 
 // The start, and the firings that a small net does at once from there: how many.
 fn begin(file: &[u8], h: Header, start: &[u64], list: &[u16], marking: &mut [u64]) -> usize
     requires { Replayable file.now h start.now list.now marking.old }
     ensures { Underway file.now h list.now start.now marking.new result }
 {
-    load(start, marking);
+    marking.copy_from_slice(start);
     replay_fast::small(file, h, list, marking)
 }
 
 // Replays a list that is not refused, with one entry of the marking for each place.
 fn replay_all(file: &[u8], h: Header, start: &[u64], list: &[u16], marking: &mut [u64]) -> Outcome
     requires { Replayable file.now h start.now list.now marking.old }
-    ensures result_value { outcome_numbers result ≡ replay_told (replay_of (net_from (started_from file.now h start.now) h) list.now).answer }
+    ensures result_value { ended_numbers result ≡ replay_told (replay_of (net_from (started_from file.now h start.now) h) list.now).answer }
     ensures marking_after { marking.new ≡ tokens (net_from (started_from file.now h start.now) h) (replay_of (net_from (started_from file.now h start.now) h) list.now).marking }
 {
     let done = begin(file, h, start, list, marking);
@@ -49,15 +38,18 @@ fn replay_all(file: &[u8], h: Header, start: &[u64], list: &[u16], marking: &mut
 }
 
 // Replays the list from the start. The first entries of `marking` get the marking that it ends with, and the others are kept.
-pub fn replay(file: &[u8], h: Header, start: &[u64], list: &[u16], marking: &mut [u64]) -> Outcome
+pub fn replay(
+    file: &[u8],
+    h: Header,
+    start: &[u64],
+    list: &[u16],
+    marking: &mut [u64],
+) -> Result<Outcome, Refusal>
     requires { Startable Either file.now h start.now }
     ensures answer { outcome_numbers result ≡ replay_or (held_back h list.now (length marking.old)) (replay_of (net_from (started_from file.now h start.now) h) list.now).answer }
     ensures marking { marking.new ≡ written (held_back h list.now (length marking.old)) (tokens (net_from (started_from file.now h start.now) h) (replay_of (net_from (started_from file.now h start.now) h) list.now).marking) marking.old }
 {
-    let refused = replay::held_back(h, list, marking.len());
-    if refused != 0 {
-        return Outcome::Refused(refused);
-    }
+    replay::check(h, list, marking.len())?;
     let places = h.places;
-    replay_all(file, h, start, list, &mut marking[..places])
+    Ok(replay_all(file, h, start, list, &mut marking[..places]))
 }

@@ -13,7 +13,7 @@ ghost use Rattle.inputs_starts.specs.Startable.{Startable};
 ghost use Rattle.rules_origins.specs.Known.{Known, same_at};
 ghost use Rattle.check_rules.specs.Answer.{outcome_numbers};
 ghost use Rattle.check_rules.specs.Room.{Judged};
-ghost use Rattle.checker.specs.Answer.{numbers_of};
+ghost use Rattle.checker.specs.Answer.{verdict_numbers};
 
 use checker::{Outcome, Verdict};
 use file_header::Header;
@@ -41,15 +41,12 @@ fn other_start(plan: &[u8], hp: Header, slice: &[u8], hs: Header, start: &[u64])
     ensures { result ≡ breaker (rule3 (starting_at (standing start.now) (net_from plan.now hp)) (slice_from slice.now hs)) }
 {
     let first = hs.originstart;
-    let count = hs.places;
-    let mut i: usize = 0;
-    while i < count {
+    for i in 0..hs.places {
         let origin = get16(slice, first + 2 * i);
         let tokens = start[origin];
         if !alike(plan, hp, origin, tokens, slice, hs, i) {
             return origin;
         }
-        i += 1;
     }
     hp.places
 }
@@ -94,7 +91,7 @@ pub fn judge(
     requires startable { Startable due.Plan plan.now p start.now }
     requires opened { Opened due.Slice slice.now s }
     requires criterion_value { criterion_refusal p.places criterion.now ≡ 0 }
-    ensures { numbers_of result ≡ told (verdict (net_from (started_from plan.now p start.now) p) (slice_from slice.now s) criterion.now) }
+    ensures { verdict_numbers result ≡ told (verdict (net_from (started_from plan.now p start.now) p) (slice_from slice.now s) criterion.now) }
 {
     let found = whole_outcome(plan, p, slice, s, start, criterion);
     Verdict { outcome: found }

@@ -20,9 +20,6 @@ returns-then-z-eq8 c = λ h.
     let pre = (start (goal.at.returns-then-z-eq8 read).After-word-w).requires in
     eighth_in_doubt _ _ _ _ _ _ _ pre.ready _ pre.j_lt_arcs _ read.word-w.ensures (omega arith) _ c.joined-z.ensures c.if-z-eq8.true
 
-pub returns-then-kept : goal.returns-then-kept
-returns-then-kept c = λ h. absurd (omega arith)
-
 pub returns : goal.returns
 returns c = λ h.
     let sum = c in

@@ -1,9 +1,5 @@
-use Prim.Native.Nat.{◌-◌, ◌≤◌}
 use Rattle.check_fast.specs.Pass.{Walked}
 use Rattle.check_fast.proofs.stretch.Given as goal
 
 abbrev pub invariant-loop-j : goal.invariant-loop-j
-invariant-loop-j l = Walked l.plan l.hp l.slice l.hs l.criterion l.j l.k l.differs l.doubt × (l.initial.j ≤ l.j)
-
-abbrev pub decreases-loop-j : goal.decreases-loop-j
-decreases-loop-j l = l.hp.arcs - l.j
+invariant-loop-j l = Walked l.plan l.hp l.slice l.hs l.criterion l.j l.k l.differs l.doubt

@@ -1,84 +1,49 @@
 use mathlib.Core.Path.{◌≡◌, refl, ◌∙◌}
 use native.Mathlib.Omega.{arith}
 use Prim.Native.Nat.{ℕ, ◌≤◌}
-use Rattle.net.specs.Checker.{verdict_from, verdict}
-use Rattle.file.specs.Layout.{net_from, slice_from}
-use Rattle.promise.specs.Calls.{told}
+use Rattle.file.specs.Layout.{net_from}
 use Rattle.file.proofs.Rows.{length-words}
 use Rattle.rules_origins.proofs.Keeping.{places_known, transitions_known}
-use Rattle.check_rules.specs.Room.{rules_from4}
 use Rattle.check_rules.proofs.Steps.{broken_here, holds_here, range1, range2, range3, all-rules}
-use Rattle.check_sizes.specs.Sizes.{KnownIn}
 use Rattle.checker.proofs.whole_outcome.Goals as goal
-use Rattle.checker.proofs.whole_outcome.Goals.{After-unknown_place-i, After-unknown_transition-j, Else-p-hp, Start}
-
--- the rules from the fourth on decide for these arguments
-abbrev OthersDecide : Start → Type 0
-OthersDecide s =
-    let a = s.args in
-    let N = net_from a.plan.now a.hp in
-    let S = slice_from a.slice.now a.hs in
-    told (verdict_from 4 (rules_from4 N S a.criterion.now)) ≡ told (verdict N S a.criterion.now)
-
--- from where rules 1 to 3 hold, back to where each was looked at
-abbrev transitions_at : Else-p-hp → After-unknown_transition-j
-transitions_at c = (goal.at.Else-p-hp c).After-unknown_transition-j
-
-abbrev places_at : Else-p-hp → After-unknown_place-i
-places_at c = (goal.at.After-unknown_transition-j (transitions_at c)).After-unknown_place-i
-
-abbrev start : Else-p-hp → Start
-start c = (goal.at.After-unknown_place-i (places_at c)).Start
-
-first_three : (c : Else-p-hp) → OthersDecide (start c)
-first_three c =
-    holds_here 3 _ _ _ _ (range3 _ _) c.other_marking-p.ensures c.if-p-hp.false
-    ∙ holds_here 2 _ _ _ _ (range2 _ _) ((transitions_at c).unknown_transition-j.ensures _ refl) c.if-j-hs.false
-    ∙ holds_here 1 _ _ _ _ (range1 _ _) ((places_at c).unknown_place-i.ensures _ refl) (transitions_at c).if-i-hs.false
-    ∙ all-rules _ _ _
 
 least : (a b n : ℕ) → n ≡ b → a ≤ n → a ≤ b
 least a b n e h = omega arith
 
--- the plan knows what the slice has
-known : (c : Else-p-hp) → KnownIn (start c).args.hp (slice_from (start c).args.slice.now (start c).args.hs)
-known c =
-    let N = net_from (start c).args.plan.now (start c).args.hp in
-    record {
-      places = places_known N _ (length-words _ _ _) (least _ _ _ ((places_at c).unknown_place-i.ensures N refl) (transitions_at c).if-i-hs.false);
-      transitions = transitions_known N _ (length-words _ _ _) (least _ _ _ ((transitions_at c).unknown_transition-j.ensures N refl) c.if-j-hs.false);
-    }
-
 pub returns-then-i-hs : goal.returns-then-i-hs
-returns-then-i-hs c =
-    broken_here 1 _ _ _ _ (range1 _ _) (c.unknown_place-i.ensures _ refl) c.if-i-hs.true ∙ all-rules _ _ _
+returns-then-i-hs c = broken_here 1 _ _ _ _ (range1 _ _) (c.unknown_place-i.ensures _ refl) c.if-i-hs.true ∙ all-rules _ _ _
 
 pub returns-then-j-hs : goal.returns-then-j-hs
 returns-then-j-hs c =
-    let at = c in
-    broken_here 2 _ _ _ _ (range2 _ _) (at.unknown_transition-j.ensures _ refl) c.if-j-hs.true
-    ∙ holds_here 1 _ _ _ _ (range1 _ _) (at.unknown_place-i.ensures _ refl) at.if-i-hs.false
+    broken_here 2 _ _ _ _ (range2 _ _) (c.unknown_transition-j.ensures _ refl) c.if-j-hs.true
+    ∙ holds_here 1 _ _ _ _ (range1 _ _) (c.unknown_place-i.ensures _ refl) c.if-i-hs.false
     ∙ all-rules _ _ _
 
-pub other_marking-p-requires : goal.other_marking-p-requires
-other_marking-p-requires c =
-    let at = c in
-    let places = at in
-    let start = places in
-    let N = net_from start.args.plan.now start.args.hp in
-    let all = places_known N _ (length-words _ _ _) (least _ _ _ (places.unknown_place-i.ensures N refl) at.if-i-hs.false) in
-    record { sound = start.requires.planned; sound_2 = start.requires.sliced; kind_value = start.requires.kind; known = all }
+pub other_marking-p-requires-clause-known : goal.other_marking-p-requires-clause-known
+other_marking-p-requires-clause-known c =
+    let N = net_from c.args.plan.now c.args.hp in
+    places_known N _ (length-words _ _ _) (least _ _ _ (c.unknown_place-i.ensures N refl) c.if-i-hs.false)
 
 pub returns-then-p-hp : goal.returns-then-p-hp
 returns-then-p-hp c =
-    let at = c in
     broken_here 3 _ _ _ _ (range3 _ _) c.other_marking-p.ensures c.if-p-hp.true
-    ∙ holds_here 2 _ _ _ _ (range2 _ _) (at.unknown_transition-j.ensures _ refl) c.if-j-hs.false
-    ∙ holds_here 1 _ _ _ _ (range1 _ _) (at.unknown_place-i.ensures _ refl) at.if-i-hs.false
+    ∙ holds_here 2 _ _ _ _ (range2 _ _) (c.unknown_transition-j.ensures _ refl) c.if-j-hs.false
+    ∙ holds_here 1 _ _ _ _ (range1 _ _) (c.unknown_place-i.ensures _ refl) c.if-i-hs.false
     ∙ all-rules _ _ _
 
-pub others_outcome-requires : goal.others_outcome-requires
-others_outcome-requires c = record { judged = (start c).requires; known_in = known c }
+-- the plan knows what the slice has
+pub others_outcome-requires-clause-known_in : goal.others_outcome-requires-clause-known_in
+others_outcome-requires-clause-known_in c =
+    let N = net_from c.args.plan.now c.args.hp in
+    record {
+      places = places_known N _ (length-words _ _ _) (least _ _ _ (c.unknown_place-i.ensures N refl) c.if-i-hs.false);
+      transitions = transitions_known N _ (length-words _ _ _) (least _ _ _ (c.unknown_transition-j.ensures N refl) c.if-j-hs.false);
+    }
 
 pub returns : goal.returns
-returns c = c.others_outcome.ensures ∙ first_three (goal.at.returns c).Else-p-hp
+returns c =
+    c.others_outcome.ensures
+    ∙ holds_here 3 _ _ _ _ (range3 _ _) c.other_marking-p.ensures c.if-p-hp.false
+    ∙ holds_here 2 _ _ _ _ (range2 _ _) (c.unknown_transition-j.ensures _ refl) c.if-j-hs.false
+    ∙ holds_here 1 _ _ _ _ (range1 _ _) (c.unknown_place-i.ensures _ refl) c.if-i-hs.false
+    ∙ all-rules _ _ _

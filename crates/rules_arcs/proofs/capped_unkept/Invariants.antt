@@ -1,9 +1,5 @@
-use Prim.Native.Nat.{◌-◌}
 use Rattle.rules_arcs.proofs.Lacking.{NoHit}
 use Rattle.rules_arcs.proofs.capped_unkept.Given as goal
 
 abbrev pub invariant-loop-j : goal.invariant-loop-j
-invariant-loop-j l = NoHit l.plan l.hp l.from l.to l.ownp l.j
-
-abbrev pub decreases-loop-j : goal.decreases-loop-j
-decreases-loop-j l = l.to - l.j
+invariant-loop-j l = NoHit l.plan l.hp l.from l.ownp l.j

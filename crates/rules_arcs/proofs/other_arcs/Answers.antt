@@ -1,17 +1,11 @@
 use mathlib.Core.Path.{refl, sym, ◌∙◌}
 use Rattle.net.specs.Checker.{rule4}
-use Rattle.rules_tables.proofs.Lowest.{none_start, none_next, breaker-found, breaker-none}
+use Rattle.rules_tables.proofs.Lowest.{breaker-found, breaker-none}
 use Rattle.rules_arcs.proofs.other_arcs.Goals as goal
-
-pub loop-t-init : goal.loop-t-init
-loop-t-init c = none_start _ _
 
 pub returns-then-differs : goal.returns-then-differs
 unfolding rule4
 returns-then-differs c = breaker-found _ _ _ refl c.loop-t.invariant c.loop-t-test.true (sym c.differs.ensures ∙ c.if-differs.true)
-
-pub loop-t-preserved : goal.loop-t-preserved
-loop-t-preserved c = none_next _ _ _ c.loop-t.invariant c.loop-t-test.true (sym c.differs.ensures ∙ c.if-differs.false)
 
 pub returns : goal.returns
 unfolding rule4

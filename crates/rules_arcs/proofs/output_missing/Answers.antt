@@ -1,17 +1,11 @@
 use mathlib.Core.Path.{refl, sym, ◌∙◌}
 use Rattle.net.specs.Checker.{rule9}
-use Rattle.rules_tables.proofs.Lowest.{none_start, none_next, breaker-found, breaker-none}
+use Rattle.rules_tables.proofs.Lowest.{breaker-found, breaker-none}
 use Rattle.rules_arcs.proofs.output_missing.Goals as goal
-
-pub loop-t-init : goal.loop-t-init
-loop-t-init c = none_start _ _
 
 pub returns-then-lacks_output : goal.returns-then-lacks_output
 unfolding rule9
 returns-then-lacks_output c = breaker-found _ _ _ refl c.loop-t.invariant c.loop-t-test.true (sym c.lacks_output.ensures ∙ c.if-lacks_output.true)
-
-pub loop-t-preserved : goal.loop-t-preserved
-loop-t-preserved c = none_next _ _ _ c.loop-t.invariant c.loop-t-test.true (sym c.lacks_output.ensures ∙ c.if-lacks_output.false)
 
 pub returns : goal.returns
 unfolding rule9

@@ -34,9 +34,6 @@ compared c =
     (s.requires.against.sliced.zeros s.args.k (omega (arith, s.requires.against.within)))
     _ _ s.requires.walk.low (omega (arith, e.entry-place.ensures.1))
 
-pub entry-place-requires : goal.entry-place-requires
-entry-place-requires c = omega (arith, ap (λ (a : Arc). a.place) c.word-w.ensures.arc, (start c).requires.walk.reached)
-
 pub returns-then-place-eq0 : goal.returns-then-place-eq0
 returns-then-place-eq0 c =
     let e = c in

@@ -7,7 +7,6 @@ use borrow.Author.Tests.{not-true, not-false}
 use Rattle.file.specs.Layout.{net_from, slice_from}
 use Rattle.file.proofs.Rows.{length-words, words_at}
 use Rattle.rules_origins.specs.Known.{same_at}
-use Rattle.rules_origins.proofs.Reached.{place-origins}
 use Rattle.rules_origins.proofs.Keeping.{other_found, other_none}
 use Rattle.rules_origins.proofs.other_place.Goals as goal
 use Rattle.rules_origins.proofs.other_place.Goals.{After-alike, After-get16-origin, At-loop-i, In-loop-i, Start}
@@ -38,21 +37,12 @@ compared c =
     let a = (call (goal.at.In-loop-i t).At-loop-i).args in
     c.alike.ensures ∙ ap (λ (p : ℕ). same_at (net_from a.plan.now a.hp) (net_from a.slice.now a.hs) t.loop-i.i p) (origin_is (goal.at.After-alike c).After-get16-origin)
 
-pub loop-i-init : goal.loop-i-init
-loop-i-init c = (omega arith, λ k l. absurd (omega arith))
-
-pub get16-origin-requires : goal.get16-origin-requires
-get16-origin-requires c =
-    let pre = (call (goal.at.get16-origin-requires c).At-loop-i).requires in
-    let w = (place-origins _ _ pre.sound_2 pre.kind_value).fit in
-    omega (arith, c.loop-i-test.true)
-
-pub alike-requires : goal.alike-requires
-alike-requires c =
+pub alike-requires-clause-p_lt_places : goal.alike-requires-clause-p_lt_places
+alike-requires-clause-p_lt_places c =
     let t = turn_of c in
     let pre = (call (goal.at.In-loop-i t).At-loop-i).requires in
     let known = pre.known.at t.loop-i.i (inside t) in
-    record { placed = pre.sound.placed; placed_2 = pre.sound_2.placed; p_lt_places = (rw (origin_is c) known, t.loop-i-test.true) }
+    (rw (origin_is c) known, t.loop-i-test.true)
 
 pub returns-then-not-alike : goal.returns-then-not-alike
 returns-then-not-alike c =
@@ -60,14 +50,14 @@ returns-then-not-alike c =
     let t = turn_of (goal.at.returns-then-not-alike same).After-get16-origin in
     let pre = (call (goal.at.In-loop-i t).At-loop-i).requires in
     origin_is (goal.at.returns-then-not-alike same).After-get16-origin
-    ∙ other_found _ _ (pre.sound_2.place_origins pre.kind_value) pre.known t.loop-i.i (inside t) t.loop-i.invariant.1
+    ∙ other_found _ _ (pre.sound_2.place_origins pre.kind_value) pre.known t.loop-i.i (inside t) t.loop-i.invariant
     (sym (compared (goal.at.returns-then-not-alike same).After-alike) ∙ not-true _ c.if-not-alike.true-raw)
 
 pub loop-i-preserved : goal.loop-i-preserved
 loop-i-preserved c =
     let same = c in
     let t = turn_of (goal.at.loop-i-preserved same).After-get16-origin in
-    (omega (arith, t.loop-i-test.true), below_more _ _ t.loop-i.invariant.1 (record { same = sym (compared (goal.at.loop-i-preserved same).After-alike) ∙ not-false _ c.if-not-alike.false-raw }))
+    below_more _ _ t.loop-i.invariant (record { same = sym (compared (goal.at.loop-i-preserved same).After-alike) ∙ not-false _ c.if-not-alike.false-raw })
 
 pub returns : goal.returns
 returns c =
@@ -75,4 +65,4 @@ returns c =
     let a = s.args in
     let pre = s.requires in
     let long = length-words a.slice.now a.hs.originstart a.hs.places in
-    other_none _ _ (pre.sound_2.place_origins pre.kind_value) pre.known (λ k l. c.loop-i.invariant.1 k (omega (arith, c.loop-i-test.false)))
+    other_none _ _ (pre.sound_2.place_origins pre.kind_value) pre.known (λ k l. c.loop-i.invariant k (omega (arith, c.loop-i-test.false)))

@@ -6,13 +6,9 @@ use lib.ListN.{length, get_or}
 use borrow.Author.Count.{below_more}
 use Rattle.file.specs.Layout.{net_from, slice_from}
 use Rattle.file.proofs.Rows.{length-words, words_at}
-use Rattle.rules_origins.proofs.Reached.{place-origins}
 use Rattle.rules_origins.proofs.Keeping.{tokens-decide, other_found, other_none}
 use Rattle.rules_origins.proofs.other_tokens.Goals as goal
 use Rattle.rules_origins.proofs.other_tokens.Goals.{After-get16-p, After-marking, At-loop-i, In-loop-i, Start}
-
-pub loop-i-init : goal.loop-i-init
-loop-i-init c = (omega arith, λ k l. absurd (omega arith))
 
 -- ---- the states: the call, the head of a turn, its origin read, both markings read
 
@@ -43,12 +39,6 @@ tokens_are c =
     let a = (call (goal.at.In-loop-i (turn_of o)).At-loop-i).args in
     c.marking-tokens.ensures.0 ∙ ap (net_from a.plan.now a.hp).marking (origin_is o)
 
-pub get16-p-requires : goal.get16-p-requires
-get16-p-requires c =
-    let pre = (call (goal.at.get16-p-requires c).At-loop-i).requires in
-    let w = (place-origins _ _ pre.sound_2 pre.kind_value).fit in
-    omega (arith, c.loop-i-test.true)
-
 pub marking-tokens-requires : goal.marking-tokens-requires
 marking-tokens-requires c =
     let t = turn_of c in
@@ -56,18 +46,13 @@ marking-tokens-requires c =
     let known = pre.known.at t.loop-i.i (inside t) in
     record { placed = pre.sound.placed; place_lt_places = rw (origin_is c) known }
 
-pub marking-requires : goal.marking-requires
-marking-requires c =
-    let t = turn_of (goal.at.marking-requires c).After-get16-p in
-    record { placed = (call (goal.at.In-loop-i t).At-loop-i).requires.sound_2.placed; place_lt_places = t.loop-i-test.true }
-
 pub returns-then-marking-tokens : goal.returns-then-marking-tokens
 returns-then-marking-tokens c =
     let read = c in
     let t = turn_of (origin_of (goal.at.returns-then-marking-tokens read).After-marking) in
     let pre = (call (goal.at.In-loop-i t).At-loop-i).requires in
     origin_is (origin_of (goal.at.returns-then-marking-tokens read).After-marking)
-    ∙ other_found _ _ (pre.sound_2.place_origins pre.kind_value) pre.known t.loop-i.i (inside t) t.loop-i.invariant.1
+    ∙ other_found _ _ (pre.sound_2.place_origins pre.kind_value) pre.known t.loop-i.i (inside t) t.loop-i.invariant
     (tokens-decide _ _ pre.uncapped pre.uncapped_2 _ _ ∙ ne_eqb _ _ (λ e. c.if-marking-tokens.true (read.marking.ensures.0 ∙ e ∙ sym (tokens_are (goal.at.returns-then-marking-tokens read).After-marking))))
 
 pub loop-i-preserved : goal.loop-i-preserved
@@ -76,7 +61,7 @@ loop-i-preserved c =
     let t = turn_of (origin_of (goal.at.loop-i-preserved read).After-marking) in
     let pre = (call (goal.at.In-loop-i t).At-loop-i).requires in
     let same = tokens-decide _ _ pre.uncapped pre.uncapped_2 _ _ ∙ eq-eqb _ _ (sym read.marking.ensures.0 ∙ c.if-marking-tokens.false ∙ tokens_are (goal.at.loop-i-preserved read).After-marking) in
-    (omega (arith, t.loop-i-test.true), below_more _ _ t.loop-i.invariant.1 (record { same = same }))
+    below_more _ _ t.loop-i.invariant (record { same = same })
 
 pub returns : goal.returns
 returns c =
@@ -84,4 +69,4 @@ returns c =
     let a = s.args in
     let pre = s.requires in
     let long = length-words a.slice.now a.hs.originstart a.hs.places in
-    other_none _ _ (pre.sound_2.place_origins pre.kind_value) pre.known (λ k l. c.loop-i.invariant.1 k (omega (arith, c.loop-i-test.false)))
+    other_none _ _ (pre.sound_2.place_origins pre.kind_value) pre.known (λ k l. c.loop-i.invariant k (omega (arith, c.loop-i-test.false)))

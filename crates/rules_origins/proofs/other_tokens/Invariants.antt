@@ -1,10 +1,7 @@
-use Prim.Native.Nat.{ℕ, ◌-◌, ◌≤◌, ◌<◌}
+use Prim.Native.Nat.{ℕ, ◌<◌}
 use Rattle.file.specs.Layout.{net_from, slice_from}
 use Rattle.rules_origins.proofs.Keeping.{Alike}
 use Rattle.rules_origins.proofs.other_tokens.Given as goal
 
 abbrev pub invariant-loop-i : goal.invariant-loop-i
-invariant-loop-i l = (l.i ≤ l.hs.places) × ((k : ℕ) → k < l.i → Alike (net_from l.plan l.hp) (slice_from l.slice l.hs) k)
-
-abbrev pub decreases-loop-i : goal.decreases-loop-i
-decreases-loop-i l = l.hs.places - l.i
+invariant-loop-i l = (k : ℕ) → k < l.i → Alike (net_from l.plan l.hp) (slice_from l.slice l.hs) k

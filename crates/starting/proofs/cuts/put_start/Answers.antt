@@ -8,9 +8,9 @@ use Rattle.file.specs.Layout.{net_from}
 use Rattle.file_writing.specs.Writing.{place_bytes}
 use Rattle.promise.specs.Together.{standing}
 use Rattle.sets.specs.Member.{member}
-use Rattle.tables.proofs.Storing.{Storing, storing_all, storing_as, storing_part, storing_none}
+use Rattle.tables.proofs.Storing.{Storing, storing_as, storing_part, storing_none}
 use Rattle.starting.specs.Cuts.{given, passed_bytes}
-use Rattle.starting.proofs.Places.{left, left-all, left-next, left-past, left-none}
+use Rattle.starting.proofs.Places.{left, left-next, left-past, left-none}
 use Rattle.starting.proofs.cuts.put_start.Goals as goal
 use Rattle.starting.proofs.cuts.put_start.Goals.{After-pass-q, After-put_kept-arg-1, At-loop-p, Start}
 
@@ -57,29 +57,18 @@ to_store c =
     let a = (call l).args in
     storing_as l.loop-p.invariant.1 (passed c ∙ left-next a.h.edition (standing a.start.now) (net_from a.plan.now a.h).cap (member a.places.now) a.h.places c.pass-q.result c.pass-q.ensures.1)
 
-pub loop-p-init : goal.loop-p-init
-loop-p-init c = (omega arith, storing_as (storing_all _ _ _) (left-all _ _ _ _ _))
-
-pub put_kept-next-requires : goal.put_kept-next-requires
-put_kept-next-requires c =
+pub put_kept-at-requires-clause-p_in_bounds : goal.put_kept-at-requires-clause-p_in_bounds
+put_kept-at-requires-clause-p_in_bounds c =
     let t = place_of c in
     let s = call (at_of t) in
     let w = to_store t in
-    record { placed = s.requires.placed; p_lt_places = t.pass-q.ensures.1; p_in_bounds = omega (arith, s.requires.places_in_bounds, w.count, w.long, length-append (part t) (left_at t (t.pass-q.result + 1))) }
-
-pub loop-p-smaller : goal.loop-p-smaller
-loop-p-smaller c =
-    let t = place_of (goal.at.loop-p-smaller c).After-put_kept-arg-1 in
-    omega (arith, t.loop-p-test.true, t.pass-q.ensures.0, t.pass-q.ensures.1)
+    omega (arith, s.requires.places_in_bounds, w.count, w.long, length-append (part t) (left_at t (t.pass-q.result + 1)))
 
 pub loop-p-preserved : goal.loop-p-preserved
 loop-p-preserved c =
     let put = c in
     let t = place_of (goal.at.loop-p-preserved put).After-put_kept-arg-1 in
-    (omega (arith, t.pass-q.ensures.1), storing_part (part t) _ _ _ (to_store t) put.put_kept-next.ensures.buffer_after put.put_kept-next.ensures.value)
-
-pub shape_of-buffer : goal.shape_of-buffer
-shape_of-buffer c = c.loop-p.invariant.1.long
+    (omega (arith, t.pass-q.ensures.1), storing_part (part t) _ _ _ (to_store t) put.put_kept-at.ensures.buffer_after put.put_kept-at.ensures.value)
 
 pub returns : goal.returns
 returns c =

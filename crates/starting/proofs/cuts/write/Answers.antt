@@ -1,10 +1,9 @@
-use Prim.Native.Nat.{ℕ}
-use mathlib.Core.List.{List}
-use mathlib.Core.Path.{sym, ap, ◌∙◌}
+use Rattle.std.specs.Prelude.{Ok, Err}
+use mathlib.Core.Path.{refl, ap, ◌∙◌}
 use native.Mathlib.Omega.{arith}
 use lib.ListN.{length}
 use lib.Seq.{sets}
-use Rattle.net.specs.Net.{Net}
+use Rattle.refusals.proofs.Numbers.{passed_on}
 use Rattle.net.specs.Numbers.{selected}
 use Rattle.file.specs.Layout.{net_from}
 use Rattle.promise.specs.Together.{standing}
@@ -12,57 +11,31 @@ use Rattle.sets.specs.Member.{member}
 use Rattle.slice.specs.Kept.{kept_pair}
 use Rattle.starting.proofs.Places.{as_kept, refused_too, room_for, written_over, passed_kept}
 use Rattle.starting.proofs.cuts.write.Goals as goal
-use Rattle.starting.proofs.cuts.write.Goals.{After-refused, After-write-done, Start}
-
--- ---- the states: the call, the plan's own slice written
-
-abbrev call : After-write-done → Start
-call c = (goal.at.After-write-done c).Start
-
-abbrev written : After-refused → After-write-done
-written c = (goal.at.After-refused c).After-write-done
-
-abbrev plan : Start → Net
-plan s = net_from s.args.plan.now s.args.h
-
-abbrev ps : Start → List ℕ
-ps s = selected (member s.args.places.now) 0 s.args.h.places
-
-abbrev ts : Start → List ℕ
-ts s = selected (member s.args.transitions.now) 0 s.args.h.transitions
 
 -- ---- refused
 
-pub returns-then-refused : goal.returns-then-refused
-returns-then-refused c =
-    let w = written (goal.at.returns-then-refused c).After-refused in
-    let s = call w in
-    let a = s.args in
-    refused_too a.h.edition (standing a.start.now) (plan s) (ps s) (ts s)
-    (as_kept a.plan.now a.h (kept_pair a.places.now a.transitions.now) (record { answer = w.write-done.ensures.answer; buffer = w.write-done.ensures.buffer }))
-    (sym c.refused.ensures ∙ c.if-refused.true)
+pub returns-in_err-done : goal.returns-in_err-done
+returns-in_err-done c =
+    let a = c.args in
+    rw (passed_on _ c.from_residual.ensures.1)
+    (refused_too a.h.edition (standing a.start.now) (net_from a.plan.now a.h) (selected (member a.places.now) 0 a.h.places) (selected (member a.transitions.now) 0 a.h.transitions) {entry = a.buffer.now} {r = Err c.in_err-done.field-0.0}
+    (as_kept a.plan.now a.h (kept_pair a.places.now a.transitions.now) (record { answer = c.in_err-done.ensures.answer; buffer = c.in_err-done.ensures.buffer }))
+    refl)
 
 -- ---- the start over the markings
 
-pub put_start-requires : goal.put_start-requires
-put_start-requires c =
-    let whole = c in
-    let w = written (goal.at.put_start-requires whole).After-refused in
-    let s = call w in
-    let a = s.args in
-    let room = room_for a.h.edition (standing a.start.now) (plan s) (ps s) (ts s) {entry = a.buffer.now} {r = w.write-done.result}
-    (as_kept a.plan.now a.h (kept_pair a.places.now a.transitions.now) (record { answer = w.write-done.ensures.answer; buffer = w.write-done.ensures.buffer }))
-    (sym whole.refused.ensures ∙ whole.if-refused.false) in
-    record { placed = s.requires.sound.placed; start_len = s.requires.start_len; places_in_bounds = omega (arith, room, ap length (passed_kept a.h.edition (standing a.start.now) (plan s) (member a.places.now) a.h.places)) }
+pub put_start-requires-clause-places_in_bounds : goal.put_start-requires-clause-places_in_bounds
+put_start-requires-clause-places_in_bounds c =
+    let a = c.args in
+    let room = room_for a.h.edition (standing a.start.now) (net_from a.plan.now a.h) (selected (member a.places.now) 0 a.h.places) (selected (member a.transitions.now) 0 a.h.transitions) {entry = a.buffer.now} {r = Ok c.in_ok-done.done}
+    (as_kept a.plan.now a.h (kept_pair a.places.now a.transitions.now) (record { answer = c.in_ok-done.ensures.answer; buffer = c.in_ok-done.ensures.buffer }))
+    refl in
+    omega (arith, room, ap length (passed_kept a.h.edition (standing a.start.now) (net_from a.plan.now a.h) (member a.places.now) a.h.places))
 
 pub returns : goal.returns
 returns c =
-    let put = c in
-    let whole = put in
-    let w = written (goal.at.returns whole).After-refused in
-    let s = call w in
-    let a = s.args in
-    written_over a.h.edition (standing a.start.now) (plan s) (ps s) (ts s)
-    (as_kept a.plan.now a.h (kept_pair a.places.now a.transitions.now) (record { answer = w.write-done.ensures.answer; buffer = w.write-done.ensures.buffer }))
-    (sym whole.refused.ensures ∙ whole.if-refused.false)
-    (put.put_start.ensures ∙ ap (sets _ 0) (passed_kept a.h.edition (standing a.start.now) (plan s) (member a.places.now) a.h.places))
+    let a = c.args in
+    written_over a.h.edition (standing a.start.now) (net_from a.plan.now a.h) (selected (member a.places.now) 0 a.h.places) (selected (member a.transitions.now) 0 a.h.transitions) {entry = a.buffer.now} {r = Ok c.in_ok-done.done}
+    (as_kept a.plan.now a.h (kept_pair a.places.now a.transitions.now) (record { answer = c.in_ok-done.ensures.answer; buffer = c.in_ok-done.ensures.buffer }))
+    refl
+    (c.put_start.ensures ∙ ap (sets _ 0) (passed_kept a.h.edition (standing a.start.now) (net_from a.plan.now a.h) (member a.places.now) a.h.places))

@@ -9,7 +9,6 @@ use Rattle.file.proofs.Rows.{length-words, words_at}
 use Rattle.promise.specs.Together.{standing}
 use Rattle.promise.specs.Starts.{starting_at}
 use Rattle.rules_origins.specs.Known.{same_at}
-use Rattle.rules_origins.proofs.Reached.{place-origins}
 use Rattle.rules_origins.proofs.Keeping.{other_found, other_none}
 use Rattle.starting.proofs.verdicts.other_start.Goals as goal
 use Rattle.starting.proofs.verdicts.other_start.Goals.{After-alike, After-get16-origin, At-loop-i, In-loop-i, Start}
@@ -48,26 +47,16 @@ compared c =
     let a = (call (goal.at.In-loop-i t).At-loop-i).args in
     c.alike.ensures ∙ ap (λ (p : ℕ). same_at (starting_at (standing a.start.now) (net_from a.plan.now a.hp)) (net_from a.slice.now a.hs) t.loop-i.i p) (origin_is (read_of c))
 
-pub loop-i-init : goal.loop-i-init
-loop-i-init c = (omega arith, λ k l. absurd (omega arith))
-
-pub get16-origin-requires : goal.get16-origin-requires
-get16-origin-requires c =
-    let pre = (call (goal.at.get16-origin-requires c).At-loop-i).requires in
-    let w = (place-origins _ _ pre.sound pre.kind_value).fit in
-    omega (arith, c.loop-i-test.true)
-
 pub bounds-start-origin : goal.bounds-start-origin
 bounds-start-origin c =
     let read = c in
     omega (arith, known (goal.at.bounds-start-origin read).After-get16-origin, (call (goal.at.In-loop-i (turn_of (goal.at.bounds-start-origin read).After-get16-origin)).At-loop-i).requires.start_len)
 
-pub alike-requires : goal.alike-requires
-alike-requires c =
+pub alike-requires-clause-p_lt_places : goal.alike-requires-clause-p_lt_places
+alike-requires-clause-p_lt_places c =
     let read = c in
-    let t = turn_of (goal.at.alike-requires read).After-get16-origin in
-    let pre = (call (goal.at.In-loop-i t).At-loop-i).requires in
-    record { placed = pre.placed; placed_2 = pre.sound.placed; p_lt_places = (known (goal.at.alike-requires read).After-get16-origin, t.loop-i-test.true) }
+    let t = turn_of (goal.at.alike-requires-clause-p_lt_places read).After-get16-origin in
+    (known (goal.at.alike-requires-clause-p_lt_places read).After-get16-origin, t.loop-i-test.true)
 
 pub returns-then-not-alike : goal.returns-then-not-alike
 returns-then-not-alike c =
@@ -75,14 +64,14 @@ returns-then-not-alike c =
     let t = turn_of (read_of (goal.at.returns-then-not-alike same).After-alike) in
     let pre = (call (goal.at.In-loop-i t).At-loop-i).requires in
     origin_is (read_of (goal.at.returns-then-not-alike same).After-alike)
-    ∙ other_found _ _ (pre.sound.place_origins pre.kind_value) pre.known t.loop-i.i (inside t) t.loop-i.invariant.1
+    ∙ other_found _ _ (pre.sound.place_origins pre.kind_value) pre.known t.loop-i.i (inside t) t.loop-i.invariant
     (sym (compared (goal.at.returns-then-not-alike same).After-alike) ∙ not-true _ c.if-not-alike.true-raw)
 
 pub loop-i-preserved : goal.loop-i-preserved
 loop-i-preserved c =
     let same = c in
     let t = turn_of (read_of (goal.at.loop-i-preserved same).After-alike) in
-    (omega (arith, t.loop-i-test.true), below_more _ _ t.loop-i.invariant.1 (record { same = sym (compared (goal.at.loop-i-preserved same).After-alike) ∙ not-false _ c.if-not-alike.false-raw }))
+    below_more _ _ t.loop-i.invariant (record { same = sym (compared (goal.at.loop-i-preserved same).After-alike) ∙ not-false _ c.if-not-alike.false-raw })
 
 pub returns : goal.returns
 returns c =
@@ -90,4 +79,4 @@ returns c =
     let a = s.args in
     let pre = s.requires in
     let long = length-words a.slice.now a.hs.originstart a.hs.places in
-    other_none _ _ (pre.sound.place_origins pre.kind_value) pre.known (λ k l. c.loop-i.invariant.1 k (omega (arith, c.loop-i-test.false)))
+    other_none _ _ (pre.sound.place_origins pre.kind_value) pre.known (λ k l. c.loop-i.invariant k (omega (arith, c.loop-i-test.false)))
