@@ -1,10 +1,14 @@
 -- The answer and the buffer of a cut, by the way out that the call took.
 use Prim.Native.Nat.{ℕ, zero, suc, ◌<◌}
-use mathlib.Core.Path.{◌≡◌, refl, sym, ap₂, subst}
+use mathlib.Core.Path.{◌≡◌, refl, sym, ap, ap₂, subst, ◌∙◌}
 use mathlib.Core.Logic.{◌≢◌}
 use mathlib.Core.Bool.{true, false}
 use mathlib.Core.List.{List}
 use lib.ListN.{length}
+use Rattle.std.specs.Prelude.{Result, Err}
+use Rattle.refusals.specs.Numbers.{number}
+use Rattle.refusals.specs.declared.Refusal.{Refusal}
+use Rattle.refusals.proofs.Numbers.{number_above, number_some}
 use Rattle.net.specs.Cut.{growth, safety, branching}
 use Rattle.net.specs.Slice.{Slice, keeping, cut}
 use Rattle.file_words.specs.Word.{byte_at, Bytes}
@@ -23,39 +27,39 @@ use Rattle.promise.proofs.Demands.{writes_smallest}
 use Rattle.sets.specs.declared.KeptSets.{KeptSets}
 use Rattle.cut.specs.Kept.{growth_of, Kept}
 use Rattle.slice.specs.Kept.{cut_numbers, kept_slice, room_refusal, Answers, Within}
-use Rattle.slice.specs.declared.Cut.{Cut}
-use Rattle.slice.specs.declared.Cut.TheVariants.{Refused}
+use Rattle.slice.specs.declared.Written.{Written}
 
 -- what a refused cut answers and leaves
-refused : (n len : ℕ) (S : Slice) → n ≢ 0 → cut_numbers (Refused n) ≡ cut_answer n len S
-refused zero len S r = absurd (r refl)
-refused (suc n) len S r = refl
+refused : (w : Refusal) (len : ℕ) (S : Slice) → cut_numbers (Err w) ≡ cut_answer (number w) len S
+refused w len S =
+    let above = number_above w in
+    (λ i. record { refused = true; refusal = above.1 i; length = 0; places = 0; transitions = 0 }) ∙ ap (λ (n : ℕ). cut_answer n len S) (sym above.1)
 
 untouched : (n : ℕ) (file buffer : List ℕ) → n ≢ 0 → buffer ≡ written n file buffer
 untouched zero file buffer r = absurd (r refl)
 untouched (suc n) file buffer r = refl
 
 -- a cut that is refused before it writes
-module _ (plan Q : List ℕ) (n : ℕ) (e : cut_refusal plan Q ≡ n) (r : n ≢ 0) where
-  stops : (room : ℕ) (file : List ℕ) → write_refusal plan Q room file ≡ n
+module _ (plan Q : List ℕ) (w : Refusal) (e : cut_refusal plan Q ≡ number w) where
+  stops : (room : ℕ) (file : List ℕ) → write_refusal plan Q room file ≡ number w
   unfolding write_refusal
-  stops room file = rw e (or_else_stop n _ r)
+  stops room file = rw e (or_else_stop (number w) _ (number_some w))
 
-  pub safety-refused : (room : ℕ) → cut_numbers (Refused n) ≡ safety_answer plan Q room
+  pub safety-refused : (room : ℕ) → cut_numbers (Err w) ≡ safety_answer plan Q room
   unfolding safety_answer
-  safety-refused room = rw (stops room (safety_file plan Q)) (refused n _ _ r)
+  safety-refused room = rw (stops room (safety_file plan Q)) (refused w _ _)
 
   pub safety-untouched : (buffer : List ℕ) → buffer ≡ safety_buffer plan Q buffer
   unfolding safety_buffer
-  safety-untouched buffer = rw (stops (length buffer) (safety_file plan Q)) (untouched n _ buffer r)
+  safety-untouched buffer = rw (stops (length buffer) (safety_file plan Q)) (untouched (number w) _ buffer (number_some w))
 
-  pub branching-refused : (room : ℕ) → cut_numbers (Refused n) ≡ branching_answer plan Q room
+  pub branching-refused : (room : ℕ) → cut_numbers (Err w) ≡ branching_answer plan Q room
   unfolding branching_answer
-  branching-refused room = rw (stops room (branching_file plan Q)) (refused n _ _ r)
+  branching-refused room = rw (stops room (branching_file plan Q)) (refused w _ _)
 
   pub branching-untouched : (buffer : List ℕ) → buffer ≡ branching_buffer plan Q buffer
   unfolding branching_buffer
-  branching-untouched buffer = rw (stops (length buffer) (branching_file plan Q)) (untouched n _ buffer r)
+  branching-untouched buffer = rw (stops (length buffer) (branching_file plan Q)) (untouched (number w) _ buffer (number_some w))
 
 -- by the file, and by the criterion
 pub by_file : (plan Q : List ℕ) {n : ℕ} → file_refusal due.Plan plan ≡ n → n ≢ 0 → cut_refusal plan Q ≡ n
@@ -91,7 +95,7 @@ module _ (plan Q : List ℕ) (h : Header) (o : Opened due.Plan plan h) where
       branching-slice k = rw (← o.same) (ap₂ (keeping (net_from plan h)) k.places k.transitions)
 
       -- "a slice keeps its plan's edition"
-      module _ (entry exit : List ℕ) (r : Cut) (a : Answers h.edition (kept_slice plan h kept) entry exit r) where
+      module _ (entry exit : List ℕ) (r : Result Written Refusal) (a : Answers h.edition (kept_slice plan h kept) entry exit r) where
         abbrev edition : ℕ
         edition = (header_of plan).edition
 

@@ -5,6 +5,10 @@ use mathlib.Core.List.{List}
 use mathlib.Core.Logic.{◌≢◌}
 use mathlib.Core.Path.{◌≡◌, refl, sym, subst}
 use lib.ListN.{length}
+use Rattle.std.specs.Prelude.{Result, Err}
+use Rattle.refusals.specs.Numbers.{number}
+use Rattle.refusals.specs.declared.Refusal.{Refusal}
+use Rattle.refusals.proofs.Numbers.{number_some}
 use Rattle.net.specs.Net.{has_caps}
 use Rattle.file_words.specs.Word.{byte_at, Bytes}
 use Rattle.file_header.specs.Layout.{header_of}
@@ -21,7 +25,6 @@ use Rattle.promise.specs.RunCut.{RunAnswer, run_or, run_refusal, run_outcome, ru
 use Rattle.promise.proofs.RunCut.{runs_back_at}
 use Rattle.run_cut.specs.Told.{run_numbers, answer_to, Answers}
 use Rattle.run_cut.specs.declared.RunCut.{RunCut}
-use Rattle.run_cut.specs.declared.RunCut.TheVariants.{Refused}
 
 -- what the call says of its answer and of the two buffers
 abbrev Told : List ℕ → List ℕ → List ℕ → List ℕ → List ℕ → RunAnswer → List ℕ → List ℕ → Type 0
@@ -43,17 +46,17 @@ module _ (plan Q : List ℕ) (h : Header) (o : Opened due.Plan plan h) where
   by_criterion e q = rw (o.read, ← o.same, e) (sym q)
 
 -- one of them is refused
-module _ (plan Q list entry slots : List ℕ) (n : ℕ) (e : run_refusal plan Q ≡ n) (r : n ≢ 0) where
-  pub run-refused : Told plan Q list entry slots (run_numbers (Refused n)) entry slots
+module _ (plan Q list entry slots : List ℕ) (w : Refusal) (e : run_refusal plan Q ≡ number w) where
+  pub run-refused : Told plan Q list entry slots (run_numbers (Err w)) entry slots
   unfolding run_answer run_buffer run_positions
-  run-refused = rw e (by_number n r (run_or (list_refusal (net_of plan).transitions list) (run_outcome (header_of plan).edition (net_of plan) Q list (length entry) (length slots))) (run_file plan Q list) (run_chosen plan Q list))
+  run-refused = rw e (by_number (number w) refl (number_some w) (run_or (list_refusal (net_of plan).transitions list) (run_outcome (header_of plan).edition (net_of plan) Q list (length entry) (length slots))) (run_file plan Q list) (run_chosen plan Q list))
     where
-      by_number : (n : ℕ) → n ≢ 0 → (x : RunAnswer) (f c : List ℕ) → (run_numbers (Refused n) ≡ run_or n x) × (entry ≡ written (run_or n x).refusal f entry) × (slots ≡ written (run_or n x).refusal c slots)
-      by_number zero r x f c = absurd (r refl)
-      by_number (suc n) r x f c = (refl, refl, refl)
+      by_number : (n : ℕ) → number w ≡ n → n ≢ 0 → (x : RunAnswer) (f c : List ℕ) → (run_numbers (Err w) ≡ run_or n x) × (entry ≡ written (run_or n x).refusal f entry) × (slots ≡ written (run_or n x).refusal c slots)
+      by_number zero q r x f c = absurd (r refl)
+      by_number (suc n) q r x f c = (λ i. record { refused = true; refusal = q i; length = 0; places = 0; transitions = 0; count = 0; stuck = false; index = 0; place = 0; amount = 0 }, refl, refl)
 
 -- none is
-module _ (plan Q list : List ℕ) (h : Header) (o : Opened due.Plan plan h) (none : has_caps (net_from plan h) ≡ false) (q : criterion_refusal h.places Q ≡ 0) (entry exit slots positions : List ℕ) (r : RunCut)
+module _ (plan Q list : List ℕ) (h : Header) (o : Opened due.Plan plan h) (none : has_caps (net_from plan h) ≡ false) (q : criterion_refusal h.places Q ≡ 0) (entry exit slots positions : List ℕ) (r : Result RunCut Refusal)
     (a : Answers plan h Q list (answer_to plan h Q list (length entry) (length slots)) entry exit slots positions r) where
   same : run_answer plan Q list (length entry) (length slots) ≡ answer_to plan (header_of plan) Q list (length entry) (length slots)
   unfolding run_answer

@@ -1,6 +1,7 @@
 #![tactic(auto)]
 
 // The public calls that cut a plan. No call asks anything of its caller: bad input is refused with its number.
+// A file that cannot be read ends the call there: the form for that is `let .. else` on the reader's answer at the head of each call, a rule of the project. All else is handed on by `?`.
 pub mod cuts;
 pub mod recorded;
 pub mod starts;

@@ -8,32 +8,37 @@ ghost use Rattle.slice.specs.Kept.{cut_numbers};
 ghost use Rattle.call_cuts.specs.Kinds.{answer_by, buffer_by};
 
 use cut::Kind;
-use file::Reading;
 use file_header::Due;
-use slice::Cut;
+use refusals::Refusal;
+use slice::Written;
 
 // Either cut.
-fn cut_from(plan: &[u8], start: &[u64], criterion: &[u16], kind: Kind, buffer: &mut [u8]) -> Cut
+fn cut_from(
+    plan: &[u8],
+    start: &[u64],
+    criterion: &[u16],
+    kind: Kind,
+    buffer: &mut [u8],
+) -> Result<Written, Refusal>
     ensures result_value { cut_numbers result ≡ cut_unless (from_refusal Plan plan.now start.now) (answer_by kind (started plan.now start.now) criterion.now (length buffer.old)) }
     ensures buffer_after { buffer.new ≡ left_unless (from_refusal Plan plan.now start.now) (buffer_by kind (started plan.now start.now) criterion.now buffer.old) buffer.old }
 {
-    let whole = file::read(plan, Due::Plan);
-    let Reading::Whole(h) = whole else {
-        return Cut::Refused(file::number(whole));
+    let read = file::read(plan, Due::Plan);
+    let Ok(h) = read else {
+        return Err(read.unwrap_err());
     };
-    let broken = inputs_starts::refusal(plan, h, start);
-    if broken != 0 {
-        return Cut::Refused(broken);
-    }
-    let misplaced = inputs_criterion::refusal(criterion, h.places);
-    if misplaced != 0 {
-        return Cut::Refused(misplaced);
-    }
+    inputs_starts::check(plan, h, start)?;
+    inputs_criterion::check(criterion, h.places)?;
     starting::cuts::cut(plan, h, start, criterion, kind, buffer)
 }
 
 // The safety cut: writes the smallest slice that the check accepts for the plan and the criterion, both from the start.
-pub fn safety_from(plan: &[u8], start: &[u64], criterion: &[u16], buffer: &mut [u8]) -> Cut
+pub fn safety_from(
+    plan: &[u8],
+    start: &[u64],
+    criterion: &[u16],
+    buffer: &mut [u8],
+) -> Result<Written, Refusal>
     ensures answer { cut_numbers result ≡ safety_from_answer plan.now start.now criterion.now (length buffer.old) }
     ensures buffer { buffer.new ≡ safety_from_buffer plan.now start.now criterion.now buffer.old }
     ensures smallest { WritesSmallest (λ S. AcceptsFrom plan.now start.now S criterion.now) (cut_numbers result) buffer.new }
@@ -42,7 +47,12 @@ pub fn safety_from(plan: &[u8], start: &[u64], criterion: &[u16], buffer: &mut [
 }
 
 // The branching cut: writes a slice that is exact on all its places, the smallest of those that the check from the start accepts and that keep whatever changes a kept place.
-pub fn branching_from(plan: &[u8], start: &[u64], criterion: &[u16], buffer: &mut [u8]) -> Cut
+pub fn branching_from(
+    plan: &[u8],
+    start: &[u64],
+    criterion: &[u16],
+    buffer: &mut [u8],
+) -> Result<Written, Refusal>
     ensures answer { cut_numbers result ≡ branching_from_answer plan.now start.now criterion.now (length buffer.old) }
     ensures buffer { buffer.new ≡ branching_from_buffer plan.now start.now criterion.now buffer.old }
     ensures exact { WritesExact (λ S. AcceptsFrom plan.now start.now S criterion.now) (net_at plan.now start.now) (cut_numbers result) buffer.new }

@@ -1,22 +1,13 @@
 -- No two answers of `effect` have the same numbers.
-use mathlib.Core.Path.{◌≡◌, refl, sym, ap, ◌∙◌}
-use mathlib.Core.Bool.{Bool, true, false}
+use mathlib.Core.Path.{sym, ap}
+use Rattle.std.proofs.Common.{Ok, Err}
+use Rattle.refusals.proofs.Numbers.{number_apart}
 use Rattle.promise.specs.Firing.{EffectAnswer}
-use Rattle.call_firing.specs.Effect.{change_numbers, ToldApart}
-use Rattle.call_firing.specs.declared.effects.Change.{Change}
-use Rattle.call_firing.specs.declared.effects.Change.TheVariants.{By, Refused}
-
-abbrev by : Bool → EffectAnswer → Change
-by true a = Refused a.refusal
-by false a = By a.effect
-
--- the answer that has these numbers
-abbrev change_of : EffectAnswer → Change
-change_of a = by a.refused a
-
-recovered : (c : Change) → change_of (change_numbers c) ≡ c
-recovered (By n) = refl
-recovered (Refused n) = refl
+use Rattle.promise.proofs.Replays.{differ}
+use Rattle.call_firing.specs.Effect.{ToldApart}
 
 pub told-apart : ToldApart
-told-apart a b e = sym (recovered a) ∙ ap change_of e ∙ recovered b
+told-apart (Ok a) (Ok b) e = ap Ok (ap (λ (x : EffectAnswer). x.effect) e)
+told-apart (Ok a) (Err f) e = differ (ap (λ (x : EffectAnswer). x.refused) e)
+told-apart (Err d) (Ok b) e = differ (sym (ap (λ (x : EffectAnswer). x.refused) e))
+told-apart (Err d) (Err f) e = ap Err (number_apart d f (ap (λ (x : EffectAnswer). x.refusal) e))

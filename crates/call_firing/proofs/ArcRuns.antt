@@ -11,9 +11,8 @@ use Rattle.file.specs.Facts.{Opened}
 use Rattle.file.specs.Reading.{reading}
 use Rattle.file_header.specs.declared.Due.{Due}
 use Rattle.file_header.specs.declared.Due.TheVariants as due
-use Rattle.file.specs.declared.Reading.{Reading}
-use Rattle.file.specs.declared.Reading.TheVariants.{Refused}
-use Rattle.file.proofs.Opening.{turned_back_lem}
+use Rattle.std.proofs.Common.{Err}
+use Rattle.file.proofs.Opening.{turned_back_err}
 use Rattle.file_header.specs.declared.Header.{Header}
 use Rattle.promise.specs.Firing.{run_in, arc_run, arc_start}
 use Rattle.arcs_effect.specs.Runs.{run_of, start_of}
@@ -57,5 +56,5 @@ module _ (plan slice : List ℕ) (p s : Header) (o : Opened due.Plan plan p) (q 
   start_of_plan = rw (of_plan, ← o.same)
 
 -- a file that was not read is refused
-pub not-read : (kind : Due) (s : List ℕ) {r : Reading} {n : ℕ} → r ≡ reading kind s → r ≡ Refused n → file_refusal kind s ≢ 0
-not-read kind s e f z = let b = turned_back_lem kind s e f refl in b.1 (sym b.0 ∙ z)
+pub not-read : (kind : Due) (s : List ℕ) {n : ℕ} → Err n ≡ reading kind s → file_refusal kind s ≢ 0
+not-read kind s e z = let b = turned_back_err kind s e in b.1 (sym b.0 ∙ z)

@@ -9,24 +9,26 @@ use Rattle.promise.specs.Starts.{started_from, from_refusal, replay_unless, left
 use Rattle.inputs_starts.specs.Startable.{Startable}
 use Rattle.inputs_starts.proofs.Calls.{by_start, same_file}
 use Rattle.replay.specs.Told.{outcome_numbers}
-use Rattle.replay.specs.declared.Outcome.TheVariants.{Refused}
+use Rattle.std.proofs.Common.{Err}
+use Rattle.refusals.specs.Numbers.{number}
+use Rattle.refusals.specs.declared.Refusal.{Refusal}
+use Rattle.refusals.proofs.Numbers.{number_above, number_some}
 
-stops : (n : ℕ) (a : ReplayAnswer) → (n ≡ 0 → ⊥) → outcome_numbers (Refused n) ≡ replay_unless n a
-stops zero a z = absurd (z refl)
-stops (suc n) a z = refl
+stops : (e : Refusal) {n : ℕ} (a : ReplayAnswer) → n ≡ number e → outcome_numbers (Err e) ≡ replay_unless n a
+stops e a q = let z = number_above e in rw (q, z.1)
 
 stays : (n : ℕ) (exit m : List ℕ) → (n ≡ 0 → ⊥) → m ≡ left_unless n exit m
 stays zero exit m z = absurd (z refl)
 stays (suc n) exit m z = refl
 
-module _ (s start list : List ℕ) {n : ℕ} (e : from_refusal Either s start ≡ n) (z : n ≡ 0 → ⊥) where
-  pub from_answer : (room : ℕ) → outcome_numbers (Refused n) ≡ replay_from_answer s start list room
+module _ (s start list : List ℕ) (d : Refusal) (e : from_refusal Either s start ≡ number d) where
+  pub from_answer : (room : ℕ) → outcome_numbers (Err d) ≡ replay_from_answer s start list room
   unfolding replay_from_answer
-  from_answer room = rw e (stops n _ z)
+  from_answer room = stops d _ e
 
   pub from_marking : (m : List ℕ) → m ≡ replay_from_marking s start list m
   unfolding replay_from_marking
-  from_marking m = rw e (stays n _ m z)
+  from_marking m = rw e (stays (number d) _ m (number_some d))
 
 module _ (s : List ℕ) (h : Header) (start list : List ℕ) (r : Startable Either s h start) where
   none : from_refusal Either s start ≡ 0

@@ -20,36 +20,42 @@ use Rattle.promise.proofs.Shadow.{followed_in}
 use Rattle.inputs_lists.proofs.Passing.{kept-refused}
 use Rattle.shadow.specs.Told.{shadow_numbers, Follows}
 use Rattle.shadow.specs.declared.Shadow.{Shadow}
-use Rattle.shadow.specs.declared.Shadow.TheVariants.{Refused}
+use Rattle.std.proofs.Common.{Result, Err}
+use Rattle.refusals.specs.Numbers.{number}
+use Rattle.refusals.specs.declared.Refusal.{Refusal}
+use Rattle.refusals.proofs.Numbers.{number_above, number_some}
 
 pub slice_kind : {s : List ℕ} {h : Header} → Opened due.Slice s h → h.kind ≡ 1
 slice_kind {s} {h} o = eqb-true h.kind 1 (not-false (eqb h.kind 1) o.kind)
 
 -- the three equations of the call
-pub record Answered (plan slice list m m' out out' : List ℕ) (r : Shadow) : Type 0 where
+pub record Answered (plan slice list m m' out out' : List ℕ) (r : Result Shadow Refusal) : Type 0 where
   pub answer : shadow_numbers r ≡ shadow_answer plan slice list (length m) (length out)
   pub marking : m' ≡ shadow_marking plan slice list m out
   pub output : out' ≡ shadow_output plan slice list m out
 
 -- "A refusal returns its number with zeros elsewhere"
-told-refused : (n : ℕ) (a : Answer) (c : ℕ) → (n ≡ 0 → ⊥) → shadow_numbers (Refused n) ≡ shadow_or n a c
-told-refused zero a c z = absurd (z refl)
-told-refused (suc n) a c z = refl
+told-refused : (e : Refusal) {n : ℕ} (a : Answer) (c : ℕ) → n ≡ number e → shadow_numbers (Err e) ≡ shadow_or n a c
+told-refused e a c q = let z = number_above e in rw (q, z.1)
 
-module _ (plan slice list m out : List ℕ) {n : ℕ} where
-  refused : (n ≡ 0 → ⊥) → shadow_refusal plan slice list (length m) (length out) ≡ n → Answered plan slice list m m out out (Refused n)
+module _ (plan slice list m out : List ℕ) {d : Refusal} where
+  refused : shadow_refusal plan slice list (length m) (length out) ≡ number d → Answered plan slice list m m out out (Err d)
   unfolding shadow_answer shadow_marking shadow_output
-  refused z e = record { answer = rw e (told-refused n _ _ z); marking = rw e (kept-refused n _ m refl z); output = rw e (kept-refused n _ out refl z) }
+  refused e = record {
+    answer = told-refused d _ _ e;
+    marking = rw e (kept-refused (number d) _ m refl (number_some d));
+    output = rw e (kept-refused (number d) _ out refl (number_some d));
+  }
 
-  pub by_plan : (file_refusal due.Plan plan ≡ n) × (n ≡ 0 → ⊥) → Answered plan slice list m m out out (Refused n)
+  pub by_plan : file_refusal due.Plan plan ≡ number d → Answered plan slice list m m out out (Err d)
   unfolding shadow_refusal
-  by_plan e = refused e.1 (rw (e.0, or_else_stop n _ e.1))
+  by_plan e = refused (rw (e, or_else_stop (number d) _ (number_some d)))
 
-  pub by_slice : {p : Header} → Opened due.Plan plan p → (file_refusal due.Slice slice ≡ n) × (n ≡ 0 → ⊥) → Answered plan slice list m m out out (Refused n)
+  pub by_slice : {p : Header} → Opened due.Plan plan p → file_refusal due.Slice slice ≡ number d → Answered plan slice list m m out out (Err d)
   unfolding shadow_refusal
-  by_slice o e = refused e.1 (rw (o.read, e.0, or_else_stop n _ e.1))
+  by_slice o e = refused (rw (o.read, e, or_else_stop (number d) _ (number_some d)))
 
-pub both_read : (plan slice : List ℕ) (p s : Header) → Opened due.Plan plan p → Opened due.Slice slice s → {list m m' out out' : List ℕ} {r : Shadow}
+pub both_read : (plan slice : List ℕ) (p s : Header) → Opened due.Plan plan p → Opened due.Slice slice s → {list m m' out out' : List ℕ} {r : Result Shadow Refusal}
     → Follows (net_from plan p) (slice_from slice s) list m m' out out' r → Answered plan slice list m m' out out' r
 unfolding shadow_answer shadow_marking shadow_output shadow_refusal
 both_read plan slice p s o q f = record {
@@ -64,7 +70,7 @@ none_refused : (n : ℕ) (a : Answer) (c : ℕ) → (shadow_or n a c).run.refuse
 none_refused zero a c e = refl
 none_refused (suc n) a c e = differ (sym e)
 
-module _ (plan slice list m out : List ℕ) {m' out' : List ℕ} {r : Shadow} (bytes : Bytes plan) (a : Answered plan slice list m m' out out' r) where
+module _ (plan slice list m out : List ℕ) {m' out' : List ℕ} {r : Result Shadow Refusal} (bytes : Bytes plan) (a : Answered plan slice list m m' out out' r) where
   passes : (shadow_numbers r).run.refused ≡ false → shadow_refusal plan slice list (length m) (length out) ≡ 0
   unfolding shadow_answer
   passes e =

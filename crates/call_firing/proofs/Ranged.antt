@@ -4,7 +4,7 @@ use mathlib.Core.Path.{◌≡◌, refl}
 use mathlib.Core.List.{List}
 use lib.ListN.{length}
 use Rattle.net.specs.Net.{tokens}
-use Rattle.net.specs.Range.{need, extent}
+use Rattle.net.specs.Range.{Extent, need, extent}
 use Rattle.file.specs.Layout.{net_from}
 use Rattle.file.specs.Refusal.{file_refusal}
 use Rattle.file.specs.Facts.{Opened}
@@ -16,8 +16,10 @@ use Rattle.promise.specs.Together.{standing}
 use Rattle.promise.specs.Range.{RangeAnswer, range_or, range_refusal, range_answer, range_need, TellsRange}
 use Rattle.promise.proofs.Range.{tells_range}
 use Rattle.range.specs.Told.{range_numbers, held_back}
-use Rattle.range.specs.declared.Range.TheVariants.{Refused}
-use Rattle.range.proofs.Passing.{told-refused}
+use Rattle.std.proofs.Common.{Err}
+use Rattle.refusals.specs.Numbers.{number}
+use Rattle.refusals.specs.declared.Refusal.{Refusal}
+use Rattle.refusals.proofs.Numbers.{number_above, number_some}
 use Rattle.inputs_lists.proofs.Passing.{kept-refused}
 
 -- what the call promises of its answer and its list
@@ -25,20 +27,24 @@ abbrev pub Answers : List ℕ → List ℕ → List ℕ → List ℕ → RangeAn
 Answers plan list upper lent a exit =
     (a ≡ range_answer plan list upper (length lent)) × ((exit ≡ range_need plan list upper lent) × TellsRange plan list upper a exit)
 
+-- "A refusal returns its number with zeros elsewhere"
+told-refused : (e : Refusal) {m : ℕ} (x : Extent) → m ≡ number e → range_numbers (Err e) ≡ range_or m x
+told-refused e x q = let z = number_above e in rw (q, z.1)
+
 module _ (plan list upper lent : List ℕ) where
   meant : {a : RangeAnswer} {exit : List ℕ} → a ≡ range_answer plan list upper (length lent) → exit ≡ range_need plan list upper lent → Answers plan list upper lent a exit
   meant e f = (e, (f, tells_range plan list upper lent e f))
 
-  module _ (n : ℕ) (a : (file_refusal Plan plan ≡ n) × (n ≡ 0 → ⊥)) where
-    file_answer_lem : range_numbers (Refused n) ≡ range_answer plan list upper (length lent)
+  module _ (e : Refusal) (a : file_refusal Plan plan ≡ number e) where
+    file_answer_lem : range_numbers (Err e) ≡ range_answer plan list upper (length lent)
     unfolding range_answer range_refusal
-    file_answer_lem = rw (a.0, or_else_stop n _ a.1) (told-refused n _ refl a.1)
+    file_answer_lem = told-refused e _ (rw (a, or_else_stop (number e) _ (number_some e)))
 
     file_need : lent ≡ range_need plan list upper lent
     unfolding range_need range_refusal
-    file_need = rw (a.0, or_else_stop n _ a.1) (kept-refused n _ lent refl a.1)
+    file_need = rw (a, or_else_stop (number e) _ (number_some e)) (kept-refused (number e) _ lent refl (number_some e))
 
-    pub file_refused : Answers plan list upper lent (range_numbers (Refused n)) lent
+    pub file_refused : Answers plan list upper lent (range_numbers (Err e)) lent
     file_refused = meant file_answer_lem file_need
 
   module _ (h : Header) (o : Opened Plan plan h) where

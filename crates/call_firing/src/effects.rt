@@ -3,32 +3,25 @@ ghost use Rattle.std.specs.Prelude.{◌≡◌};
 ghost use Rattle.promise.specs.Firing.{effect_answer};
 ghost use Rattle.call_firing.specs.Effect.{change_numbers};
 
-use file::Reading;
 use file_header::Due;
+use refusals::Refusal;
 
-// By how much the tokens change, or the number of a refusal.
-#[derive(Clone, Copy)]
-pub enum Change {
-    By(i32),
-    Refused(u32),
-}
-
-// Refused: the file's number; 10 for an unknown place, then 12 for an unknown transition.
-pub fn effect(file: &[u8], place: u32, transition: u32) -> Change
+// By how much the tokens change. Refused: the file's number; 10 for an unknown place, then 12 for an unknown transition.
+pub fn effect(file: &[u8], place: u32, transition: u32) -> Result<i32, Refusal>
     ensures { change_numbers result ≡ effect_answer file.now place transition }
 {
-    let whole = file::read(file, Due::Either);
-    let Reading::Whole(h) = whole else {
-        return Change::Refused(file::number(whole));
+    let read = file::read(file, Due::Either);
+    let Ok(h) = read else {
+        return Err(read.unwrap_err());
     };
     let p = place as usize;
     let t = transition as usize;
     if h.places <= p {
-        return Change::Refused(10);
+        return Err(Refusal::Place);
     }
     if h.transitions <= t {
-        return Change::Refused(12);
+        return Err(Refusal::Transition);
     }
     let by = arcs_effect::effect(file, h, p, t);
-    Change::By(by)
+    Ok(by)
 }

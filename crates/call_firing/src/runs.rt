@@ -2,7 +2,6 @@
 ghost use Rattle.std.specs.Prelude.{◌≡◌, [], length};
 ghost use Rattle.promise.specs.Firing.{arc_run, arc_start};
 
-use file::Reading;
 use file_header::Due;
 
 // The empty part of the file named.
@@ -20,12 +19,10 @@ fn no_run<'a>(plan: &'a [u8], slice: &'a [u8], inslice: bool) -> &'a [u8]
 pub fn arcs<'a>(plan: &'a [u8], slice: &'a [u8], inslice: bool, transition: u32) -> &'a [u8]
     ensures { result.now ≡ arc_run plan.now slice.now inslice transition }
 {
-    let first = file::read(plan, Due::Plan);
-    let Reading::Whole(p) = first else {
+    let Ok(p) = file::read(plan, Due::Plan) else {
         return no_run(plan, slice, inslice);
     };
-    let second = file::read(slice, Due::Slice);
-    let Reading::Whole(s) = second else {
+    let Ok(s) = file::read(slice, Due::Slice) else {
         return no_run(plan, slice, inslice);
     };
     let t = transition as usize;
@@ -36,7 +33,7 @@ pub fn arcs<'a>(plan: &'a [u8], slice: &'a [u8], inslice: bool, transition: u32)
 }
 
 // Where that run stands in the file named, in bytes; 0 and 0 where it is empty.
-#[derive(Clone, Copy)]
+#[derive(Clone, Copy, Debug, PartialEq, Eq)]
 pub struct Part {
     pub start: u32,
     pub length: u32,
@@ -46,15 +43,13 @@ pub fn arc_part(plan: &[u8], slice: &[u8], inslice: bool, transition: u32) -> Pa
     ensures start { result.start ≡ arc_start plan.now slice.now inslice transition }
     ensures length { result.length ≡ length (arc_run plan.now slice.now inslice transition) }
 {
-    let first = file::read(plan, Due::Plan);
-    let Reading::Whole(p) = first else {
+    let Ok(p) = file::read(plan, Due::Plan) else {
         return Part {
             start: 0,
             length: 0,
         };
     };
-    let second = file::read(slice, Due::Slice);
-    let Reading::Whole(s) = second else {
+    let Ok(s) = file::read(slice, Due::Slice) else {
         return Part {
             start: 0,
             length: 0,

@@ -3,8 +3,8 @@ ghost use Rattle.std.specs.Prelude.{◌≡◌, false, length, take};
 ghost use Rattle.promise.specs.Shadow.{shadow_answer, shadow_marking, shadow_output, FollowedIn};
 ghost use Rattle.shadow.specs.Told.{shadow_numbers};
 
-use file::Reading;
 use file_header::Due;
+use refusals::Refusal;
 use shadow::Shadow;
 
 // Refused: the plan's number, then the slice's; 11 or 12 for the list; 13 where the marking has fewer entries than the plan has places,
@@ -15,19 +15,19 @@ pub fn shadow(
     list: &[u16],
     marking: &mut [u64],
     out: &mut [u16],
-) -> Shadow
+) -> Result<Shadow, Refusal>
     ensures answer { shadow_numbers result ≡ shadow_answer plan.now slice.now list.now (length marking.old) (length out.old) }
     ensures marking { marking.new ≡ shadow_marking plan.now slice.now list.now marking.old out.old }
     ensures output { out.new ≡ shadow_output plan.now slice.now list.now marking.old out.old }
     ensures followed { (shadow_numbers result).run.refused ≡ false → FollowedIn plan.now slice.now (take (shadow_numbers result).count out.new) marking.new }
 {
     let first = file::read(plan, Due::Plan);
-    let Reading::Whole(p) = first else {
-        return Shadow::Refused(file::number(first));
+    let Ok(p) = first else {
+        return Err(first.unwrap_err());
     };
     let second = file::read(slice, Due::Slice);
-    let Reading::Whole(s) = second else {
-        return Shadow::Refused(file::number(second));
+    let Ok(s) = second else {
+        return Err(second.unwrap_err());
     };
     shadow::shadow_of(plan, p, slice, s, list, marking, out)
 }

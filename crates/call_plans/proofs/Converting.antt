@@ -20,8 +20,9 @@ use Rattle.promise.specs.Normal.{file_answer}
 use Rattle.promise.specs.Pnml.{pnml_refusal, pnml_file, pnml_write_refusal, pnml_answer, pnml_buffer, WritesNamed}
 use Rattle.promise.proofs.Pnml.{writes_named}
 use Rattle.plan_put.specs.Told.{file_numbers, Answers, room_refusal}
-use Rattle.plan_put.specs.declared.File.{File}
-use Rattle.plan_put.specs.declared.File.TheVariants.{Refused}
+use Rattle.refusals.specs.declared.Refusal.{Refusal}
+use Rattle.refusals.specs.declared.Refusal.TheVariants.{Length, Profile}
+use Rattle.std.specs.Prelude.{Result, Err}
 use Rattle.plan_put.proofs.Laws.{refused}
 use Rattle.pnml_file.specs.Ready.{read_file}
 use Rattle.pnml_plan.specs.Chain.{after_profile}
@@ -44,7 +45,7 @@ none_off false false true x e = absurd (omega (arith, e))
 none_off false false false x e = refl
 
 -- where a call is refused, it does not matter what the file would be
-other_file : {file other entry exit : List ℕ} {r : File} (n : ℕ) → (n ≡ 0 → file ≡ other) → Answers n file entry exit r → Answers n other entry exit r
+other_file : {file other entry exit : List ℕ} {r : Result ℕ Refusal} (n : ℕ) → (n ≡ 0 → file ≡ other) → Answers n file entry exit r → Answers n other entry exit r
 other_file {file} {other} {entry} {exit} {r} zero e a = subst (λ (l : List ℕ). Answers 0 l entry exit r) (e refl) a
 other_file (suc n) e a = record { answer = a.answer; buffer = a.buffer }
 
@@ -61,25 +62,25 @@ module _ (s entry : List ℕ) where
   refusal_is = one_by_one (ltb 65536 (length s)) (not (of_profile s)) (twice_in d) (wrong_in d) (unfit d) _
 
   -- all three promises
-  abbrev pub Converts : File → List ℕ → Type 0
+  abbrev pub Converts : Result ℕ Refusal → List ℕ → Type 0
   Converts r exit = (file_numbers r ≡ pnml_answer s (length entry)) × ((exit ≡ pnml_buffer s entry) × WritesNamed s (file_numbers r) exit)
 
-  converts : {r : File} {exit : List ℕ} (n : ℕ) → n ≡ pnml_write_refusal s (length entry) → Answers n (pnml_file s) entry exit r → Converts r exit
+  converts : {r : Result ℕ Refusal} {exit : List ℕ} (n : ℕ) → n ≡ pnml_write_refusal s (length entry) → Answers n (pnml_file s) entry exit r → Converts r exit
   unfolding pnml_answer pnml_buffer
   converts n e a =
       let x = a.answer ∙ ap (λ (k : ℕ). file_answer k (length (pnml_file s))) e in
       let y = a.buffer ∙ ap (λ (k : ℕ). written k (pnml_file s) entry) e in
       (x, (y, writes_named s entry x y))
 
-  pub too_long : ltb 65536 (length s) ≡ true → Converts (Refused 1) entry
-  too_long e = converts _ (sym (rw e) ∙ refusal_is) (refused (pnml_file s) entry 1 (λ z. omega arith))
+  pub too_long : ltb 65536 (length s) ≡ true → Converts (Err Length) entry
+  too_long e = converts _ (sym (rw e) ∙ refusal_is) (refused (pnml_file s) entry Length refl)
 
   module _ (e : ltb 65536 (length s) ≡ false) where
     short : length s ≤ 65536
     short = ltb-false 65536 (length s) e
 
-    pub outside : read_whole s ≡ false → Converts (Refused 18) entry
-    outside f = let g = sym (profile_same s short) ∙ f in converts _ (sym (rw (e, g)) ∙ refusal_is) (refused (pnml_file s) entry 18 (λ z. omega arith))
+    pub outside : read_whole s ≡ false → Converts (Err Profile) entry
+    outside f = let g = sym (profile_same s short) ∙ f in converts _ (sym (rw (e, g)) ∙ refusal_is) (refused (pnml_file s) entry Profile refl)
 
     module _ (f : read_whole s ≡ true) where
       of : of_profile s ≡ true
@@ -98,7 +99,7 @@ module _ (s entry : List ℕ) where
           twenty : refuse (unfit d) 20 (room_refusal (length entry) (read_file s)) ≡ refuse (unfit d) 20 (room_refusal (length entry) (pnml_file s))
           twenty = by_cases (unfit d) (λ t. rw t) (λ g. rw g (ap (room_refusal (length entry)) (file_same g)))
 
-      pub of_profile_lem : {r : File} {exit : List ℕ} → Answers (after_profile s (length entry)) (read_file s) entry exit r → Converts r exit
+      pub of_profile_lem : {r : Result ℕ Refusal} {exit : List ℕ} → Answers (after_profile s (length entry)) (read_file s) entry exit r → Converts r exit
       of_profile_lem a =
           converts _ (later_same ∙ sym (rw (e, of)) ∙ refusal_is)
           (other_file _ (λ z. file_same (none_off (twice_in d) (wrong_in d) (unfit d) _ (sym later_same ∙ z))) a)

@@ -3,3 +3,4 @@ pub mod Listed
 pub mod Roomy
 pub mod Running
 pub mod Taken
+pub mod Unplayed

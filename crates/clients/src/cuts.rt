@@ -2,73 +2,31 @@
 ghost use Rattle.std.specs.Prelude.{◌≡◌, true, ◌||◌, ◌↔◌, length, ltb};
 ghost use Rattle.file.specs.Layout.{slice_of};
 ghost use Rattle.promise.specs.Calls.{safety_answer, branching_answer, Accepts};
-ghost use Rattle.slice.specs.Kept.{cut_numbers};
+ghost use Rattle.checker.specs.Answer.{numbers_of};
 
-use slice::Cut;
+use checker::Verdict;
+use refusals::Refusal;
 
-// The values of a cut's answer.
-pub fn refusal_of(c: Cut) -> u32
-    ensures { result ≡ (cut_numbers c).refusal }
+// The safety cut, then the check of what it wrote: a refusal of the cut, else what the check answers, which is that it accepts.
+pub fn safety_checked(plan: &[u8], criterion: &[u16], buffer: &mut [u8]) -> Result<Verdict, Refusal>
+    ensures { (numbers_of result).code ≡ (safety_answer plan.now criterion.now (length buffer.old)).refusal }
 {
-    match c {
-        Cut::Written(_, _, _) => 0,
-        Cut::Refused(n) => n,
-    }
-}
-
-pub fn length_of(c: Cut) -> u32
-    ensures { result ≡ (cut_numbers c).length }
-{
-    match c {
-        Cut::Written(n, _, _) => n,
-        Cut::Refused(_) => 0,
-    }
-}
-
-pub fn places_of(c: Cut) -> u32
-    ensures { result ≡ (cut_numbers c).places }
-{
-    match c {
-        Cut::Written(_, n, _) => n,
-        Cut::Refused(_) => 0,
-    }
-}
-
-pub fn transitions_of(c: Cut) -> u32
-    ensures { result ≡ (cut_numbers c).transitions }
-{
-    match c {
-        Cut::Written(_, _, n) => n,
-        Cut::Refused(_) => 0,
-    }
-}
-
-// The safety cut, then the check of what it wrote: the number of a refusal of the cut, else what the check answers, which is 0.
-pub fn safety_checked(plan: &[u8], criterion: &[u16], buffer: &mut [u8]) -> u32
-    ensures { result ≡ (safety_answer plan.now criterion.now (length buffer.old)).refusal }
-{
-    let c = call_cuts::cuts::safety(plan, criterion, buffer);
-    let refusal = refusal_of(c);
-    if refusal != 0 {
-        return refusal;
-    }
-    let end = length_of(c) as usize;
-    let v = call_check::verdicts::check(plan, &buffer[..end], criterion);
-    checker::code(v)
+    let c = call_cuts::cuts::safety(plan, criterion, buffer)?;
+    let end = c.length as usize;
+    call_check::verdicts::check(plan, &buffer[..end], criterion)
 }
 
 // The same with the branching cut.
-pub fn branching_checked(plan: &[u8], criterion: &[u16], buffer: &mut [u8]) -> u32
-    ensures { result ≡ (branching_answer plan.now criterion.now (length buffer.old)).refusal }
+pub fn branching_checked(
+    plan: &[u8],
+    criterion: &[u16],
+    buffer: &mut [u8],
+) -> Result<Verdict, Refusal>
+    ensures { (numbers_of result).code ≡ (branching_answer plan.now criterion.now (length buffer.old)).refusal }
 {
-    let c = call_cuts::cuts::branching(plan, criterion, buffer);
-    let refusal = refusal_of(c);
-    if refusal != 0 {
-        return refusal;
-    }
-    let end = length_of(c) as usize;
-    let v = call_check::verdicts::check(plan, &buffer[..end], criterion);
-    checker::code(v)
+    let c = call_cuts::cuts::branching(plan, criterion, buffer)?;
+    let end = c.length as usize;
+    call_check::verdicts::check(plan, &buffer[..end], criterion)
 }
 
 // Whether the check accepts a slice that has so many places and transitions. It is not asked where the safety cut has more.
@@ -82,12 +40,14 @@ pub fn accepted(
 ) -> bool
     ensures { places ≡ (slice_of slice.now).net.places → transitions ≡ (slice_of slice.now).net.transitions → (result ≡ true) ↔ Accepts plan.now slice.now criterion.now }
 {
-    let c = call_cuts::cuts::safety(plan, criterion, buffer);
-    if places < places_of(c) {
-        return false;
-    }
-    if transitions < transitions_of(c) {
-        return false;
+    let cut = call_cuts::cuts::safety(plan, criterion, buffer);
+    if let Ok(c) = cut {
+        if places < c.places {
+            return false;
+        }
+        if transitions < c.transitions {
+            return false;
+        }
     }
     let v = call_check::verdicts::check(plan, slice, criterion);
     checker::code(v) == 0

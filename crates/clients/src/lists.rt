@@ -8,18 +8,39 @@ ghost use Rattle.promise.specs.Firing.{replay_refusal, replay_told, replay_answe
 ghost use Rattle.promise.specs.Together.{standing};
 ghost use Rattle.replay.specs.Told.{outcome_numbers};
 ghost use Rattle.clients.specs.Ended.{all_fired, Led, EndedWith};
+ghost use Rattle.clients.specs.Played.{played};
+ghost use Rattle.clients.specs.declared.lists.Unplayed.TheVariants.{Refused};
 
+use checker::Verdict;
+use refusals::Refusal;
 use replay::Outcome;
 
+// Why a list is not replayed on a slice: a call is refused, or the slice breaks a rule.
+#[derive(Clone, Copy)]
+pub enum Unplayed {
+    Refused(Refusal),
+    Broken(Verdict),
+}
+
+impl From<Refusal> for Unplayed {
+    ghost from_gives = { λ e r. r ≡ Refused e };
+
+    fn from(e: Refusal) -> Unplayed
+        ensures { result ≡ Refused e }
+    {
+        Unplayed::Refused(e)
+    }
+}
+
 // Whether all fired.
-pub fn all_fired(o: Outcome) -> bool
+pub fn all_fired(o: Result<Outcome, Refusal>) -> bool
     ensures { result ≡ all_fired (outcome_numbers o) }
 {
     match o {
-        Outcome::Fired => true,
-        Outcome::Short(_, _, _) => false,
-        Outcome::Full(_, _, _) => false,
-        Outcome::Refused(_) => false,
+        Ok(Outcome::Fired) => true,
+        Ok(Outcome::Short(_, _, _)) => false,
+        Ok(Outcome::Full(_, _, _)) => false,
+        Err(_) => false,
     }
 }
 
@@ -40,17 +61,17 @@ pub fn on_slice(
     projected: &[u16],
     marking: &mut [u64],
     again: &mut [u64],
-) -> Outcome
-    ensures { Accepts plan.now slice.now criterion.now → replay_answer plan.now list.now (length marking.old) ≡ replay_told fired → projected.now ≡ project (slice_of slice.now) list.now → (net_of slice.now).places ≤ length again.old → EndedWith slice.now criterion.now (outcome_numbers result) again.new (standing marking.new) }
+) -> Result<Outcome, Unplayed>
+    ensures { Accepts plan.now slice.now criterion.now → replay_answer plan.now list.now (length marking.old) ≡ replay_told fired → projected.now ≡ project (slice_of slice.now) list.now → (net_of slice.now).places ≤ length again.old → EndedWith slice.now criterion.now (played result) again.new (standing marking.new) }
 {
-    let v = call_check::verdicts::check(plan, slice, criterion);
-    let code = checker::code(v);
-    if code != 0 {
-        return Outcome::Refused(code);
-    }
-    let o = call_firing::replays::replay(plan, list, marking);
-    if !all_fired(o) {
-        return o;
-    }
-    call_firing::replays::replay(slice, projected, again)
+    let v = call_check::verdicts::check(plan, slice, criterion)?;
+    let checker::Outcome::Accepted = v.outcome else {
+        return Err(Unplayed::Broken(v));
+    };
+    let o = call_firing::replays::replay(plan, list, marking)?;
+    let Outcome::Fired = o else {
+        return Ok(o);
+    };
+    let again = call_firing::replays::replay(slice, projected, again)?;
+    Ok(again)
 }

@@ -10,17 +10,18 @@ ghost use Rattle.replay.specs.Told.{outcome_numbers};
 ghost use Rattle.run_cut.specs.Told.{run_numbers};
 ghost use Rattle.clients.specs.Ended.{EndedAbove};
 
+use refusals::Refusal;
 use replay::Outcome;
 use run_cut::RunCut;
 
 // The length of the file that the run cut wrote, 0 where it is refused.
-pub fn length_of(c: RunCut) -> u32
+pub fn length_of(c: Result<RunCut, Refusal>) -> u32
     ensures { result ≡ (run_numbers c).length }
 {
     match c {
-        RunCut::Written(n, _, _, _) => n,
-        RunCut::Sticks(_, _, _) => 0,
-        RunCut::Refused(_) => 0,
+        Ok(RunCut::Written(n, _, _, _)) => n,
+        Ok(RunCut::Sticks(_, _, _)) => 0,
+        Err(_) => 0,
     }
 }
 
@@ -33,7 +34,7 @@ pub fn chosen_on_slice(
     buffer: &mut [u8],
     positions: &mut [u16],
     again: &mut [u64],
-) -> Outcome
+) -> Result<Outcome, Refusal>
     ensures { (run_answer plan.now criterion.now list.now (length buffer.old) (length positions.old)).refusal ≡ 0 → chosen.now ≡ own (slice_of (take (run_answer plan.now criterion.now list.now (length buffer.old) (length positions.old)).length buffer.new)).transition_origins (fired_at list.now (take (run_answer plan.now criterion.now list.now (length buffer.old) (length positions.old)).count positions.new)) → (net_of (take (run_answer plan.now criterion.now list.now (length buffer.old) (length positions.old)).length buffer.new)).places ≤ length again.old → EndedAbove (take (run_answer plan.now criterion.now list.now (length buffer.old) (length positions.old)).length buffer.new) criterion.now (outcome_numbers result) again.new (plan_tokens (net_of plan.now) list.now) }
 {
     let c = call_cuts::recorded::run_cut(plan, criterion, list, buffer, positions);
@@ -49,9 +50,9 @@ pub fn stuck_alike(
     buffer: &mut [u8],
     positions: &mut [u16],
     marking: &mut [u64],
-) -> Outcome
+) -> Result<Outcome, Refusal>
     ensures { (run_answer plan.now criterion.now list.now (length buffer.old) (length positions.old)).refusal ≡ 14 → replay_refusal plan.now list.now (length marking.old) ≡ 0 → outcome_numbers result ≡ record { refused = false; refusal = 0; stuck = true; full = false; index = (run_answer plan.now criterion.now list.now (length buffer.old) (length positions.old)).index; place = (run_answer plan.now criterion.now list.now (length buffer.old) (length positions.old)).place; amount = (run_answer plan.now criterion.now list.now (length buffer.old) (length positions.old)).amount } }
 {
-    call_cuts::recorded::run_cut(plan, criterion, list, buffer, positions);
+    let _cut = call_cuts::recorded::run_cut(plan, criterion, list, buffer, positions);
     call_firing::replays::replay(plan, list, marking)
 }

@@ -8,18 +8,19 @@ ghost use Rattle.replay.specs.Told.{outcome_numbers};
 ghost use Rattle.shadow.specs.Told.{shadow_numbers};
 ghost use Rattle.clients.specs.Ended.{EndedWith};
 
+use refusals::Refusal;
 use replay::Outcome;
 use shadow::Shadow;
 
 // How many entries of the output list are written.
-pub fn count_of(s: Shadow) -> u32
+pub fn count_of(s: Result<Shadow, Refusal>) -> u32
     ensures { result ≡ (shadow_numbers s).count }
 {
     match s {
-        Shadow::Fired(n) => n,
-        Shadow::Short(_, _, _, n) => n,
-        Shadow::Full(_, _, _, n) => n,
-        Shadow::Refused(_) => 0,
+        Ok(Shadow::Fired(n)) => n,
+        Ok(Shadow::Short(_, _, _, n)) => n,
+        Ok(Shadow::Full(_, _, _, n)) => n,
+        Err(_) => 0,
     }
 }
 
@@ -31,7 +32,7 @@ pub fn shadow_on_slice(
     marking: &mut [u64],
     out: &mut [u16],
     again: &mut [u64],
-) -> Outcome
+) -> Result<Outcome, Refusal>
     ensures { (Q : List ℕ) → Accepts plan.now slice.now Q → (shadow_answer plan.now slice.now list.now (length marking.old) (length out.old)).run.refused ≡ false → (net_of slice.now).places ≤ length again.old → EndedWith slice.now Q (outcome_numbers result) again.new (standing marking.new) }
 {
     let s = call_firing::shadows::shadow(plan, slice, list, marking, out);

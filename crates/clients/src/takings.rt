@@ -5,19 +5,20 @@ ghost use Rattle.promise.specs.Together.{together_answer};
 ghost use Rattle.together.specs.Told.{together_numbers};
 ghost use Rattle.clients.specs.Ended.{is_limited, Emptied};
 
+use refusals::Refusal;
 use together::Together;
 
 // The transition number of `together`.
 pub type Number = u32;
 
 // Whether there is a largest number of takings.
-pub fn is_limited(a: Together) -> bool
+pub fn is_limited(a: Result<Together, Refusal>) -> bool
     ensures { result ≡ is_limited (together_numbers a) }
 {
     match a {
-        Together::Times(_) => true,
-        Together::Unlimited => false,
-        Together::Refused(_) => false,
+        Ok(Together::Times(_)) => true,
+        Ok(Together::Unlimited) => false,
+        Err(_) => false,
     }
 }
 
@@ -28,7 +29,7 @@ pub fn take_twice(
     marking: &[u64],
     rest: &mut [u64],
     again: &mut [u64],
-) -> Together
+) -> Result<Together, Refusal>
     ensures left { (together_answer plan.now transition marking.now (length rest.old)).refused ≡ false → (together_answer plan.now transition marking.now (length rest.old)).unlimited ≡ false → Emptied plan.now transition marking.now (together_answer plan.now transition marking.now (length rest.old)).times rest.new }
     ensures none { (together_answer plan.now transition marking.now (length rest.old)).refused ≡ false → (together_answer plan.now transition marking.now (length rest.old)).unlimited ≡ false → (net_of plan.now).places ≤ length again.old → together_numbers result ≡ record { refused = false; refusal = 0; unlimited = false; times = 0 } }
 {

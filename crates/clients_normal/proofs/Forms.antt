@@ -1,44 +1,19 @@
 -- What the contract of `normal` says of one call, and of two.
-use Prim.Native.Nat.{ℕ, zero, suc, ◌<◌, ◌≤◌}
-use mathlib.Core.Bool.{true, false}
-use mathlib.Core.List.{List, [], ◌∷◌, ◌++◌}
+use Prim.Native.Nat.{ℕ, zero, suc, ◌≤◌}
+use mathlib.Core.Bool.{false}
+use mathlib.Core.List.{List}
 use mathlib.Core.Logic.{◌↔◌, ◌≢◌}
 use mathlib.Core.Path.{◌≡◌, refl, sym, ap, subst⁻¹, ◌∙◌}
 use native.Mathlib.Omega.{arith}
-use lib.ListN.{length, get_or, take, length-take}
-use lib.Seq.{take-suc}
+use lib.ListN.{length, take, length-take}
 use Rattle.net.specs.Normal.{SameNet}
 use Rattle.net.proofs.Normal.{same_back}
 use Rattle.file.specs.Layout.{net_of}
 use Rattle.file_words.specs.Refusal.{or_else}
 use Rattle.file_words.specs.Word.{Bytes}
 use Rattle.file_words.proofs.Laws.{or_else_stop}
-use Rattle.clients_normal.specs.Same.{StartsAlike}
 use Rattle.promise.specs.Firing.{replay_answer, replay_marking}
 use Rattle.promise.specs.Normal.{FileAnswer, file_answer, normal_write_refusal, normal_file, normal_answer, normal_buffer, WritesNormal}
-
--- ---- lists that start alike
-
-pub differ : {A : Type 0} → false ≡ true → A
-differ e = let z : ◌≡◌ {A = ℕ} 0 1 = cc in absurd (omega arith)
-
-get_d_take : (l : List ℕ) (n i : ℕ) → i < n → get_or (take n l) i 0 ≡ get_or l i 0
-get_d_take [] (suc n) i h = refl
-get_d_take [] zero i h = refl
-get_d_take (x ∷ l) zero i h = absurd (omega (arith, h))
-get_d_take (x ∷ l) (suc n) zero h = refl
-get_d_take (x ∷ l) (suc n) (suc i) h = get_d_take l n i (omega (arith, h))
-
-module _ (a b : List ℕ) (i : ℕ) (l : i < length a) (m : i < length b) where
-  pub starts_more : take i a ≡ take i b → get_or a i 0 ≡ get_or b i 0 → take (suc i) a ≡ take (suc i) b
-  starts_more e f = take-suc a i 0 l ∙ (λ k. e k ++ (f k ∷ [])) ∙ sym (take-suc b i 0 m)
-
-  -- a byte that differs
-  pub unlike : (n : ℕ) → i < n → (get_or a i 0 ≡ get_or b i 0 → ⊥) → StartsAlike n a b false
-  unlike n h d = (λ e. differ e, λ e. absurd (d (sym (get_d_take a n i h) ∙ ap (λ (x : List ℕ). get_or x i 0) e ∙ get_d_take b n i h)))
-
-pub alike : (n : ℕ) (a b : List ℕ) → take n a ≡ take n b → StartsAlike n a b true
-alike n a b e = (λ x. e, λ x. refl)
 
 -- ---- a call that wrote
 

@@ -8,6 +8,12 @@ use native.Mathlib.Omega.{arith}
 use lib.ListN.{length, drop, length-append}
 use lib.Dec.{eqb}
 use borrow.Author.Tests.{eqb-true, eq-eqb, not-false}
+use Rattle.std.specs.Prelude.{Result, Ok, Err}
+use Rattle.std.specs.Result.{is_err}
+use Rattle.refusals.specs.declared.Refusal.{Refusal}
+use Rattle.range.specs.Told.{range_numbers}
+use Rattle.range.specs.declared.Range.{Range}
+use Rattle.range.specs.declared.Range.TheVariants.{Every, Partly, Never}
 use Rattle.net.specs.Net.{Answer, replay, Net, Fires, has_caps, tokens}
 use Rattle.net.specs.Range.{need, Covers, covers, Between, Extent, extent}
 use Rattle.net.specs.Guarantee.{PlanFires}
@@ -27,6 +33,12 @@ use Rattle.promise.proofs.Range.{more_is_enough, same_range}
 use Rattle.clients_range.specs.Cases.{case_by, case_of, agreeing}
 
 -- ---- what is known where `range` is not refused
+
+pub goes_on : (r : Result Range Refusal) → is_err r ≡ false → (range_numbers r).refused ≡ false
+goes_on (Ok Every) e = refl
+goes_on (Ok Partly) e = refl
+goes_on (Ok Never) e = refl
+goes_on (Err f) e = differ (sym e)
 
 passed : (n : ℕ) (x : Extent) → (range_or n x).refused ≡ false → n ≡ 0
 passed zero x e = refl

@@ -1,4 +1,5 @@
 -- What a cut from a start wrote, and the check from the same start.
+use Rattle.std.specs.Prelude.{Result, Ok, Err}
 use Prim.Native.Nat.{ℕ, zero, suc, ◌≤◌}
 use mathlib.Core.Bool.{true, false}
 use mathlib.Core.List.{List}
@@ -19,8 +20,8 @@ use Rattle.promise.specs.Exactness.{WritesExact}
 use Rattle.promise.specs.Starts.{net_at, started, from_refusal, cut_unless, left_unless, safety_from_answer, safety_from_buffer, branching_from_answer, branching_from_buffer, checked_from, AcceptsFrom}
 use Rattle.promise.proofs.Replays.{differ}
 use Rattle.slice.specs.Kept.{cut_numbers}
-use Rattle.slice.specs.declared.Cut.{Cut}
-use Rattle.slice.specs.declared.Cut.TheVariants.{Written, Refused}
+use Rattle.slice.specs.declared.Written.{Written}
+use Rattle.refusals.specs.declared.Refusal.{Refusal}
 use Rattle.clients_starts.specs.Compared.{NoSmaller}
 
 -- a file that was written is no longer than its buffer
@@ -68,12 +69,12 @@ module _ (plan start Q : List ℕ) (room : ℕ) where
   branching-none = let s = started plan start in unless_none (from_refusal due.Plan plan start) _ (answer-none (write_refusal s Q room (branching_file s Q)) (length (branching_file s Q)) (cut_of branching s Q))
 
   -- at the calls: r is what the cut answered
-  module _ {r : Cut} where
-    pub safety-refused : {A : Type 0} {k : ℕ} → cut_numbers r ≡ safety_from_answer plan start Q room → r ≡ Refused k → (safety_from_answer plan start Q room).refusal ≡ 0 → A
-    safety-refused e f z = differ (sym (safety-none z) ∙ ap (λ (a : CutAnswer). a.refused) (sym e) ∙ ap (λ (c : Cut). (cut_numbers c).refused) f)
+  module _ {r : Result Written Refusal} where
+    pub safety-refused : {A : Type 0} {k : Refusal} → cut_numbers r ≡ safety_from_answer plan start Q room → r ≡ Err k → (safety_from_answer plan start Q room).refusal ≡ 0 → A
+    safety-refused e f z = differ (sym (safety-none z) ∙ ap (λ (a : CutAnswer). a.refused) (sym e) ∙ ap (λ (c : Result Written Refusal). (cut_numbers c).refused) f)
 
-    pub branching-refused : {A : Type 0} {k : ℕ} → cut_numbers r ≡ branching_from_answer plan start Q room → r ≡ Refused k → (branching_from_answer plan start Q room).refusal ≡ 0 → A
-    branching-refused e f z = differ (sym (branching-none z) ∙ ap (λ (a : CutAnswer). a.refused) (sym e) ∙ ap (λ (c : Cut). (cut_numbers c).refused) f)
+    pub branching-refused : {A : Type 0} {k : Refusal} → cut_numbers r ≡ branching_from_answer plan start Q room → r ≡ Err k → (branching_from_answer plan start Q room).refusal ≡ 0 → A
+    branching-refused e f z = differ (sym (branching-none z) ∙ ap (λ (a : CutAnswer). a.refused) (sym e) ∙ ap (λ (c : Result Written Refusal). (cut_numbers c).refused) f)
 
 -- a buffer keeps its length
 written-long : (n : ℕ) (file entry : List ℕ) → (n ≡ 0 → length file ≤ length entry) → length (written n file entry) ≡ length entry
@@ -98,32 +99,32 @@ module _ (plan start Q entry : List ℕ) where
       left-long (from_refusal due.Plan plan start) _ entry (written-long (write_refusal s Q (length entry) (branching_file s Q)) (branching_file s Q) entry (room_for s Q (branching_file s Q) (length entry)))
 
   -- at the calls: what was written is a part of the buffer
-  module _ {r : Cut} {exit : List ℕ} {n p t : ℕ} where
-    pub safety-room : cut_numbers r ≡ safety_from_answer plan start Q (length entry) → exit ≡ safety_from_buffer plan start Q entry → r ≡ Written n p t → n ≤ length exit
+  module _ {r : Result Written Refusal} {exit : List ℕ} {w : Written} where
+    pub safety-room : cut_numbers r ≡ safety_from_answer plan start Q (length entry) → exit ≡ safety_from_buffer plan start Q entry → r ≡ Ok w → w.length ≤ length exit
     safety-room e g f =
-        let z = ap (λ (c : Cut). (cut_numbers c).length) (sym f) ∙ ap (λ (a : CutAnswer). a.length) e in
+        let z = ap (λ (c : Result Written Refusal). (cut_numbers c).length) (sym f) ∙ ap (λ (a : CutAnswer). a.length) e in
         let l = ap (λ (x : List ℕ). length x) g ∙ safety-long in
         omega (arith, z, l, safety-fits plan start Q (length entry))
 
-    pub branching_room : cut_numbers r ≡ branching_from_answer plan start Q (length entry) → exit ≡ branching_from_buffer plan start Q entry → r ≡ Written n p t → n ≤ length exit
+    pub branching_room : cut_numbers r ≡ branching_from_answer plan start Q (length entry) → exit ≡ branching_from_buffer plan start Q entry → r ≡ Ok w → w.length ≤ length exit
     branching_room e g f =
-        let z = ap (λ (c : Cut). (cut_numbers c).length) (sym f) ∙ ap (λ (a : CutAnswer). a.length) e in
+        let z = ap (λ (c : Result Written Refusal). (cut_numbers c).length) (sym f) ∙ ap (λ (a : CutAnswer). a.length) e in
         let l = ap (λ (x : List ℕ). length x) g ∙ branching-long in
         omega (arith, z, l, branching-fits plan start Q (length entry))
 
 -- c is what the check answered, k its code
-no_refusal : {r : Cut} {n p t : ℕ} → r ≡ Written n p t → (cut_numbers r).refusal ≡ 0
-no_refusal f = ap (λ (x : Cut). (cut_numbers x).refusal) f
+no_refusal : {r : Result Written Refusal} {w : Written} → r ≡ Ok w → (cut_numbers r).refusal ≡ 0
+no_refusal f = ap (λ (x : Result Written Refusal). (cut_numbers x).refusal) f
 
-as_long : {r : Cut} {n p t : ℕ} → r ≡ Written n p t → (cut_numbers r).length ≡ n
-as_long f = ap (λ (x : Cut). (cut_numbers x).length) f
+as_long : {r : Result Written Refusal} {w : Written} → r ≡ Ok w → (cut_numbers r).length ≡ w.length
+as_long f = ap (λ (x : Result Written Refusal). (cut_numbers x).length) f
 
-module _ (plan start Q : List ℕ) {r : Cut} {exit : List ℕ} {c : Checked} {k n p t : ℕ} (told : r ≡ Written n p t) (code : k ≡ c.code) where
-  pub safety-accepted : WritesSmallest (λ S. AcceptsFrom plan start S Q) (cut_numbers r) exit → c ≡ checked_from plan (take n exit) start Q → eqb k 0 ≡ true
+module _ (plan start Q : List ℕ) {r : Result Written Refusal} {exit : List ℕ} {c : Checked} {k : ℕ} {f : Written} (told : r ≡ Ok f) (code : k ≡ c.code) where
+  pub safety-accepted : WritesSmallest (λ S. AcceptsFrom plan start S Q) (cut_numbers r) exit → c ≡ checked_from plan (take f.length exit) start Q → eqb k 0 ≡ true
   safety-accepted w e =
       eq-eqb k 0 (code ∙ ap (λ (x : Checked). x.code) e ∙ ap (λ (l : ℕ). (checked_from plan (take l exit) start Q).code) (sym (as_long told)) ∙ w.accepted (no_refusal told))
 
-  pub branching-accepted : WritesExact (λ S. AcceptsFrom plan start S Q) (net_at plan start) (cut_numbers r) exit → c ≡ checked_from plan (take n exit) start Q → eqb k 0 ≡ true
+  pub branching-accepted : WritesExact (λ S. AcceptsFrom plan start S Q) (net_at plan start) (cut_numbers r) exit → c ≡ checked_from plan (take f.length exit) start Q → eqb k 0 ≡ true
   branching-accepted w e =
       eq-eqb k 0 (code ∙ ap (λ (x : Checked). x.code) e ∙ ap (λ (l : ℕ). (checked_from plan (take l exit) start Q).code) (sym (as_long told)) ∙ (w.exact (no_refusal told)).accepted)
 

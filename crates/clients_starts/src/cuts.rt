@@ -3,17 +3,15 @@ ghost use Rattle.std.specs.Prelude.{◌≡◌, true, length};
 ghost use Rattle.promise.specs.Starts.{safety_from_answer, branching_from_answer};
 ghost use Rattle.clients_starts.specs.Compared.{NoSmaller};
 
-use slice::Cut;
-
 // Is what the safety cut writes accepted? Always, where the cut is not refused.
 pub fn safety(plan: &[u8], start: &[u64], criterion: &[u16], buffer: &mut [u8]) -> bool
     ensures { (safety_from_answer plan.now start.now criterion.now (length buffer.old)).refusal ≡ 0 → result ≡ true }
 {
     let done = call_cuts::starts::safety_from(plan, start, criterion, buffer);
-    let Cut::Written(n, _, _) = done else {
+    let Ok(file) = done else {
         return false;
     };
-    let end = n as usize;
+    let end = file.length as usize;
     let verdict = call_check::starts::check_from(plan, &buffer[..end], start, criterion);
     checker::code(verdict) == 0
 }
@@ -23,10 +21,10 @@ pub fn branching(plan: &[u8], start: &[u64], criterion: &[u16], buffer: &mut [u8
     ensures { (branching_from_answer plan.now start.now criterion.now (length buffer.old)).refusal ≡ 0 → result ≡ true }
 {
     let done = call_cuts::starts::branching_from(plan, start, criterion, buffer);
-    let Cut::Written(n, _, _) = done else {
+    let Ok(file) = done else {
         return false;
     };
-    let end = n as usize;
+    let end = file.length as usize;
     let verdict = call_check::starts::check_from(plan, &buffer[..end], start, criterion);
     checker::code(verdict) == 0
 }
@@ -42,7 +40,7 @@ pub fn no_smaller(
     ensures { result ≡ true → NoSmaller plan.now start.now criterion.now other.now buffer.old buffer.new }
 {
     let done = call_cuts::starts::safety_from(plan, start, criterion, buffer);
-    let Cut::Written(_, _, _) = done else {
+    let Ok(_) = done else {
         return false;
     };
     let verdict = call_check::starts::check_from(plan, other, start, criterion);

@@ -2,20 +2,20 @@
 ghost use Rattle.std.specs.Prelude.{◌≡◌, true, false, ◌+◌, ◌≤◌, length};
 ghost use Rattle.file.specs.Layout.{net_of};
 ghost use Rattle.promise.specs.Firing.{replay_answer};
-ghost use Rattle.replay.specs.Told.{outcome_numbers};
+ghost use Rattle.replay.specs.Told.{ended_numbers, outcome_numbers};
 ghost use Rattle.clients_starts.specs.Whole.{all_fired, Fits, AsWhole};
 
+use refusals::Refusal;
 use replay::Outcome;
 
 // Did the whole list fire?
 fn fired(o: Outcome) -> bool
-    ensures { result ≡ all_fired (outcome_numbers o) }
+    ensures { result ≡ all_fired (ended_numbers o) }
 {
     match o {
         Outcome::Fired => true,
         Outcome::Short(_, _, _) => false,
         Outcome::Full(_, _, _) => false,
-        Outcome::Refused(_) => false,
     }
 }
 
@@ -28,13 +28,13 @@ pub fn in_two(
     second: &[u16],
     middle: &mut [u64],
     marking: &mut [u64],
-) -> Outcome
+) -> Result<Outcome, Refusal>
     ensures stopped { all_fired (replay_answer file.now first.now (length middle.old)) ≡ false → outcome_numbers result ≡ replay_answer file.now first.now (length middle.old) }
     ensures whole { all_fired (replay_answer file.now first.now (length middle.old)) ≡ true → Fits (net_of file.now) middle.new → length first.now + length second.now ≤ 65535 → AsWhole file.now first.now second.now marking.old marking.new (outcome_numbers result) }
 {
-    let begun = call_firing::replays::replay(file, first, middle);
+    let begun = call_firing::replays::replay(file, first, middle)?;
     if !fired(begun) {
-        return begun;
+        return Ok(begun);
     }
     call_firing::starts::replay_from(file, middle, second, marking)
 }

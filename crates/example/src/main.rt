@@ -5,8 +5,9 @@ ghost use Rattle.std.specs.Prelude.{◌≡◌};
 ghost use Rattle.promise.specs.Example.{small_plan};
 
 use checker::Outcome;
+use refusals::Refusal;
 use shadow::Shadow;
-use slice::Cut;
+use slice::Written;
 
 fn kerb() -> [u8; 108]
     ensures { result ≡ small_plan }
@@ -21,9 +22,10 @@ fn say(text: &[u8], n: u32) {
 }
 
 fn checked(plan: &[u8], slice: &[u8]) {
-    let v = call_check::verdicts::check(plan, slice, &[2]);
-    let outcome = v.outcome;
-    match outcome {
+    let Ok(v) = call_check::verdicts::check(plan, slice, &[2]) else {
+        return say(b"not accepted for place ", 2);
+    };
+    match v.outcome {
         Outcome::Accepted => say(b"accepted for place ", 2),
         _ => say(b"not accepted for place ", 2),
     }
@@ -34,20 +36,20 @@ fn followed(plan: &[u8], slice: &[u8]) {
     let mut out = [0u16; 3];
     let s = call_firing::shadows::shadow(plan, slice, &[3, 0, 1], &mut marking, &mut out);
     match s {
-        Shadow::Fired(n) => say(b"fired; transitions in its shadow: ", n),
-        Shadow::Short(i, _, _, _) => say(b"stuck at index ", i),
-        Shadow::Full(i, _, _, _) => say(b"full at index ", i),
-        Shadow::Refused(n) => say(b"refused ", n),
+        Ok(Shadow::Fired(n)) => say(b"fired; transitions in its shadow: ", n),
+        Ok(Shadow::Short(i, _, _, _)) => say(b"stuck at index ", i),
+        Ok(Shadow::Full(i, _, _, _)) => say(b"full at index ", i),
+        Err(e) => say(b"refused ", e.number()),
     }
 }
 
 // What the cut answered, its slice being at the start of the buffer.
-fn told(c: Cut, plan: &[u8], buffer: &[u8]) {
-    let Cut::Written(n, _, _) = c else {
+fn told(c: Result<Written, Refusal>, plan: &[u8], buffer: &[u8]) {
+    let Ok(w) = c else {
         return;
     };
-    say(b"bytes of the safety cut for place 2: ", n);
-    let end = io::count(n as isize, buffer);
+    say(b"bytes of the safety cut for place 2: ", w.length);
+    let end = io::count(w.length as isize, buffer);
     checked(plan, &buffer[..end]);
     followed(plan, &buffer[..end]);
 }

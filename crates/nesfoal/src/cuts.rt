@@ -7,42 +7,29 @@ ghost use Rattle.promise.specs.Promise.{WritesSmallest};
 ghost use Rattle.slice.specs.Kept.{cut_numbers};
 ghost use Rattle.nesfoal.specs.Cuts.{cut_read};
 
-use slice::Cut;
+use refusals::Refusal;
+use slice::Written;
 
-// The values of an answer.
-fn refusal(c: Cut) -> u32
-    ensures { result ≡ (cut_numbers c).refusal }
+// Tells an answer: 0 or the number of a refusal; the file's length and the kept counts, zeros where it is refused.
+fn tell(c: Result<Written, Refusal>, long: &mut u32, places: &mut u32, transitions: &mut u32) -> u32
+    ensures answer { result ≡ (cut_numbers c).refusal }
+    ensures long { long.new ≡ (cut_numbers c).length }
+    ensures places { places.new ≡ (cut_numbers c).places }
+    ensures transitions { transitions.new ≡ (cut_numbers c).transitions }
 {
     match c {
-        Cut::Written(_, _, _) => 0,
-        Cut::Refused(n) => n,
-    }
-}
-
-fn length_of(c: Cut) -> u32
-    ensures { result ≡ (cut_numbers c).length }
-{
-    match c {
-        Cut::Written(n, _, _) => n,
-        Cut::Refused(_) => 0,
-    }
-}
-
-fn places_of(c: Cut) -> u32
-    ensures { result ≡ (cut_numbers c).places }
-{
-    match c {
-        Cut::Written(_, n, _) => n,
-        Cut::Refused(_) => 0,
-    }
-}
-
-fn transitions_of(c: Cut) -> u32
-    ensures { result ≡ (cut_numbers c).transitions }
-{
-    match c {
-        Cut::Written(_, _, n) => n,
-        Cut::Refused(_) => 0,
+        Ok(w) => {
+            *long = w.length;
+            *places = w.places;
+            *transitions = w.transitions;
+            0
+        }
+        Err(e) => {
+            *long = 0;
+            *places = 0;
+            *transitions = 0;
+            e.number()
+        }
     }
 }
 
@@ -63,10 +50,7 @@ pub fn nesfoal_safety(
     ensures smallest { WritesSmallest (λ S. Accepts plan.now S criterion.now) (cut_read result long.new places.new transitions.new) buffer.new }
 {
     let c = call_cuts::cuts::safety(plan, criterion, buffer);
-    *long = length_of(c);
-    *places = places_of(c);
-    *transitions = transitions_of(c);
-    refusal(c)
+    tell(c, long, places, transitions)
 }
 
 // The branching cut: 0 or the number of a refusal; the file's length and the kept counts go to the last three, zeros where it is refused.
@@ -85,10 +69,7 @@ pub fn nesfoal_branching(
     ensures transitions { transitions.new ≡ (branching_answer plan.now criterion.now (length buffer.old)).transitions }
 {
     let c = call_cuts::cuts::branching(plan, criterion, buffer);
-    *long = length_of(c);
-    *places = places_of(c);
-    *transitions = transitions_of(c);
-    refusal(c)
+    tell(c, long, places, transitions)
 }
 
 // The safety cut from a lent marking.
@@ -109,10 +90,7 @@ pub fn nesfoal_safety_from(
     ensures smallest { WritesSmallest (λ S. AcceptsFrom plan.now start.now S criterion.now) (cut_read result long.new places.new transitions.new) buffer.new }
 {
     let c = call_cuts::starts::safety_from(plan, start, criterion, buffer);
-    *long = length_of(c);
-    *places = places_of(c);
-    *transitions = transitions_of(c);
-    refusal(c)
+    tell(c, long, places, transitions)
 }
 
 // The branching cut from a lent marking.
@@ -133,8 +111,5 @@ pub fn nesfoal_branching_from(
     ensures exact { WritesExact (λ S. AcceptsFrom plan.now start.now S criterion.now) (net_at plan.now start.now) (cut_read result long.new places.new transitions.new) buffer.new }
 {
     let c = call_cuts::starts::branching_from(plan, start, criterion, buffer);
-    *long = length_of(c);
-    *places = places_of(c);
-    *transitions = transitions_of(c);
-    refusal(c)
+    tell(c, long, places, transitions)
 }

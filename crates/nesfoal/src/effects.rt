@@ -3,25 +3,22 @@ ghost use Rattle.std.specs.Prelude.{◌≡◌};
 ghost use Rattle.promise.specs.Firing.{effect_answer};
 ghost use Rattle.call_firing.specs.Effect.{change_numbers};
 
-use call_firing::effects::Change;
+use refusals::Refusal;
 
-// The number of a refusal, or 0.
-fn refusal(c: Change) -> u32
-    ensures { result ≡ (change_numbers c).refusal }
+// Tells an answer: 0 or the number of a refusal; the effect, 0 where it is refused.
+fn tell(c: Result<i32, Refusal>, to: &mut i32) -> u32
+    ensures answer { result ≡ (change_numbers c).refusal }
+    ensures effect { to.new ≡ (change_numbers c).effect }
 {
     match c {
-        Change::By(_) => 0,
-        Change::Refused(n) => n,
-    }
-}
-
-// The effect, 0 where it is refused.
-fn value(c: Change) -> i32
-    ensures { result ≡ (change_numbers c).effect }
-{
-    match c {
-        Change::By(n) => n,
-        Change::Refused(_) => 0,
+        Ok(n) => {
+            *to = n;
+            0
+        }
+        Err(e) => {
+            *to = 0;
+            e.number()
+        }
     }
 }
 
@@ -31,6 +28,5 @@ pub fn nesfoal_effect(file: &[u8], place: u32, transition: u32, to: &mut i32) ->
     ensures effect { to.new ≡ (effect_answer file.now place transition).effect }
 {
     let c = call_firing::effects::effect(file, place, transition);
-    *to = value(c);
-    refusal(c)
+    tell(c, to)
 }

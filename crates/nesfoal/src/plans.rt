@@ -5,24 +5,22 @@ ghost use Rattle.promise.specs.Normal.{normal_answer, normal_buffer, WritesNorma
 ghost use Rattle.plan_put.specs.Told.{file_numbers};
 ghost use Rattle.nesfoal.specs.Files.{file_read};
 
-use plan_put::File;
+use refusals::Refusal;
 
-// The values of an answer.
-fn refusal(f: File) -> u32
-    ensures { result ≡ (file_numbers f).refusal }
+// Tells an answer: 0 or the number of a refusal; the file's length, 0 where it is refused.
+fn tell(f: Result<u32, Refusal>, long: &mut u32) -> u32
+    ensures answer { result ≡ (file_numbers f).refusal }
+    ensures long { long.new ≡ (file_numbers f).length }
 {
     match f {
-        File::Length(_) => 0,
-        File::Refused(n) => n,
-    }
-}
-
-fn length_of(f: File) -> u32
-    ensures { result ≡ (file_numbers f).length }
-{
-    match f {
-        File::Length(n) => n,
-        File::Refused(_) => 0,
+        Ok(n) => {
+            *long = n;
+            0
+        }
+        Err(e) => {
+            *long = 0;
+            e.number()
+        }
     }
 }
 
@@ -34,8 +32,7 @@ pub fn nesfoal_normal(plan: &[u8], buffer: &mut [u8], long: &mut u32) -> u32
     ensures form { WritesNormal plan.now (file_read result long.new) buffer.new }
 {
     let f = call_plans::forms::normal(plan, buffer);
-    *long = length_of(f);
-    refusal(f)
+    tell(f, long)
 }
 
 // The plan of a text in PNML: 0 or the number of a refusal; the file's length goes to the last parameter, 0 where it is refused.
@@ -46,6 +43,5 @@ pub fn nesfoal_from_pnml(text: &[u8], buffer: &mut [u8], long: &mut u32) -> u32
     ensures named { WritesNamed text.now (file_read result long.new) buffer.new }
 {
     let f = call_plans::texts::convert(text, buffer);
-    *long = length_of(f);
-    refusal(f)
+    tell(f, long)
 }

@@ -5,16 +5,17 @@ ghost use Rattle.range.specs.Told.{range_numbers};
 ghost use Rattle.nesfoal.specs.Ranges.{range_code, range_read};
 
 use range::Range;
+use refusals::Refusal;
 
 // 0 where every marking in the range fires the list, 100 where some do but not all, 101 where none does, else the number of a refusal.
-fn code(a: Range) -> u32
+fn code(a: Result<Range, Refusal>) -> u32
     ensures { result ≡ range_code (range_numbers a) }
 {
     match a {
-        Range::Every => 0,
-        Range::Partly => 100,
-        Range::Never => 101,
-        Range::Refused(n) => n,
+        Ok(Range::Every) => 0,
+        Ok(Range::Partly) => 100,
+        Ok(Range::Never) => 101,
+        Err(e) => e.number(),
     }
 }
 

@@ -4,88 +4,52 @@ ghost use Rattle.promise.specs.RunCut.{run_answer, run_buffer, run_positions, Ru
 ghost use Rattle.run_cut.specs.Told.{run_numbers};
 ghost use Rattle.nesfoal.specs.Recorded.{run_read};
 
+use refusals::Refusal;
 use run_cut::RunCut;
 
-// The number of a refusal, 14 where the list sticks, or 0.
-fn refusal(c: RunCut) -> u32
-    ensures { result ≡ (run_numbers c).refusal }
+// Tells an answer: 0 or the number of a refusal, 14 where the list sticks; the file's length, the kept counts and how many positions were chosen,
+// zeros where it is refused; where the list sticks, zeros where it does not.
+fn tell(
+    c: Result<RunCut, Refusal>,
+    long: &mut u32,
+    places: &mut u32,
+    transitions: &mut u32,
+    count: &mut u32,
+    index: &mut u32,
+    place: &mut u32,
+    amount: &mut u32,
+) -> u32
+    ensures answer { result ≡ (run_numbers c).refusal }
+    ensures long { long.new ≡ (run_numbers c).length }
+    ensures places { places.new ≡ (run_numbers c).places }
+    ensures transitions { transitions.new ≡ (run_numbers c).transitions }
+    ensures count { count.new ≡ (run_numbers c).count }
+    ensures index { index.new ≡ (run_numbers c).index }
+    ensures place { place.new ≡ (run_numbers c).place }
+    ensures amount { amount.new ≡ (run_numbers c).amount }
 {
+    *long = 0;
+    *places = 0;
+    *transitions = 0;
+    *count = 0;
+    *index = 0;
+    *place = 0;
+    *amount = 0;
     match c {
-        RunCut::Written(_, _, _, _) => 0,
-        RunCut::Sticks(_, _, _) => 14,
-        RunCut::Refused(n) => n,
-    }
-}
-
-// The values of an answer, zeros where it is refused.
-fn length_of(c: RunCut) -> u32
-    ensures { result ≡ (run_numbers c).length }
-{
-    match c {
-        RunCut::Written(n, _, _, _) => n,
-        RunCut::Sticks(_, _, _) => 0,
-        RunCut::Refused(_) => 0,
-    }
-}
-
-fn places_of(c: RunCut) -> u32
-    ensures { result ≡ (run_numbers c).places }
-{
-    match c {
-        RunCut::Written(_, n, _, _) => n,
-        RunCut::Sticks(_, _, _) => 0,
-        RunCut::Refused(_) => 0,
-    }
-}
-
-fn transitions_of(c: RunCut) -> u32
-    ensures { result ≡ (run_numbers c).transitions }
-{
-    match c {
-        RunCut::Written(_, _, n, _) => n,
-        RunCut::Sticks(_, _, _) => 0,
-        RunCut::Refused(_) => 0,
-    }
-}
-
-fn count_of(c: RunCut) -> u32
-    ensures { result ≡ (run_numbers c).count }
-{
-    match c {
-        RunCut::Written(_, _, _, n) => n,
-        RunCut::Sticks(_, _, _) => 0,
-        RunCut::Refused(_) => 0,
-    }
-}
-
-// Where the list sticks, zeros where it does not.
-fn index_of(c: RunCut) -> u32
-    ensures { result ≡ (run_numbers c).index }
-{
-    match c {
-        RunCut::Written(_, _, _, _) => 0,
-        RunCut::Sticks(n, _, _) => n,
-        RunCut::Refused(_) => 0,
-    }
-}
-
-fn place_of(c: RunCut) -> u32
-    ensures { result ≡ (run_numbers c).place }
-{
-    match c {
-        RunCut::Written(_, _, _, _) => 0,
-        RunCut::Sticks(_, n, _) => n,
-        RunCut::Refused(_) => 0,
-    }
-}
-
-fn amount_of(c: RunCut) -> u32
-    ensures { result ≡ (run_numbers c).amount }
-{
-    match c {
-        RunCut::Written(_, _, _, _) => 0,
-        RunCut::Sticks(_, _, n) => n,
-        RunCut::Refused(_) => 0,
+        Ok(RunCut::Written(n, p, t, k)) => {
+            *long = n;
+            *places = p;
+            *transitions = t;
+            *count = k;
+            0
+        }
+        Ok(RunCut::Sticks(i, p, n)) => {
+            *index = i;
+            *place = p;
+            *amount = n;
+            Refusal::Stuck.number()
+        }
+        Err(e) => e.number(),
     }
 }
 
@@ -118,12 +82,5 @@ pub fn nesfoal_run_cut(
     ensures feeds { RunsBack plan.now criterion.now list.now (run_read result long.new places.new transitions.new count.new index.new place.new amount.new) buffer.new positions.new }
 {
     let c = call_cuts::recorded::run_cut(plan, criterion, list, buffer, positions);
-    *long = length_of(c);
-    *places = places_of(c);
-    *transitions = transitions_of(c);
-    *count = count_of(c);
-    *index = index_of(c);
-    *place = place_of(c);
-    *amount = amount_of(c);
-    refusal(c)
+    tell(c, long, places, transitions, count, index, place, amount)
 }

@@ -5,53 +5,35 @@ ghost use Rattle.promise.specs.Starts.{replay_from_answer, replay_from_marking};
 ghost use Rattle.replay.specs.Told.{outcome_numbers};
 ghost use Rattle.nesfoal.specs.Replays.{replay_code};
 
+use refusals::Refusal;
 use replay::Outcome;
 
-// 0 where all fired, 100 where the list is stuck on a place that is short, 101 on one that is full, else the number of a refusal.
-fn code(o: Outcome) -> u32
-    ensures { result ≡ replay_code (outcome_numbers o) }
+// Tells an answer: 0 where all fired, 100 where the list is stuck on a place that is short, 101 on one that is full, else the number of a refusal;
+// the index of the firing that is not enabled, the place and the tokens missing there, or above its cap, zeros where the list is not stuck.
+fn tell(o: Result<Outcome, Refusal>, index: &mut u32, place: &mut u32, amount: &mut u32) -> u32
+    ensures answer { result ≡ replay_code (outcome_numbers o) }
+    ensures index { index.new ≡ (outcome_numbers o).index }
+    ensures place { place.new ≡ (outcome_numbers o).place }
+    ensures amount { amount.new ≡ (outcome_numbers o).amount }
 {
+    *index = 0;
+    *place = 0;
+    *amount = 0;
     match o {
-        Outcome::Fired => 0,
-        Outcome::Short(_, _, _) => 100,
-        Outcome::Full(_, _, _) => 101,
-        Outcome::Refused(n) => n,
-    }
-}
-
-// The index of the firing that is not enabled, 0 where the list is not stuck.
-fn index_of(o: Outcome) -> u32
-    ensures { result ≡ (outcome_numbers o).index }
-{
-    match o {
-        Outcome::Fired => 0,
-        Outcome::Short(i, _, _) => i,
-        Outcome::Full(i, _, _) => i,
-        Outcome::Refused(_) => 0,
-    }
-}
-
-// The place that is short or full, 0 where the list is not stuck.
-fn place_of(o: Outcome) -> u32
-    ensures { result ≡ (outcome_numbers o).place }
-{
-    match o {
-        Outcome::Fired => 0,
-        Outcome::Short(_, p, _) => p,
-        Outcome::Full(_, p, _) => p,
-        Outcome::Refused(_) => 0,
-    }
-}
-
-// The tokens missing on that place, or above its cap, 0 where the list is not stuck.
-fn amount_of(o: Outcome) -> u32
-    ensures { result ≡ (outcome_numbers o).amount }
-{
-    match o {
-        Outcome::Fired => 0,
-        Outcome::Short(_, _, n) => n,
-        Outcome::Full(_, _, n) => n,
-        Outcome::Refused(_) => 0,
+        Ok(Outcome::Fired) => 0,
+        Ok(Outcome::Short(i, p, n)) => {
+            *index = i;
+            *place = p;
+            *amount = n;
+            100
+        }
+        Ok(Outcome::Full(i, p, n)) => {
+            *index = i;
+            *place = p;
+            *amount = n;
+            101
+        }
+        Err(e) => e.number(),
     }
 }
 
@@ -72,10 +54,7 @@ pub fn nesfoal_replay(
     ensures amount { amount.new ≡ (replay_answer file.now list.now (length marking.old)).amount }
 {
     let o = call_firing::replays::replay(file, list, marking);
-    *index = index_of(o);
-    *place = place_of(o);
-    *amount = amount_of(o);
-    code(o)
+    tell(o, index, place, amount)
 }
 
 // The same from a lent marking.
@@ -95,8 +74,5 @@ pub fn nesfoal_replay_from(
     ensures amount { amount.new ≡ (replay_from_answer file.now start.now list.now (length marking.old)).amount }
 {
     let o = call_firing::starts::replay_from(file, start, list, marking);
-    *index = index_of(o);
-    *place = place_of(o);
-    *amount = amount_of(o);
-    code(o)
+    tell(o, index, place, amount)
 }

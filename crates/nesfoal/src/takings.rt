@@ -4,27 +4,27 @@ ghost use Rattle.promise.specs.Together.{together_answer, together_rest, TakesLa
 ghost use Rattle.together.specs.Told.{together_numbers};
 ghost use Rattle.nesfoal.specs.Takings.{together_code, takings_read};
 
+use refusals::Refusal;
 use together::Together;
 
-// 0 where there is a largest number, 100 where any number of times fits, else the number of a refusal.
-fn code(a: Together) -> u32
-    ensures { result ≡ together_code (together_numbers a) }
+// Tells an answer: 0 where there is a largest number, 100 where any number of times fits, else the number of a refusal; the largest number, 0 where there is none.
+fn tell(a: Result<Together, Refusal>, times: &mut u64) -> u32
+    ensures answer { result ≡ together_code (together_numbers a) }
+    ensures times { times.new ≡ (together_numbers a).times }
 {
     match a {
-        Together::Times(_) => 0,
-        Together::Unlimited => 100,
-        Together::Refused(n) => n,
-    }
-}
-
-// The largest number of times, 0 where there is none.
-fn times_of(a: Together) -> u64
-    ensures { result ≡ (together_numbers a).times }
-{
-    match a {
-        Together::Times(k) => k,
-        Together::Unlimited => 0,
-        Together::Refused(_) => 0,
+        Ok(Together::Times(k)) => {
+            *times = k;
+            0
+        }
+        Ok(Together::Unlimited) => {
+            *times = 0;
+            100
+        }
+        Err(e) => {
+            *times = 0;
+            e.number()
+        }
     }
 }
 
@@ -42,6 +42,5 @@ pub fn nesfoal_together(
     ensures largest { TakesLargest plan.now transition marking.now (takings_read result times.new) rest.new }
 {
     let a = call_firing::takings::together(plan, transition, marking, rest);
-    *times = times_of(a);
-    code(a)
+    tell(a, times)
 }

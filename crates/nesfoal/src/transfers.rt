@@ -14,5 +14,8 @@ pub fn nesfoal_transfer(
     ensures marking { marking.new ≡ transfer_marking old.now new.now running.now table.now marking.old }
     ensures carried { result ≡ 0 → Carried new.now running.now table.now marking.new }
 {
-    call_plans::transfers::transfer(old, new, running, table, marking)
+    match call_plans::transfers::transfer(old, new, running, table, marking) {
+        Ok(()) => 0,
+        Err(e) => e.number(),
+    }
 }

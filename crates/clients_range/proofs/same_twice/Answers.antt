@@ -3,7 +3,4 @@ use Rattle.clients_range.proofs.Concluded.{one-case, none_apart}
 use Rattle.clients_range.proofs.same_twice.Goals as goal
 
 pub returns : goal.returns
-returns c =
-    let b = c in
-    let a = b in
-    c.same.ensures ∙ none_apart _ _ _ _ (λ x y. one-case _ _ _ x y a.range-a.ensures.range b.range-b.ensures.range)
+returns c = c.same.ensures ∙ none_apart _ _ _ _ (λ x y. one-case _ _ _ x y c.range-a.ensures.range c.range-b.ensures.range)

@@ -1,60 +1,31 @@
-use mathlib.Core.Path.{◌≡◌, sym, ◌∙◌}
-use Rattle.file.specs.Facts.{Opened}
-use Rattle.file.specs.Criterion.{criterion_refusal}
+use mathlib.Core.Path.{sym}
+use Rattle.refusals.proofs.Numbers.{passed_on}
 use Rattle.file_header.specs.declared.Due.TheVariants as due
-use Rattle.file.proofs.Opening.{opened, turned_back_lem}
+use Rattle.file.proofs.Opening.{opened_ok, turned_back_lem}
 use Rattle.call_cuts.proofs.Cutting.{by_file, by_criterion, branching-refused, branching-untouched, branching-within, branching-written}
 use Rattle.call_cuts.proofs.cuts.branching.Goals as goal
-use Rattle.call_cuts.proofs.cuts.branching.Goals.{After-kept-kept, After-read-whole, After-refusal-broken, After-write-arg-3-1, Else-broken-ne0, In-Whole, Start}
-
--- ---- the states: the plan read, found whole, its criterion judged, the sets kept
-
-abbrev call : After-read-whole → Start
-call c = (goal.at.After-read-whole c).Start
-
-abbrev read_of : In-Whole → After-read-whole
-read_of c = (goal.at.In-Whole c).After-read-whole
-
-abbrev whole_of : After-refusal-broken → In-Whole
-whole_of c = (goal.at.After-refusal-broken c).In-Whole
-
-abbrev kept_of : After-write-arg-3-1 → After-kept-kept
-kept_of c = (goal.at.After-write-arg-3-1 c).After-kept-kept
-
--- what is known of the plan from here on, and of the criterion
-open_at : (c : In-Whole) → Opened due.Plan (call (read_of c)).args.plan.now c.in-Whole.h
-open_at c = opened due.Plan _ (read_of c).read-whole.ensures c.in-Whole.is
-
-passes : (c : Else-broken-ne0) → let w = whole_of (goal.at.Else-broken-ne0 c).After-refusal-broken in criterion_refusal w.in-Whole.h.places (call (read_of w)).args.criterion.now ≡ 0
-passes c = sym c.refusal-broken.ensures ∙ c.if-broken-ne0.false
 
 pub returns-in_default : goal.returns-in_default
 returns-in_default c =
-    let read = c in
-    let s = call (goal.at.returns-in_default read).After-read-whole in
-    let t = turned_back_lem due.Plan _ read.read-whole.ensures c.in_default.is c.number.ensures in
-    let e = by_file _ s.args.criterion.now t.0 t.1 in
-    record { answer = branching-refused _ _ _ e t.1 _; buffer = branching-untouched _ _ _ e t.1 _ }
+    let t = turned_back_lem due.Plan _ c.read-read.ensures c.unwrap_err.ensures in
+    let e = by_file _ c.args.criterion.now t.0 t.1 in
+    record { answer = branching-refused _ _ _ e _; buffer = branching-untouched _ _ _ e _ }
 
-pub returns-then-broken-ne0 : goal.returns-then-broken-ne0
-returns-then-broken-ne0 c =
-    let e = by_criterion _ _ _ (open_at (whole_of (goal.at.returns-then-broken-ne0 c).After-refusal-broken)) c.refusal-broken.ensures in
-    record { answer = branching-refused _ _ _ e c.if-broken-ne0.true _; buffer = branching-untouched _ _ _ e c.if-broken-ne0.true _ }
+pub returns-in_err-check : goal.returns-in_err-check
+returns-in_err-check c =
+    let e = by_criterion _ _ _ (opened_ok due.Plan _ c.in-Ok.ensures) c.in_err-check.ensures in
+    rw (passed_on _ c.from_residual.ensures.1) (record { answer = branching-refused _ _ _ e _; buffer = branching-untouched _ _ _ e _ })
 
 pub kept-kept-requires : goal.kept-kept-requires
-kept-kept-requires c = record { sound = (open_at (whole_of (goal.at.kept-kept-requires c).After-refusal-broken)).good; criterion_value = passes c }
+kept-kept-requires c = record { sound = (opened_ok due.Plan _ c.in-Ok.ensures).good; criterion_value = sym c.in_ok-check.ensures }
 
 pub write-requires : goal.write-requires
 write-requires c =
-    let sets = kept_of c in
-    let o = open_at (whole_of (goal.at.After-kept-kept sets).After-refusal-broken) in
-    record { sound = o.good; within = branching-within _ _ _ o (passes (goal.at.After-kept-kept sets).Else-broken-ne0) _ sets.kept-kept.ensures }
+    let o = opened_ok due.Plan _ c.in-Ok.ensures in
+    record { sound = o.good; within = branching-within _ _ _ o (sym c.in_ok-check.ensures) _ c.kept-kept.ensures }
 
 pub returns : goal.returns
 returns c =
-    let written = c in
-    let sets = kept_of (goal.at.returns written).After-write-arg-3-1 in
-    let passed = sets in
-    let w = written.write in
-    let told = branching-written _ _ _ (open_at (whole_of (goal.at.After-kept-kept passed).After-refusal-broken)) (passes (goal.at.After-kept-kept passed).Else-broken-ne0) _ _ _ w.result (record { answer = w.ensures.answer; buffer = w.ensures.buffer }) sets.kept-kept.ensures in
+    let w = c.write in
+    let told = branching-written _ _ _ (opened_ok due.Plan _ c.in-Ok.ensures) (sym c.in_ok-check.ensures) _ _ _ w.result (record { answer = w.ensures.answer; buffer = w.ensures.buffer }) c.kept-kept.ensures in
     record { answer = told.0; buffer = told.1 }

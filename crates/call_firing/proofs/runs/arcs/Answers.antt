@@ -1,44 +1,24 @@
 use mathlib.Core.Path.{sym, ◌∙◌}
-use Rattle.file.specs.Facts.{Opened}
 use Rattle.file_header.specs.declared.Due.TheVariants as due
-use Rattle.file.proofs.Opening.{opened}
+use Rattle.file.proofs.Opening.{opened_ok}
 use Rattle.call_firing.proofs.ArcRuns.{not-read, plan_refused, slice_refused, of_slice, of_plan}
 use Rattle.call_firing.proofs.runs.arcs.Goals as goal
-use Rattle.call_firing.proofs.runs.arcs.Goals.{In-Whole, In-Whole-second, Start}
-
--- ---- the states: the plan whole, then the slice
-
-abbrev call : In-Whole → Start
-call c = (goal.at.In-Whole c).Start
-
-abbrev plan_of : In-Whole-second → In-Whole
-plan_of c = (goal.at.In-Whole-second c).In-Whole
-
--- what is known of the two files from here on
-plan_at : (c : In-Whole) → Opened due.Plan (call c).args.plan.now c.in-Whole.p
-plan_at c = opened due.Plan _ c.read-first.ensures c.in-Whole.is
-
-slice_at : (c : In-Whole-second) → Opened due.Slice (call (plan_of c)).args.slice.now c.in-Whole-second.s
-slice_at c = opened due.Slice _ c.read-second.ensures c.in-Whole-second.is
 
 pub returns-in_default : goal.returns-in_default
-returns-in_default c = c.no_run.ensures ∙ sym (plan_refused _ _ _ _ (not-read due.Plan _ c.read-first.ensures c.in_default.is))
+returns-in_default c = c.no_run.ensures ∙ sym (plan_refused _ _ _ _ (not-read due.Plan _ c.in_default.ensures))
 
-pub returns-in_default-second : goal.returns-in_default-second
-returns-in_default-second c = c.no_run-in_default-second.ensures ∙ sym (slice_refused _ _ _ _ (plan_at (goal.at.returns-in_default-second c).In-Whole).read (not-read due.Slice _ c.read-second.ensures c.in_default-second.is))
+pub returns-in_default-read : goal.returns-in_default-read
+returns-in_default-read c =
+    c.no_run-in_default-read.ensures ∙ sym (slice_refused _ _ _ _ (opened_ok due.Plan _ c.in-Ok.ensures).read (not-read due.Slice _ c.in_default-read.ensures))
 
 pub run-requires : goal.run-requires
-run-requires c = (slice_at (goal.at.run-requires c).In-Whole-second).good
+run-requires c = (opened_ok due.Slice _ c.in-Ok-read.ensures).good
 
 pub returns-then-inslice : goal.returns-then-inslice
-returns-then-inslice c =
-    let second = c in
-    rw c.if-inslice.true (c.run.ensures ∙ sym (of_slice _ _ _ _ (plan_at (plan_of (goal.at.returns-then-inslice second).In-Whole-second)) (slice_at (goal.at.returns-then-inslice second).In-Whole-second) _))
+returns-then-inslice c = rw c.if-inslice.true (c.run.ensures ∙ sym (of_slice _ _ _ _ (opened_ok due.Plan _ c.in-Ok.ensures) (opened_ok due.Slice _ c.in-Ok-read.ensures) _))
 
 pub run-requires-2 : goal.run-requires-2
-run-requires-2 c = (plan_at (plan_of (goal.at.run-requires-2 c).In-Whole-second)).good
+run-requires-2 c = (opened_ok due.Plan _ c.in-Ok.ensures).good
 
 pub returns : goal.returns
-returns c =
-    let second = c in
-    rw c.if-inslice.false (c.run-2.ensures ∙ sym (of_plan _ _ _ _ (plan_at (plan_of (goal.at.returns second).In-Whole-second)) (slice_at (goal.at.returns second).In-Whole-second) _))
+returns c = rw c.if-inslice.false (c.run-2.ensures ∙ sym (of_plan _ _ _ _ (opened_ok due.Plan _ c.in-Ok.ensures) (opened_ok due.Slice _ c.in-Ok-read.ensures) _))

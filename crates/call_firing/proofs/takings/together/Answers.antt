@@ -1,31 +1,17 @@
-use Rattle.file.specs.Facts.{Opened}
 use Rattle.file_header.specs.declared.Due.TheVariants.{Plan}
-use Rattle.file.proofs.Opening.{opened, turned_back_lem}
+use Rattle.file.proofs.Opening.{opened_ok, turned_back_lem}
 use Rattle.call_firing.proofs.Taken.{file_refused, answered}
 use Rattle.call_firing.proofs.takings.together.Goals as goal
-use Rattle.call_firing.proofs.takings.together.Goals.{In-Whole, Start}
-
-abbrev call : In-Whole → Start
-call c = (goal.at.In-Whole c).Start
-
--- what is known of the plan from here on
-open_at : (c : In-Whole) → Opened Plan (call c).args.plan.now c.in-Whole.h
-open_at c = opened Plan _ c.read-whole.ensures c.in-Whole.is
 
 pub returns-in_default : goal.returns-in_default
 returns-in_default c =
-    let read = c in
-    let s = read.args in
-    let told = file_refused s.plan.now s.transition s.marking.now s.rest.now _ (turned_back_lem Plan _ read.read-whole.ensures c.in_default.is c.number.ensures) in
+    let told = file_refused c.args.plan.now c.args.transition c.args.marking.now c.args.rest.now _ (turned_back_lem Plan _ c.read-read.ensures c.unwrap_err.ensures).0 in
     record { answer = told.0; rest = told.1.0; largest = told.1.1 }
 
 pub takings-requires : goal.takings-requires
-takings-requires c = (open_at (goal.at.takings-requires c).In-Whole).good
+takings-requires c = (opened_ok Plan _ c.in-Ok.ensures).good
 
 pub returns : goal.returns
 returns c =
-    let taken = c in
-    let w = taken in
-    let s = (call (goal.at.returns w).In-Whole).args in
-    let told = answered s.plan.now s.transition s.marking.now s.rest.now _ (open_at (goal.at.returns w).In-Whole) _ _ taken.takings.ensures.answer taken.takings.ensures.rest in
+    let told = answered c.args.plan.now c.args.transition c.args.marking.now c.args.rest.now _ (opened_ok Plan _ c.in-Ok.ensures) _ _ c.takings.ensures.answer c.takings.ensures.rest in
     record { answer = told.0; rest = told.1.0; largest = told.1.1 }

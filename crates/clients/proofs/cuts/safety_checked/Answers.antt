@@ -1,39 +1,25 @@
 use Prim.Native.Nat.{◌≤◌}
-use mathlib.Core.Path.{ap, ◌∙◌}
+use mathlib.Core.Path.{refl, ap}
 use native.Mathlib.Omega.{arith}
 use lib.ListN.{length, length-take}
+use Rattle.refusals.proofs.Numbers.{passed_on}
 use Rattle.promise.specs.Calls.{CutAnswer}
 use Rattle.promise.proofs.Rooms.{safety-fits}
 use Rattle.clients.proofs.Cutting.{safety-accepted}
 use Rattle.clients.proofs.cuts.safety_checked.Goals as goal
-use Rattle.clients.proofs.cuts.safety_checked.Goals.{After-length_of-end, After-refusal_of-refusal, After-safety-c, After-shared_slice_known-1}
 
--- ---- the states: the cut answered, its refusal looked at, its length read
-
-abbrev cut_of : After-refusal_of-refusal → After-safety-c
-cut_of c = (goal.at.After-refusal_of-refusal c).After-safety-c
-
-abbrev bytes_of : After-safety-c → After-shared_slice_known-1
-bytes_of c = (goal.at.After-safety-c c).After-shared_slice_known-1
-
-abbrev judged : After-length_of-end → After-refusal_of-refusal
-judged c = (goal.at.After-length_of-end c).After-refusal_of-refusal
+pub returns-in_err-c : goal.returns-in_err-c
+returns-in_err-c c = rw (passed_on _ c.from_residual.ensures.1) (ap (λ (a : CutAnswer). a.refusal) c.in_err-c.ensures.answer)
 
 -- what was written fits into the buffer
-fits : (c : After-length_of-end) → c.length_of-end.result ≤ length (bytes_of (cut_of (judged c))).args.buffer.now
-fits c = omega (arith, c.length_of-end.ensures, ap (λ (a : CutAnswer). a.length) (cut_of (judged c)).safety-c.ensures.answer, safety-fits (bytes_of (cut_of (judged c))).args.plan.now (bytes_of (cut_of (judged c))).args.criterion.now (length (bytes_of (cut_of (judged c))).args.buffer.now))
-
-pub returns-then-refusal-ne0 : goal.returns-then-refusal-ne0
-returns-then-refusal-ne0 c = c.refusal_of-refusal.ensures ∙ ap (λ (a : CutAnswer). a.refusal) (cut_of (goal.at.returns-then-refusal-ne0 c).After-refusal_of-refusal).safety-c.ensures.answer
-
 pub slice_bounds-check-end : goal.slice_bounds-check-end
-slice_bounds-check-end c = omega (arith, fits c)
+slice_bounds-check-end c = omega (arith, ap (λ (a : CutAnswer). a.length) c.in_ok-c.ensures.answer, safety-fits c.args.plan.now c.args.criterion.now (length c.args.buffer.now))
 
 pub slice_bounds-check-end-2 : goal.slice_bounds-check-end-2
-slice_bounds-check-end-2 c = simp length-take (omega (arith, fits c))
+slice_bounds-check-end-2 c =
+    simp length-take (omega (arith, ap (λ (a : CutAnswer). a.length) c.in_ok-c.ensures.answer, safety-fits c.args.plan.now c.args.criterion.now (length c.args.buffer.now)))
 
 pub returns : goal.returns
 returns c =
-    let sized = c in
-    let s = (cut_of (judged (goal.at.returns sized).After-length_of-end)).safety-c.ensures in
-    safety-accepted _ _ _ _ s.answer s.smallest (judged (goal.at.returns sized).After-length_of-end).refusal_of-refusal.ensures sized.if-refusal-ne0.false sized.length_of-end.ensures c.check-v.ensures.answer c.code.ensures
+    let s = c.in_ok-c.ensures in
+    safety-accepted _ _ _ _ s.answer s.smallest refl refl refl c.check.ensures.answer refl

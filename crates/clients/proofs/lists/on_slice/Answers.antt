@@ -1,25 +1,30 @@
-use borrow.Author.Tests.{not-true}
-use Rattle.clients.proofs.Listed.{not_accepted, not-fired, on_slice}
+use mathlib.Core.Path.{refl, sym, ap, ◌∙◌}
+use Rattle.refusals.proofs.Numbers.{number_some}
+use Rattle.promise.specs.Calls.{Checked}
+use Rattle.promise.specs.Firing.{ReplayAnswer}
+use Rattle.promise.proofs.Replays.{differ}
+use Rattle.clients.proofs.Listed.{not_accepted, on_slice}
+use Rattle.clients.proofs.Unplayed.{accepted_by, fired_by}
 use Rattle.clients.proofs.lists.on_slice.Goals as goal
-use Rattle.clients.proofs.lists.on_slice.Goals.{After-all_fired, After-code-code, After-replay-o}
 
--- ---- the states: the slice checked, its number read, the plan replayed, the answer looked at
+pub returns-in_err-v : goal.returns-in_err-v
+returns-in_err-v c = λ a t p h. not_accepted _ _ _ c.in_err-v.ensures.answer refl (number_some _) a
 
-abbrev replayed : After-all_fired → After-replay-o
-replayed c = (goal.at.After-all_fired c).After-replay-o
+pub returns-in_default : goal.returns-in_default
+returns-in_default c = λ a t p h. absurd (c.in_default.not-Accepted (accepted_by _ (ap (λ (x : Checked). x.code) c.in_ok-v.ensures.answer ∙ a)))
 
-abbrev coded : After-replay-o → After-code-code
-coded c = (goal.at.After-replay-o c).After-code-code
+pub returns-in_err-o : goal.returns-in_err-o
+returns-in_err-o c = λ a t p h. differ (sym (ap (λ (x : ReplayAnswer). x.refused) (c.in_err-o.ensures.answer ∙ t)))
 
-pub returns-then-code-ne0 : goal.returns-then-code-ne0
-returns-then-code-ne0 c = λ a t p h. not_accepted _ _ _ c.check-v.ensures.answer c.code-code.ensures c.if-code-ne0.true a
+pub returns-in_default-o : goal.returns-in_default-o
+returns-in_default-o c = λ a t p h. absurd (c.in_default-o.not-Fired (fired_by _ (ap (λ (x : ReplayAnswer). x.stuck) (c.in_ok-o.ensures.answer ∙ t))))
 
-pub returns-then-not-all_fired : goal.returns-then-not-all_fired
-returns-then-not-all_fired c = λ a t p h. not-fired _ _ _ (replayed (goal.at.returns-then-not-all_fired c).After-all_fired).replay-o.ensures.answer c.all_fired.ensures (not-true _ c.if-not-all_fired.true-raw) t
+pub returns-in_err-again : goal.returns-in_err-again
+returns-in_err-again c = λ a t p h.
+    differ
+    (sym
+    (ap (λ (x : ReplayAnswer). x.refused)
+    (on_slice _ _ _ _ _ _ _ _ _ c.in_ok-v.ensures.answer c.in_ok-v.ensures.guarantee c.in_ok-o.ensures.marking c.in_err-again.ensures.answer c.in_err-again.ensures.marking a t p h).fired))
 
 pub returns : goal.returns
-returns c =
-    let again = c in
-    let plan = replayed (goal.at.returns again).After-all_fired in
-    let check = (coded plan) in
-    on_slice _ _ _ _ _ _ _ _ _ check.check-v.ensures.answer check.check-v.ensures.guarantee plan.replay-o.ensures.marking again.replay.ensures.answer again.replay.ensures.marking
+returns c = on_slice _ _ _ _ _ _ _ _ _ c.in_ok-v.ensures.answer c.in_ok-v.ensures.guarantee c.in_ok-o.ensures.marking c.in_ok-again.ensures.answer c.in_ok-again.ensures.marking

@@ -1,48 +1,26 @@
-use Prim.Native.Nat.{◌≤◌}
 use mathlib.Core.Path.{sym}
 use lib.ListN.{length}
 use lib.Seq.{length-take-le}
 use Rattle.clients_starts.proofs.Accepting.{safety-refused, safety-room, safety-accepted}
 use Rattle.clients_starts.proofs.cuts.safety.Goals as goal
-use Rattle.clients_starts.proofs.cuts.safety.Goals.{After-safety_from-done, After-slice_known-2-1, In-Written, Start}
-
--- ---- the states: cut, the answer told, checked
-
-abbrev cut_of : After-slice_known-2-1 → After-safety_from-done
-cut_of c = (goal.at.After-slice_known-2-1 c).After-safety_from-done
-
-abbrev call : After-safety_from-done → Start
-call c = (goal.at.After-safety_from-done c).Start
-
-abbrev told : In-Written → In-Written
-told c = c
-
-abbrev cut_at : In-Written → After-safety_from-done
-cut_at c = cut_of (goal.at.In-Written c).After-slice_known-2-1
-
--- what was written is a part of the buffer
-room : (c : In-Written) → c.in-Written.n ≤ length (cut_of (goal.at.In-Written c).After-slice_known-2-1).safety_from-done.new.buffer
-room c =
-    let done = cut_at c in
-    let s = (call done).args in
-    safety-room s.plan.now s.start.now s.criterion.now s.buffer.now done.safety_from-done.ensures.answer done.safety_from-done.ensures.buffer c.in-Written.is
 
 pub returns-in_default : goal.returns-in_default
 returns-in_default c =
-    let done = cut_of (goal.at.returns-in_default c).After-slice_known-2-1 in
-    let s = (call done).args in
-    λ z. safety-refused s.plan.now s.start.now s.criterion.now (length s.buffer.now) done.safety_from-done.ensures.answer c.in_default.is z
+    let s = c.args in
+    λ z. safety-refused s.plan.now s.start.now s.criterion.now (length s.buffer.now) c.safety_from-done.ensures.answer c.in_default.is z
 
+-- what was written is a part of the buffer
 pub slice_bounds-check_from-end : goal.slice_bounds-check_from-end
-slice_bounds-check_from-end c = room (told c)
+slice_bounds-check_from-end c =
+    let s = c.args in
+    safety-room s.plan.now s.start.now s.criterion.now s.buffer.now c.safety_from-done.ensures.answer c.safety_from-done.ensures.buffer c.in-Ok.is
 
 pub slice_bounds-check_from-end-2 : goal.slice_bounds-check_from-end-2
-slice_bounds-check_from-end-2 c = sym (length-take-le _ _ (room (told c)))
+slice_bounds-check_from-end-2 c =
+    let s = c.args in
+    sym (length-take-le _ _ (safety-room s.plan.now s.start.now s.criterion.now s.buffer.now c.safety_from-done.ensures.answer c.safety_from-done.ensures.buffer c.in-Ok.is))
 
 pub returns : goal.returns
 returns c =
-    let checked = c in
-    let written = told (goal.at.returns checked).In-Written in
-    let done = cut_at written in
-    let s = (call done).args in
-    λ z. safety-accepted s.plan.now s.start.now s.criterion.now written.in-Written.is c.code.ensures done.safety_from-done.ensures.smallest checked.check_from-verdict.ensures.answer
+    let s = c.args in
+    λ z. safety-accepted s.plan.now s.start.now s.criterion.now c.in-Ok.is c.code.ensures c.safety_from-done.ensures.smallest c.check_from-verdict.ensures.answer

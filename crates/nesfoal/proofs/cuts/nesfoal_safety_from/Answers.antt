@@ -7,8 +7,8 @@ pub returns : goal.returns
 returns c =
     let s = c.safety_from-c.ensures in
     let e = s.answer in
-    let r = c.refusal.ensures ∙ ap (λ (a : CutAnswer). a.refusal) e in
-    let n = c.length_of.ensures ∙ ap (λ (a : CutAnswer). a.length) e in
-    let p = c.places_of.ensures ∙ ap (λ (a : CutAnswer). a.places) e in
-    let t = c.transitions_of.ensures ∙ ap (λ (a : CutAnswer). a.transitions) e in
+    let r = c.tell.ensures.answer ∙ ap (λ (a : CutAnswer). a.refusal) e in
+    let n = c.tell.ensures.long ∙ ap (λ (a : CutAnswer). a.length) e in
+    let p = c.tell.ensures.places ∙ ap (λ (a : CutAnswer). a.places) e in
+    let t = c.tell.ensures.transitions ∙ ap (λ (a : CutAnswer). a.transitions) e in
     record { answer = r; buffer = s.buffer; long = n; places = p; transitions = t; smallest = safety-from_for_c _ _ _ _ _ e s.smallest r n p t }

@@ -7,6 +7,6 @@ pub returns : goal.returns
 returns c =
     let s = c.convert-f.ensures in
     let e = s.answer in
-    let r = c.refusal.ensures ∙ ap (λ (a : FileAnswer). a.refusal) e in
-    let n = c.length_of.ensures ∙ ap (λ (a : FileAnswer). a.length) e in
+    let r = c.tell.ensures.answer ∙ ap (λ (a : FileAnswer). a.refusal) e in
+    let n = c.tell.ensures.long ∙ ap (λ (a : FileAnswer). a.length) e in
     record { answer = r; buffer = s.buffer; long = n; named = named-for_c _ _ e s.named r n }

@@ -6,4 +6,4 @@ use Rattle.nesfoal.proofs.replays.nesfoal_replay.Goals as goal
 pub returns : goal.returns
 returns c =
     let e = c.replay-o.ensures in
-    record { answer = c.code.ensures ∙ ap replay_code e.answer; marking = e.marking; index = c.index_of.ensures ∙ ap (λ (a : ReplayAnswer). a.index) e.answer; place = c.place_of.ensures ∙ ap (λ (a : ReplayAnswer). a.place) e.answer; amount = c.amount_of.ensures ∙ ap (λ (a : ReplayAnswer). a.amount) e.answer }
+    record { answer = c.tell.ensures.answer ∙ ap replay_code e.answer; marking = e.marking; index = c.tell.ensures.index ∙ ap (λ (a : ReplayAnswer). a.index) e.answer; place = c.tell.ensures.place ∙ ap (λ (a : ReplayAnswer). a.place) e.answer; amount = c.tell.ensures.amount ∙ ap (λ (a : ReplayAnswer). a.amount) e.answer }

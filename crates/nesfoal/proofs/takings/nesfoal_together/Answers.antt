@@ -7,6 +7,6 @@ use Rattle.nesfoal.proofs.takings.nesfoal_together.Goals as goal
 pub returns : goal.returns
 returns c =
     let e = c.together-a.ensures in
-    let r = c.code.ensures ∙ ap together_code e.answer in
-    let k = c.times_of.ensures ∙ ap (λ (a : TogetherAnswer). a.times) e.answer in
+    let r = c.tell.ensures.answer ∙ ap together_code e.answer in
+    let k = c.tell.ensures.times ∙ ap (λ (a : TogetherAnswer). a.times) e.answer in
     record { answer = r; rest = e.rest; times = k; largest = together-for_c _ _ _ _ e.answer e.largest r k }
