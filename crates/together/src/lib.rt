@@ -59,6 +59,16 @@ fn take(file: &[u8], start: usize, from: usize, to: usize, k: u64, marking: &mut
     }
 }
 
+// Writes a list to one that is as long. By a loop, of which the compiler makes a call of memcpy: `copy_from_slice` calls memmove, which the archive does not ask of its users.
+fn copy(from: &[u64], to: &mut [u64])
+    requires { length to.old ≡ length from.now }
+    ensures { to.new ≡ from.now }
+{
+    for p in 0..from.len() {
+        to[p] = from[p];
+    }
+}
+
 // How often the inputs of a transition can be taken together from the marking; what is left goes to `rest`. Both have an entry for each place.
 fn largest(file: &[u8], h: Header, transition: usize, marking: &[u64], rest: &mut [u64]) -> Together
     requires { Passed file.now h transition marking.now rest.old }
@@ -68,7 +78,7 @@ fn largest(file: &[u8], h: Header, transition: usize, marking: &[u64], rest: &mu
     let start = h.arcstart;
     let from = first_from(file, start, h.arcs, 2 * transition);
     let to = next_from(file, start, from, h.arcs, 2 * transition + 1);
-    rest.copy_from_slice(marking);
+    copy(marking, rest);
     if to <= from {
         return Together::Unlimited;
     }

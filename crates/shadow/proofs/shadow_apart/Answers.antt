@@ -23,4 +23,4 @@ returns-in_err-r c =
 pub returns : goal.returns
 returns c =
     follows_apart c.args.plan.now c.args.p _ c.args.list.now _ c.args.apart.now _ _ c.requires.roomy.apart_long c.requires.roomy.marking_long c.in_ok-o.ensures.answer c.in_ok-o.ensures.marking c.in_ok-r.ensures
-    (ap (λ (x : List ℕ). x ++ drop c.args.p.places c.args.marking.now) c.copy_from_slice.ensures.after)
+    (ap (λ (x : List ℕ). x ++ drop c.args.p.places c.args.marking.now) c.copy.ensures)

@@ -26,16 +26,16 @@ next_from-to-requires c = let a = c.first_from-from.ensures in (ordered _ _ c.re
 pub returns-then-to-from : goal.returns-then-to-from
 returns-then-to-from c =
     let x = no_inputs (found (goal.at.returns-then-to-from c).After-next_from-to) _ c.requires.entries c.if-to-from.true in
-    record { result_value = x.0; rest_after = c.copy_from_slice.ensures.after ∙ x.1 }
+    record { result_value = x.0; rest_after = c.copy.ensures ∙ x.1 }
 
 pub fewest-k-requires-clause-one_way : goal.fewest-k-requires-clause-one_way
 fewest-k-requires-clause-one_way c = one_way (found (goal.at.fewest-k-requires-clause-one_way c).After-next_from-to) c.args.marking.now c.requires.entries (some (goal.at.fewest-k-requires-clause-one_way c).Else-to-from)
 
 pub take-requires-clause-run : goal.take-requires-clause-run
 take-requires-clause-run c =
-    (one_way (found (goal.at.take-requires-clause-run c).After-next_from-to) c.copy_from_slice.new.self (ap length c.copy_from_slice.ensures.after ∙ c.requires.entries) (some (goal.at.take-requires-clause-run c).Else-to-from)).run
+    (one_way (found (goal.at.take-requires-clause-run c).After-next_from-to) c.copy.new.to (ap length c.copy.ensures ∙ c.requires.entries) (some (goal.at.take-requires-clause-run c).Else-to-from)).run
 
 pub returns : goal.returns
 returns c =
-    let told = most (found (goal.at.returns c).After-next_from-to) _ c.requires.entries c.fewest-k.ensures (takes_from_lem c.copy_from_slice.ensures.after c.take.ensures) in
+    let told = most (found (goal.at.returns c).After-next_from-to) _ c.requires.entries c.fewest-k.ensures (takes_from_lem c.copy.ensures c.take.ensures) in
     record { result_value = told.0; rest_after = told.1 }

@@ -4,9 +4,9 @@ use Rattle.inputs_starts.proofs.Calls.{entries}
 use Rattle.starting.proofs.Replayed.{listed}
 use Rattle.starting.proofs.replays.begin.Goals as goal
 
-pub copy_from_slice-requires : goal.copy_from_slice-requires
-copy_from_slice-requires c = c.requires.places ∙ sym (entries c.requires.startable)
+pub copy-requires : goal.copy-requires
+copy-requires c = c.requires.places ∙ sym (entries c.requires.startable)
 
 -- the marking is the start
 pub small-requires-clause-listed : goal.small-requires-clause-listed
-small-requires-clause-listed c = subst⁻¹ (Listed c.args.file.now c.args.h c.args.list.now) c.copy_from_slice.ensures.after (listed c.requires.startable c.requires.list)
+small-requires-clause-listed c = subst⁻¹ (Listed c.args.file.now c.args.h c.args.list.now) c.copy.ensures (listed c.requires.startable c.requires.list)
