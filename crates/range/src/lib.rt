@@ -129,7 +129,27 @@ fn judge(file: &[u8], h: Header, upper: &[u32], need: &[u64]) -> Range
     Range::Never
 }
 
-// The answer and the need where nothing is refused, by a table of N numbers. It is made a part of its caller.
+// The answer and the need where nothing is refused, by a table that is lent: a function of its own, so that the loop over the firings has registers enough.
+fn extent_in(
+    file: &[u8],
+    h: Header,
+    list: &[u16],
+    upper: &[u32],
+    table: &mut [u16],
+    need: &mut [u64],
+) -> Range
+    requires passed { Passed file.now h list.now upper.now need.old }
+    requires transitions_in_bounds { 2 * h.transitions < length table.old }
+    ensures result_value { range_numbers (Ok result) ≡ range_told (extent_of (net_from file.now h) (standing upper.now) list.now) }
+    ensures need_after { need.new ≡ tokens (net_from file.now h) (need_of (net_from file.now h) list.now) }
+{
+    arcs_starts::starts(file, h.arcstart, h.arcs, h.transitions, table);
+    need.fill(0);
+    back(file, h, table, list, need);
+    judge(file, h, upper, need)
+}
+
+// The same, by a table of N numbers. It is made a part of its caller.
 #[inline(always)]
 fn extent_by<const N: usize>(
     file: &[u8],
@@ -144,10 +164,7 @@ fn extent_by<const N: usize>(
     ensures need_after { need.new ≡ tokens (net_from file.now h) (need_of (net_from file.now h) list.now) }
 {
     let mut table = [0u16; N];
-    arcs_starts::starts(file, h.arcstart, h.arcs, h.transitions, &mut table);
-    need.fill(0);
-    back(file, h, &table, list, need);
-    judge(file, h, upper, need)
+    extent_in(file, h, list, upper, &mut table, need)
 }
 
 // The same, with a table that is as large as the net needs it.
