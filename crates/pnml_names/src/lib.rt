@@ -8,7 +8,7 @@ ghost use Rattle.pnml_page.specs.Steps.{content, most};
 ghost use Rattle.pnml_names.specs.Names.{entries_of, same_id};
 ghost use Rattle.pnml_names.specs.Tables.{Collected, Kept, head_of, wanted_at};
 
-use pnml_page::{Element, MOST, element_at};
+use pnml_page::{Element, MOST, whole_element_at};
 use pnml_text::{Run, classify, goes_on, spaces};
 
 // Which elements are asked for.
@@ -60,7 +60,7 @@ pub fn collect(text: &[u8], at: usize, which: Which, table: &mut [u16], k: usize
     let mut a = at;
     let mut n = k;
     for _ in 0..MOST {
-        let Some(found) = element_at(text, a) else {
+        let Some(found) = whole_element_at(text, a) else {
             return n;
         };
         a = spaces(text, found.next);

@@ -146,7 +146,7 @@ pub struct Found {
 }
 
 // The element that starts at a position. The position after it is past the text where it is of no kind or does not end.
-pub fn found_at(text: &[u8], at: usize) -> Found
+pub fn element_at(text: &[u8], at: usize) -> Found
     ensures { Reads text.now result (element (rest_at text.now at)) }
 {
     let n = text.len();
@@ -175,10 +175,10 @@ pub fn found_at(text: &[u8], at: usize) -> Found
 }
 
 // The element at a position, where one stands there.
-pub fn element_at(text: &[u8], at: usize) -> Option<Found>
+pub fn whole_element_at(text: &[u8], at: usize) -> Option<Found>
     ensures { MayRead text.now result (element (rest_at text.now at)) }
 {
-    let found = found_at(text, at);
+    let found = element_at(text, at);
     if text.len() < found.next {
         return None;
     }
@@ -194,7 +194,7 @@ fn elements_end(text: &[u8], at: usize) -> usize
 {
     let mut a = at;
     for _ in 0..MOST {
-        let Some(found) = element_at(text, a) else {
+        let Some(found) = whole_element_at(text, a) else {
             return a;
         };
         a = spaces(text, found.next);
