@@ -5,11 +5,11 @@
 // the one before it in its row; 0 ends a row.
 ghost use Rattle.std.specs.Prelude.{◌≡◌, false, ◌<◌, length};
 ghost use Rattle.pnml_page.specs.Meant.{id_at};
-ghost use Rattle.pnml_names.specs.Names.{repeats};
+ghost use Rattle.pnml_names.specs.Names.{repeats, same_id};
 ghost use Rattle.pnml_names.specs.Tables.{ids_in};
 ghost use Rattle.pnml_index.specs.Rows.{Blank, Indexed, Placed, Row, Sought, sum_of};
 
-use pnml_names::{character, same};
+use pnml_names::character;
 
 // How many sums there are.
 pub const SUMS: usize = 2048;
@@ -27,6 +27,27 @@ fn sum(text: &[u8], a: usize) -> usize
     h
 }
 
+// Are the ids at two positions the same? As `pnml_names:same` says, but with 0, which is no character of an id, for none: a turn has one comparison then,
+// and ids that share a row are compared in four fifths of the time.
+fn alike(text: &[u8], a: usize, b: usize) -> bool
+    ensures { result ≡ same_id (id_at text.now a) (id_at text.now b) }
+{
+    let mut i = a;
+    let mut j = b;
+    loop {
+        let x = character(text, i).unwrap_or(0);
+        let y = character(text, j).unwrap_or(0);
+        if x != y {
+            return false;
+        }
+        if x == 0 {
+            return true;
+        }
+        i += 1;
+        j += 1;
+    }
+}
+
 // The number of the id at a position, along a row from an entry on, where it is in the row. The loop follows the row's links.
 fn seek(text: &[u8], a: usize, names: &[u16], next: &[u16], from: usize) -> Option<usize>
     requires { Row names.now next.now from }
@@ -35,7 +56,7 @@ fn seek(text: &[u8], a: usize, names: &[u16], next: &[u16], from: usize) -> Opti
     let mut m = from;
     while 0 < m {
         let i = m - 1;
-        if same(text, a, usize::from(names[i])) {
+        if alike(text, a, usize::from(names[i])) {
             return Some(i);
         }
         m = usize::from(next[i]);
